@@ -1,0 +1,35 @@
+-- How far the pieces of texts reach.
+use Rattle.std.proofs.Common.{◌≡◌, ℕ, suc, ◌+◌, ◌≤◌, Bool, true, false, cond, ◌&&◌, eqb, List, [], ◌∷◌, length, Option, Some, None, refl, arith}
+use Rattle.bicep_lexer.specs.Bytes.{begins_with}
+use Rattle.bicep_lexer.specs.Escapes.{is_escape}
+use Rattle.bicep_lexer.specs.Texts.{piece_end, further, counted, is_hole, is_break}
+use Rattle.bicep_lexer.specs.declared.texts.PieceEnd.{PieceEnd}
+use Rattle.bicep_lexer.specs.declared.texts.PieceEnd.TheVariants as ends
+
+-- a fact of both sides of a test
+pub if_else : {A : Type 0} (P : A → Type 0) (b : Bool) (x y : A) → (b ≡ true → P x) → (b ≡ false → P y) → P (cond b x y)
+if_else P true x y f g = f refl
+if_else P false x y f g = g refl
+
+counted-further : (e : PieceEnd) (m : ℕ) → counted e ≤ m → counted (further 1 e) ≤ m + 1
+counted-further (ends.Quote n) m h = omega arith
+counted-further (ends.Hole n) m h = omega arith
+counted-further ends.Line m h = omega arith
+counted-further ends.File m h = omega arith
+counted-further (ends.BadEscape n) m h = omega arith
+
+pub hole_room : (b : ℕ) (bs : List ℕ) → is_hole b bs ≡ true → 1 ≤ length bs
+hole_room b [] h = elim (eqb b 36) as (λ k. (k && false) ≡ true → 1 ≤ 0) [ true ↦ λ e. cc | false ↦ λ e. cc ] h
+hole_room b (c ∷ bs) h = omega arith
+
+-- an end counts no more bytes than there are
+pub counted_within : (escaped : Bool) (bytes : List ℕ) → counted (piece_end escaped bytes) ≤ length bytes
+counted_within escaped [] = omega arith
+counted_within true (b ∷ bs) = omega (arith, counted-further (piece_end false bs) (length bs) (counted_within false bs))
+counted_within false (b ∷ bs) =
+    let P : PieceEnd → Type 0 = λ e. counted e ≤ suc (length bs) in
+    let more : (escaped : Bool) → counted (further 1 (piece_end escaped bs)) ≤ suc (length bs) = λ escaped. omega (arith, counted-further (piece_end escaped bs) (length bs) (counted_within escaped bs)) in
+    if_else P (eqb b 39) _ _ (λ y. omega arith) (λ n.
+    if_else P (is_hole b bs) _ _ (λ y. omega (arith, hole_room b bs y)) (λ n.
+    if_else P (is_break b) _ _ (λ y. omega arith) (λ n.
+    if_else P (eqb b 92) _ _ (λ y. if_else P (is_escape bs) _ _ (λ y. more true) (λ n. omega arith)) (λ n. more false))))

@@ -1,0 +1,102 @@
+// The escapes of texts in single quotes.
+
+ghost use Rattle.std.specs.Prelude.{◌≡◌, ◌<◌, IfSome};
+ghost use Rattle.bicep_lexer.specs.Escapes.{hexadecimal, scalar_of, closed_number, braced_scalar, simple_escape, is_escape};
+
+use crate::bytes::begins_with;
+
+/// The value of a hexadecimal digit.
+pub fn hexadecimal(byte: u8) -> Option<u32>
+    ensures value { result ≡ hexadecimal byte }
+    ensures bound { IfSome result (λ digit. digit < 16) }
+{
+    if byte >= b'0' && byte <= b'9' {
+        Some(u32::from(byte) - 48)
+    } else if byte >= b'A' && byte <= b'F' {
+        Some(u32::from(byte) - 55)
+    } else if byte >= b'a' && byte <= b'f' {
+        Some(u32::from(byte) - 87)
+    } else {
+        None
+    }
+}
+
+/// The number of at most six hexadecimal digits and a `}` at the front.
+pub fn closed_number(bytes: &[u8]) -> Option<u32>
+    ensures { result ≡ closed_number 6 0 bytes.now }
+{
+    let mut number: u32 = 0;
+    let mut digits: usize = 6;
+    for byte in bytes {
+        if *byte == b'}' {
+            return Some(number);
+        }
+        if digits == 0 {
+            return None;
+        }
+        match hexadecimal(*byte) {
+            None => return None,
+            Some(digit) => {
+                number = 16 * number + digit;
+                digits -= 1;
+            }
+        }
+    }
+    None
+}
+
+fn scalar_of(number: u32) -> Option<u32>
+    ensures { result ≡ scalar_of number }
+{
+    if number < 0xd800 || (number >= 0xe000 && number < 0x11_0000) { Some(number) } else { None }
+}
+
+/// The character of `{h}` at the front, with one to six hexadecimal digits.
+#[tactic(auto, unfolding(crate::specs::Escapes::braced_scalar))]
+pub fn braced_scalar(bytes: &[u8]) -> Option<u32>
+    ensures { result ≡ braced_scalar bytes.now }
+{
+    match bytes {
+        [first, rest @ ..] => {
+            if *first == b'{' && !begins_with(rest, b'}') {
+                match closed_number(rest) {
+                    Some(number) => scalar_of(number),
+                    None => None,
+                }
+            } else {
+                None
+            }
+        }
+        [] => None,
+    }
+}
+
+/// The character that one behind a `\` stands for.
+pub fn simple_escape(byte: u8) -> Option<u8>
+    ensures { result ≡ simple_escape byte }
+{
+    if byte == b'\\' || byte == b'\'' || byte == b'$' {
+        Some(byte)
+    } else if byte == b'n' {
+        Some(b'\n')
+    } else if byte == b'r' {
+        Some(b'\r')
+    } else if byte == b't' {
+        Some(b'\t')
+    } else {
+        None
+    }
+}
+
+/// Whether what stands behind a `\` makes an escape of it.
+#[tactic(auto, unfolding(crate::specs::Escapes::is_escape))]
+pub fn is_escape(bytes: &[u8]) -> bool
+    ensures { result ≡ is_escape bytes.now }
+{
+    match bytes {
+        [first, rest @ ..] => {
+            simple_escape(*first).is_some() || (*first == b'u' && braced_scalar(rest).is_some())
+        }
+        [] => false,
+    }
+}

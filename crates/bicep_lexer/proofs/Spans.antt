@@ -214,3 +214,147 @@ comment_reaches bs n h = within (comment_length bs) n h (bound bs)
     within : (o : Option ℕ) (n : ℕ) → o ≡ Some n → Within o bs → n ≤ length bs
     within None n e h = absurd (cc)
     within (Some m) n e h = let same : m ≡ n = cc in omega (arith, same, h)
+
+comment_span : (at : ℕ) (os : List Open) (l : Line) (bytes : List ℕ) → 2 ≤ length bytes → OnFront (comment_front at os l bytes) bytes
+unfolding comment_front
+comment_span at os l bytes room = go (comment_length (drop 2 bytes)) refl
+  where
+    go : (o : Option ℕ) → comment_length (drop 2 bytes) ≡ o → OnFront (commented at os l bytes o) bytes
+    go None e = tt
+    go (Some n) e = (omega arith, omega (arith, comment_reaches (drop 2 bytes) n e, length-drop 2 bytes, room))
+
+comment_room : (second : ℕ) (b : ℕ) (bs : List ℕ) → opens_comment second (b ∷ bs) ≡ true → 2 ≤ suc (length bs)
+comment_room second b [] h = absurd (elim (eqb b 47) as (λ k. (k && false) ≡ true → ⊥) [ true ↦ λ e. cc | false ↦ λ e. cc ] h)
+comment_room second b (c ∷ bs) h = omega arith
+
+comment_slash : (second b : ℕ) (bs : List ℕ) → opens_comment second (b ∷ bs) ≡ true → b ≡ 47
+comment_slash second b bs h = grind (arith, nat_tests)
+
+line_span : (b : ℕ) (bs : List ℕ) (l : Line) → (b ≡ 10 → ⊥) → (b ≡ 13 → ⊥) → OnFront (Ok (front.Skipped (line_length (b ∷ bs)) l)) (b ∷ bs)
+line_span b bs l lf cr = (line_some b bs (no_newline b bs lf cr), line_within (b ∷ bs))
+
+newline_is_span : (b : ℕ) (bs : List ℕ) → not (eqb (newline_length (b ∷ bs)) 0) ≡ true → IsSpan (newline_length (b ∷ bs)) (b ∷ bs)
+newline_is_span b [] =
+    if_else (λ n. not (eqb n 0) ≡ true → IsSpan n (b ∷ [])) (eqb b 10) _ _
+      (λ y h. one_span b [] (subst Small (sym (eqb-true b 10 y)) (omega arith)))
+      (λ n. elim (eqb b 13) as (λ k. not (eqb (cond (k && false) 2 0) 0) ≡ true → IsSpan (cond (k && false) 2 0) (b ∷ [])) [ true ↦ λ h. absurd cc | false ↦ λ h. absurd cc ])
+newline_is_span b (c ∷ bs) =
+    if_else (λ n. not (eqb n 0) ≡ true → IsSpan n (b ∷ c ∷ bs)) (eqb b 10) _ _
+      (λ y h. one_span b (c ∷ bs) (subst Small (sym (eqb-true b 10 y)) (omega arith)))
+      (λ n. if_else (λ n. not (eqb n 0) ≡ true → IsSpan n (b ∷ c ∷ bs)) (eqb b 13 && eqb c 10) _ _
+        (λ y h. let small : b < 128 = grind (arith, nat_tests) in let small' : c < 128 = grind (arith, nat_tests) in
+          record { some = omega arith; within = omega arith; first = small; last = small' })
+        (λ n h. absurd cc))
+
+newline_span : (b : ℕ) (bs : List ℕ) (l : Line) → not (eqb (newline_length (b ∷ bs)) 0) ≡ true → OnFront (newline_front l (newline_length (b ∷ bs))) (b ∷ bs)
+newline_span b bs line.Folded h = let s = newline_is_span b bs h in (s.some, s.within)
+newline_span b bs line.Front h = newline_is_span b bs h
+newline_span b bs line.Within h = newline_is_span b bs h
+
+directive_span : (at b : ℕ) (bs : List ℕ) (l : Line) → (b ≡ 10 → ⊥) → (b ≡ 13 → ⊥) → OnFront (directive_front at l (b ∷ bs)) (b ∷ bs)
+directive_span at b bs line.Within lf cr = tt
+directive_span at b bs line.Front lf cr = if_else (λ o. OnFront o (b ∷ bs)) (is_directive (b ∷ bs)) _ _ (λ y. line_span b bs line.Front lf cr) (λ n. tt)
+directive_span at b bs line.Folded lf cr = if_else (λ o. OnFront o (b ∷ bs)) (is_directive (b ∷ bs)) _ _ (λ y. line_span b bs line.Folded lf cr) (λ n. tt)
+
+-- the bytes of a mark are ASCII
+abbrev IfMark : Option TokenKind → Type 0 → Type 0
+IfMark None P = Unit {0}
+IfMark (Some k) P = P
+
+small_one : (b x : ℕ) → x < 128 → eqb b x ≡ true → b < 128
+small_one b x small h = subst Small (sym (eqb-true b x h)) small
+
+single_small : (b : ℕ) → IfMark (single_mark b) (b < 128)
+unfolding single_mark
+single_small b =
+    let P : Option TokenKind → Type 0 = λ o. IfMark o (b < 128) in
+    if_else P (eqb b 64) _ _ (λ y. small_one b 64 (omega arith) y) (λ n.
+    if_else P (eqb b 46) _ _ (λ y. small_one b 46 (omega arith) y) (λ n.
+    if_else P (eqb b 40) _ _ (λ y. small_one b 40 (omega arith) y) (λ n.
+    if_else P (eqb b 41) _ _ (λ y. small_one b 41 (omega arith) y) (λ n.
+    if_else P (eqb b 91) _ _ (λ y. small_one b 91 (omega arith) y) (λ n.
+    if_else P (eqb b 93) _ _ (λ y. small_one b 93 (omega arith) y) (λ n.
+    if_else P (eqb b 44) _ _ (λ y. small_one b 44 (omega arith) y) (λ n.
+    if_else P (eqb b 58) _ _ (λ y. small_one b 58 (omega arith) y) (λ n.
+    if_else P (eqb b 63) _ _ (λ y. small_one b 63 (omega arith) y) (λ n.
+    if_else P (eqb b 61) _ _ (λ y. small_one b 61 (omega arith) y) (λ n.
+    if_else P (eqb b 60) _ _ (λ y. small_one b 60 (omega arith) y) (λ n.
+    if_else P (eqb b 62) _ _ (λ y. small_one b 62 (omega arith) y) (λ n.
+    if_else P (eqb b 43) _ _ (λ y. small_one b 43 (omega arith) y) (λ n.
+    if_else P (eqb b 45) _ _ (λ y. small_one b 45 (omega arith) y) (λ n.
+    if_else P (eqb b 42) _ _ (λ y. small_one b 42 (omega arith) y) (λ n.
+    if_else P (eqb b 47) _ _ (λ y. small_one b 47 (omega arith) y) (λ n.
+    if_else P (eqb b 37) _ _ (λ y. small_one b 37 (omega arith) y) (λ n.
+    if_else P (eqb b 33) _ _ (λ y. small_one b 33 (omega arith) y) (λ n. tt))))))))))))))))))
+
+small_two : (a b x z : ℕ) → x < 128 → z < 128 → (eqb a x && eqb b z) ≡ true → (a < 128) × (b < 128)
+small_two a b x z small small' h =
+    elim (eqb a x) as (λ k. eqb a x ≡ k → (k && eqb b z) ≡ true → (a < 128) × (b < 128)) [
+      true ↦ λ e h. (small_one a x small e, small_one b z small' h)
+    | false ↦ λ e h. absurd cc
+    ] refl h
+
+double_small : (a b : ℕ) → IfMark (double_mark a b) ((a < 128) × (b < 128))
+unfolding double_mark
+double_small a b =
+    let P : Option TokenKind → Type 0 = λ o. IfMark o ((a < 128) × (b < 128)) in
+    let two : (x z : ℕ) → x < 128 → z < 128 → (eqb a x && eqb b z) ≡ true → (a < 128) × (b < 128) = small_two a b in
+    if_else P (eqb a 61 && eqb b 61) _ _ (λ y. two 61 61 (omega arith) (omega arith) y) (λ n.
+    if_else P (eqb a 61 && eqb b 126) _ _ (λ y. two 61 126 (omega arith) (omega arith) y) (λ n.
+    if_else P (eqb a 33 && eqb b 61) _ _ (λ y. two 33 61 (omega arith) (omega arith) y) (λ n.
+    if_else P (eqb a 33 && eqb b 126) _ _ (λ y. two 33 126 (omega arith) (omega arith) y) (λ n.
+    if_else P (eqb a 60 && eqb b 61) _ _ (λ y. two 60 61 (omega arith) (omega arith) y) (λ n.
+    if_else P (eqb a 62 && eqb b 61) _ _ (λ y. two 62 61 (omega arith) (omega arith) y) (λ n.
+    if_else P (eqb a 38 && eqb b 38) _ _ (λ y. two 38 38 (omega arith) (omega arith) y) (λ n.
+    if_else P (eqb a 124 && eqb b 124) _ _ (λ y. two 124 124 (omega arith) (omega arith) y) (λ n.
+    if_else P (eqb a 63 && eqb b 63) _ _ (λ y. two 63 63 (omega arith) (omega arith) y) (λ n.
+    if_else P (eqb a 46 && eqb b 63) _ _ (λ y. two 46 63 (omega arith) (omega arith) y) (λ n.
+    if_else P (eqb a 91 && eqb b 63) _ _ (λ y. two 91 63 (omega arith) (omega arith) y) (λ n.
+    if_else P (eqb a 58 && eqb b 58) _ _ (λ y. two 58 58 (omega arith) (omega arith) y) (λ n. tt))))))))))))
+
+single_span : (at b : ℕ) (bs : List ℕ) (o : Option TokenKind) → IfMark o (b < 128) → OnFront (single at o) (b ∷ bs)
+single_span at b bs None h = tt
+single_span at b bs (Some k) h = one_span b bs h
+
+double_span : (at a b : ℕ) (bs : List ℕ) (o : Option TokenKind) → IfMark o ((a < 128) × (b < 128)) → OnFront (double at a o) (a ∷ b ∷ bs)
+double_span at a b bs None h = single_span at a (b ∷ bs) (single_mark a) (single_small a)
+double_span at a b bs (Some k) h = record { some = omega arith; within = omega arith; first = h.0; last = h.1 }
+
+mark_span : (at : ℕ) (bytes : List ℕ) → OnFront (mark_front at bytes) bytes
+unfolding mark_front
+mark_span at [] = tt
+mark_span at (b ∷ []) = single_span at b [] (single_mark b) (single_small b)
+mark_span at (b ∷ c ∷ bs) = double_span at b c bs (double_mark b c) (double_small b c)
+
+name_span : (b : ℕ) (bs : List ℕ) → is_letter b ≡ true → IsSpan (name_length (b ∷ bs)) (b ∷ bs)
+unfolding name_length
+name_span b bs h =
+    let starts : is_name_byte b ≡ true = ap (λ k. k || is_ascii_digit b) h in
+    subst (λ n. IsSpan n (b ∷ bs)) (sym (length-prefix_len is_name_byte (b ∷ bs))) (run_span is_name_byte b bs name_small starts)
+
+number_span : (at b : ℕ) (bs : List ℕ) → is_ascii_digit b ≡ true → OnFront (number_front at (b ∷ bs)) (b ∷ bs)
+unfolding number_front
+number_span at b bs h =
+    let span : IsSpan (length (digits_of (b ∷ bs))) (b ∷ bs) = subst (λ n. IsSpan n (b ∷ bs)) (sym (length-prefix_len is_ascii_digit (b ∷ bs))) (run_span is_ascii_digit b bs digit_small h) in
+    if_else (λ o. OnFront o (b ∷ bs)) (nat_lt (number_from 0 (digits_of (b ∷ bs))) (2 ^ 63)) _ _ (λ y. span) (λ n. tt)
+
+by_span : (at b : ℕ) (os : List Open) (l : Line) (bs : List ℕ) → OnFront (front_by at os l b (b ∷ bs)) (b ∷ bs)
+unfolding close_front
+by_span at b os l bs =
+    let P : Result Front LexFault → Type 0 = λ o. OnFront o (b ∷ bs) in
+    if_else P (is_blank b) _ _ (λ y. (omega arith, omega arith)) (λ n.
+    if_else P (is_letter b) _ _ (λ y. name_span b bs y) (λ n.
+    if_else P (is_ascii_digit b) _ _ (λ y. number_span at b bs y) (λ n.
+    if_else P (eqb b 39) _ _ (λ y. text_span at b os bs (small_one b 39 (omega arith) y)) (λ n.
+    if_else P (opens_comment 47 (b ∷ bs)) _ _ (λ y. let e = comment_slash 47 b bs y in line_span b bs l (λ x. omega (arith, e, x)) (λ x. omega (arith, e, x))) (λ n.
+    if_else P (opens_comment 42 (b ∷ bs)) _ _ (λ y. comment_span at os l (b ∷ bs) (comment_room 42 b bs y)) (λ n.
+    if_else P (not (eqb (newline_length (b ∷ bs)) 0)) _ _ (λ y. newline_span b bs l y) (λ n.
+    if_else P (eqb b 35) _ _ (λ y. let e = eqb-true b 35 y in directive_span at b bs l (λ x. omega (arith, e, x)) (λ x. omega (arith, e, x))) (λ n.
+    if_else P (eqb b 123) _ _ (λ y. one_span b bs (small_one b 123 (omega arith) y)) (λ n.
+    if_else P (eqb b 125) _ _ (λ y. close_span at b os (innermost os) bs (small_one b 125 (omega arith) y)) (λ n.
+    mark_span at (b ∷ bs)))))))))))
+
+pub front_span : (at : ℕ) (os : List Open) (l : Line) (bytes : List ℕ) → OnFront (front_of at os l bytes) bytes
+unfolding front_of
+front_span at os l [] = tt
+front_span at os l (b ∷ bs) = by_span at b os l bs

@@ -1,3 +1,4 @@
 pub mod Scans
 pub mod Ends
 pub mod Spans
+pub mod Steps

@@ -25,14 +25,8 @@ use Rattle.bicep_lexer.specs.Marks.{double_mark, single_mark}
 use Rattle.bicep_lexer.specs.Skipped.{newline_length, line_length, closes_comment, comment_length, behind_comment, is_directive}
 use Rattle.bicep_lexer.specs.Texts.{piece_end, further, is_hole, is_break, quotes, verbatim_length}
 use Rattle.bicep_lexer.specs.Fronts.{unfinished, innermost, word, number_front, piece, verbatim, text_front, closed, close_front, opens_comment, commented, comment_front, newline_front, directive_front, single, double, mark_front, front_by, front_of}
-use Rattle.bicep_lexer.specs.Progress.{IsSpan}
+use Rattle.bicep_lexer.specs.Progress.{IsSpan, OnFront}
 use Rattle.bicep_lexer.proofs.Ends.{if_else, hole_room}
-
-abbrev pub OnFront : Result Front LexFault → List ℕ → Type 0
-OnFront (Err f) bytes = Unit {0}
-OnFront (Ok (front.Skipped n l)) bytes = (0 < n) × (n ≤ length bytes)
-OnFront (Ok (front.Newline n)) bytes = IsSpan n bytes
-OnFront (Ok (front.Word k n t)) bytes = IsSpan n bytes
 
 abbrev Small : ℕ → Type 0
 Small b = b < 128

@@ -20,11 +20,19 @@ use Rattle.bicep_lexer.specs.Marks.{double_mark, single_mark}
 use Rattle.bicep_lexer.specs.Skipped.{newline_length, line_length, comment_length, behind_comment, is_directive}
 use Rattle.bicep_lexer.specs.Texts.{piece_end, quotes, verbatim_length}
 
+-- the opening quote of the outermost text that is open
+abbrev pub outermost : List Open → Option ℕ
+outermost [] = None
+outermost (opened.Brace ∷ os) = outermost os
+outermost (opened.Text at ∷ os) = Some at
+
 -- the fault where the file ends: at the outermost text that is open, else as given
-abbrev pub unfinished : List Open → LexFault → LexFault
-unfinished [] f = f
-unfinished (opened.Brace ∷ os) f = unfinished os f
-unfinished (opened.Text at ∷ os) f = fault.OpenText at
+abbrev pub unfinished_by : Option ℕ → LexFault → LexFault
+unfinished_by None f = f
+unfinished_by (Some at) f = fault.OpenText at
+
+unfoldable pub unfinished : List Open → LexFault → LexFault
+unfinished os f = unfinished_by (outermost os) f
 
 -- what was opened last
 abbrev pub innermost : List Open → Option Open

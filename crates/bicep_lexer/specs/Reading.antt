@@ -14,7 +14,7 @@ use Rattle.bicep_lexer.specs.declared.front.Turn.TheVariants as turn
 use Rattle.bicep_lexer.specs.declared.front.Front.{Front}
 use Rattle.bicep_lexer.specs.declared.front.Front.TheVariants as front
 use Rattle.bicep_lexer.specs.declared.token.Token.{Token}
-use Rattle.bicep_lexer.specs.Fronts.{unfinished, front_of}
+use Rattle.bicep_lexer.specs.Fronts.{outermost, front_of}
 
 -- a token as it stands in a source: its kind, its place and its bytes
 abbrev pub Standing : Type 0
@@ -46,10 +46,12 @@ follow at os bytes (Ok (front.Newline n)) rest = before (k.Newline, at, take n b
 follow at os bytes (Ok (front.Word kind n t)) rest = before (kind, at, take n bytes) (rest (n - 1) (turned t os) line.Within)
 
 -- at the end no text may be open
+abbrev pub ended_by : Option ℕ → Outcome
+ended_by None = Ok []
+ended_by (Some at) = Err (fault.OpenText at)
+
 abbrev pub ended : List Open → Outcome
-ended [] = Ok []
-ended (opened.Brace ∷ os) = ended os
-ended (opened.Text at ∷ os) = Err (fault.OpenText at)
+ended os = ended_by (outermost os)
 
 -- the reading of what is left at `at`, behind the first so many bytes
 abbrev pub reading_from : ℕ → ℕ → List Open → Line → List ℕ → Outcome

@@ -2,7 +2,7 @@
 
 ghost use Rattle.std.specs.Prelude.{◌≡◌, ◌+◌, ◌≤◌, ◌<◌, ◌^◌, IsTrue, length};
 ghost use Rattle.bicep_lexer.specs.Texts.{counted};
-ghost use Rattle.bicep_lexer.specs.Fronts.{unfinished, innermost, number_front, piece, text_front, close_front, comment_front, opens_comment, newline_front, directive_front, mark_front, front_of};
+ghost use Rattle.bicep_lexer.specs.Fronts.{outermost, unfinished, innermost, number_front, piece, text_front, close_front, comment_front, opens_comment, newline_front, directive_front, mark_front, front_of};
 
 use crate::bytes::{begins_with, is_blank, is_letter};
 use crate::fault::LexFault;
@@ -46,15 +46,26 @@ pub enum Front {
     Word(TokenKind, usize, Turn),
 }
 
-fn unfinished(open: &[Open], fault: LexFault) -> LexFault
-    ensures { result ≡ unfinished open.now fault }
+/// The opening quote of the outermost text that is open.
+pub fn outermost(open: &[Open]) -> Option<usize>
+    ensures { result ≡ outermost open.now }
 {
     for each in open {
         if let Open::Text(quote) = each {
-            return LexFault::OpenText(*quote);
+            return Some(*quote);
         }
     }
-    fault
+    None
+}
+
+#[tactic(auto, unfolding(crate::specs::Fronts::unfinished))]
+fn unfinished(open: &[Open], fault: LexFault) -> LexFault
+    ensures { result ≡ unfinished open.now fault }
+{
+    match outermost(open) {
+        Some(quote) => LexFault::OpenText(quote),
+        None => fault,
+    }
 }
 
 fn innermost(open: &[Open]) -> Option<Open>

@@ -3,10 +3,11 @@
 ghost use Rattle.std.specs.Prelude.{◌≡◌, ◌≢◌, ℕ, ◌+◌, ◌-◌, ◌≤◌, ◌<◌, ◌^◌, [], ◌∷◌, ◌++◌, length, take, drop, map, slice_index, Ok, Err, OnOk, IfOk, IfErr};
 ghost use Rattle.bicep_lexer.specs.declared.fault.LexFault.TheVariants.{OutOfMemory};
 ghost use Rattle.bicep_lexer.specs.Reading.{standing, turned, mark_length, ended, reading};
-ghost use Rattle.bicep_lexer.specs.Progress.{whole, behind, IsSpan};
+ghost use Rattle.bicep_lexer.specs.Fronts.{front_of};
+ghost use Rattle.bicep_lexer.specs.Progress.{whole, behind, IsSpan, OnFront};
 
 use crate::fault::LexFault;
-use crate::front::{Front, Line, Open, Turn, front_of};
+use crate::front::{Front, Line, Open, Turn, front_of, outermost};
 use crate::kind::TokenKind;
 use crate::token::Token;
 use std::alloc::Global;
@@ -55,7 +56,7 @@ impl<'a> Lexer<'a> {
 
     /// Opens and closes what a token does.
     fn turn(&mut self, turn: Turn) -> Result<(), LexFault>
-        ensures open { OnOk result (self.new.open.items ≡ turned turn self.old.open.items) }
+        ensures opened { OnOk result (self.new.open.items ≡ turned turn self.old.open.items) }
         ensures rest { OnOk result ((self.new.text.now ≡ self.old.text.now) × (self.new.at ≡ self.old.at) × (self.new.line ≡ self.old.line) × (map standing self.new.found.items ≡ map standing self.old.found.items)) }
         ensures err { IfErr result (λ f. f ≡ OutOfMemory) }
     {
@@ -70,5 +71,69 @@ impl<'a> Lexer<'a> {
                 Ok(())
             }
         }
+    }
+
+    /// What stands at the front.
+    fn front(&self) -> Result<Front, LexFault>
+        requires { self.now.at ≤ length self.now.text.now }
+        ensures value { result ≡ front_of self.now.at self.now.open.items self.now.line (drop self.now.at self.now.text.now) }
+        ensures span { OnFront result (drop self.now.at self.now.text.now) }
+        ensures bound { length self.now.text.now < 2 ^ 64 }
+    {
+        let bytes = self.text.as_bytes();
+        front_of(&bytes[self.at..], self.at, &self.open, self.line)
+    }
+
+    /// Takes what stands at the front.
+    fn step(&mut self) -> Result<(), LexFault>
+        requires { self.old.at < length self.old.text.now }
+        ensures reading { OnOk result (whole self.new.text.now self.new.at self.new.open.items self.new.line (map standing self.new.found.items) ≡ whole self.old.text.now self.old.at self.old.open.items self.old.line (map standing self.old.found.items)) }
+        ensures fault { IfErr result (λ f. f ≢ OutOfMemory → whole self.old.text.now self.old.at self.old.open.items self.old.line (map standing self.old.found.items) ≡ Err f) }
+        ensures text { OnOk result (self.new.text.now ≡ self.old.text.now) }
+        ensures rises { OnOk result (self.old.at < self.new.at) }
+        ensures within { OnOk result (self.new.at ≤ length self.old.text.now) }
+    {
+        match self.front() {
+            Err(fault) => Err(fault),
+            Ok(Front::Skipped(count, line)) => {
+                self.at += count;
+                self.line = line;
+                Ok(())
+            }
+            Ok(Front::Newline(count)) => {
+                self.push(TokenKind::Newline, count)?;
+                self.line = Line::Folded;
+                Ok(())
+            }
+            Ok(Front::Word(kind, count, turn)) => {
+                self.push(kind, count)?;
+                self.turn(turn)?;
+                self.line = Line::Within;
+                Ok(())
+            }
+        }
+    }
+}
+
+/// The tokens of a source, in its order.
+///
+/// Each token's text is the slice of the source at its place; between two tokens stands only what is
+/// skipped. A fault is the first that is met from the left: at the character, escape, number, comment
+/// or text that it is about. Memory that is refused is `OutOfMemory`.
+pub fn tokens<'a>(alloc: Global, text: &'a str) -> Result<Vec<Token<'a>>, LexFault>
+    ensures tokens { IfOk result (λ found. reading text.now ≡ Ok (map standing found.items)) }
+    ensures fault { IfErr result (λ f. f ≢ OutOfMemory → reading text.now ≡ Err f) }
+{
+    let at = mark_length(text.as_bytes());
+    let mut lexer = Lexer { text, at, line: Line::Front, open: Vec::new(alloc), found: Vec::new(alloc) };
+    while lexer.at < text.len() {
+        match lexer.step() {
+            Ok(()) => {}
+            Err(fault) => return Err(fault),
+        }
+    }
+    match outermost(&lexer.open) {
+        Some(quote) => Err(LexFault::OpenText(quote)),
+        None => Ok(lexer.found),
     }
 }

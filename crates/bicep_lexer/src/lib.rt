@@ -19,5 +19,5 @@ mod words;
 
 pub use fault::LexFault;
 pub use kind::TokenKind;
-//pub use lexer::tokens;
+pub use lexer::tokens;
 pub use token::Token;

@@ -1,6 +1,5 @@
 -- How far the pieces of texts reach.
-use Rattle.std.proofs.Common.{◌≡◌, ℕ, suc, ◌+◌, ◌≤◌, Bool, true, false, cond, ◌&&◌, eqb, List, [], ◌∷◌, length, Option, Some, None, refl, arith}
-use Rattle.bicep_lexer.specs.Bytes.{begins_with}
+use Rattle.std.proofs.Common.{◌≡◌, ℕ, suc, ◌+◌, ◌≤◌, Bool, true, false, cond, ◌&&◌, eqb, List, [], ◌∷◌, length, refl, arith}
 use Rattle.bicep_lexer.specs.Escapes.{is_escape}
 use Rattle.bicep_lexer.specs.Texts.{piece_end, further, counted, is_hole, is_break}
 use Rattle.bicep_lexer.specs.declared.texts.PieceEnd.{PieceEnd}

@@ -2,3 +2,4 @@ pub mod Scans
 pub mod Ends
 pub mod Spans
 pub mod Steps
+pub mod Characters

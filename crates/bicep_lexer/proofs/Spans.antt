@@ -1,5 +1,5 @@
 -- What stands at the front has bytes, no more than are there, and a token begins and ends with ASCII.
-use Rattle.std.proofs.Common.{◌≡◌, ℕ, zero, suc, ◌+◌, ◌-◌, ◌*◌, ◌^◌, ◌<◌, ◌≤◌, Bool, true, false, cond, not, ◌&&◌, ◌||◌, eqb, nat_lt, nat_le, List, [], ◌∷◌, length, take, drop, get_or, Option, Some, None, Result, Ok, Err, option_map, refl, ap, sym, subst, ◌∙◌, arith, IsTrue, is_some}
+use Rattle.std.proofs.Common.{◌≡◌, ℕ, zero, suc, ◌+◌, ◌-◌, ◌^◌, ◌<◌, ◌≤◌, Bool, true, false, cond, not, ◌&&◌, ◌||◌, eqb, nat_lt, nat_le, List, [], ◌∷◌, length, take, drop, get_or, Option, Some, None, Result, Ok, option_map, refl, ap, sym, subst, ◌∙◌, arith}
 use Rattle.std.specs.Char.{is_ascii_digit}
 use Rattle.std.specs.List.{prefix_len}
 use Rattle.std.proofs.lemmas.Bool.{eqb-true}
@@ -14,17 +14,16 @@ use Rattle.bicep_lexer.specs.declared.front.Open.TheVariants as opened
 use Rattle.bicep_lexer.specs.declared.front.Line.{Line}
 use Rattle.bicep_lexer.specs.declared.front.Line.TheVariants as line
 use Rattle.bicep_lexer.specs.declared.front.Turn.{Turn}
-use Rattle.bicep_lexer.specs.declared.front.Turn.TheVariants as turn
 use Rattle.bicep_lexer.specs.declared.front.Front.{Front}
 use Rattle.bicep_lexer.specs.declared.front.Front.TheVariants as front
 use Rattle.bicep_lexer.specs.declared.texts.PieceEnd.{PieceEnd}
 use Rattle.bicep_lexer.specs.declared.texts.PieceEnd.TheVariants as ends
-use Rattle.bicep_lexer.specs.Bytes.{is_letter, is_name_byte, is_blank, begins_with, name_length, digits_of, number_from}
+use Rattle.bicep_lexer.specs.Bytes.{is_letter, is_name_byte, is_blank, name_length, digits_of, number_from}
 use Rattle.bicep_lexer.specs.Escapes.{is_escape}
 use Rattle.bicep_lexer.specs.Marks.{double_mark, single_mark}
-use Rattle.bicep_lexer.specs.Skipped.{newline_length, line_length, closes_comment, comment_length, behind_comment, is_directive}
+use Rattle.bicep_lexer.specs.Skipped.{newline_length, line_length, closes_comment, comment_length, is_directive}
 use Rattle.bicep_lexer.specs.Texts.{piece_end, further, is_hole, is_break, quotes, verbatim_length}
-use Rattle.bicep_lexer.specs.Fronts.{unfinished, innermost, word, number_front, piece, verbatim, text_front, closed, close_front, opens_comment, commented, comment_front, newline_front, directive_front, single, double, mark_front, front_by, front_of}
+use Rattle.bicep_lexer.specs.Fronts.{innermost, number_front, piece, verbatim, text_front, closed, close_front, opens_comment, commented, comment_front, newline_front, directive_front, single, double, mark_front, front_by, front_of}
 use Rattle.bicep_lexer.specs.Progress.{IsSpan, OnFront}
 use Rattle.bicep_lexer.proofs.Ends.{if_else, hole_room}
 

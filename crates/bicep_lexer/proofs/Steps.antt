@@ -1,18 +1,16 @@
 -- One step of a reading.
-use Rattle.std.proofs.Common.{◌≡◌, ℕ, zero, suc, ◌+◌, ◌-◌, ◌<◌, ◌≤◌, List, [], ◌∷◌, ◌++◌, length, take, drop, Result, Ok, Err, refl, ap, sym, subst, ◌∙◌, append_assoc, append-nil, arith}
+use Rattle.std.proofs.Common.{◌≡◌, ℕ, zero, suc, ◌+◌, ◌-◌, ◌<◌, ◌≤◌, List, [], ◌∷◌, ◌++◌, length, take, drop, Result, Ok, Err, refl, ap, sym, subst, ◌∙◌, append_assoc, arith}
 use Rattle.std.proofs.lemmas.List.{at_drop_all, length-drop, drop-drop}
-use Rattle.bicep_lexer.specs.declared.kind.TokenKind.{TokenKind}
 use Rattle.bicep_lexer.specs.declared.kind.TokenKind.TheVariants as k
 use Rattle.bicep_lexer.specs.declared.fault.LexFault.{LexFault}
 use Rattle.bicep_lexer.specs.declared.front.Open.{Open}
 use Rattle.bicep_lexer.specs.declared.front.Line.{Line}
 use Rattle.bicep_lexer.specs.declared.front.Line.TheVariants as line
-use Rattle.bicep_lexer.specs.declared.front.Turn.{Turn}
 use Rattle.bicep_lexer.specs.declared.front.Front.{Front}
 use Rattle.bicep_lexer.specs.declared.front.Front.TheVariants as front
 use Rattle.bicep_lexer.specs.Fronts.{front_of}
 use Rattle.bicep_lexer.specs.Reading.{Standing, Outcome, turned, before, follow, ended, reading_from, mark_length, reading}
-use Rattle.bicep_lexer.specs.Progress.{behind, whole, IsSpan, OnFront}
+use Rattle.bicep_lexer.specs.Progress.{behind, whole, OnFront}
 use Rattle.bicep_lexer.proofs.Scans.{tail_is}
 use Rattle.bicep_lexer.proofs.Spans.{front_span}
 

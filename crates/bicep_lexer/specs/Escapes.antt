@@ -1,5 +1,5 @@
 -- The escapes of texts in single quotes.
-use Rattle.std.specs.Prelude.{ℕ, zero, suc, ◌+◌, ◌*◌, ◌-◌, Bool, true, false, ◌==◌, ◌||◌, ◌&&◌, not, nat_le, nat_lt, List, [], ◌∷◌, drop, Option, Some, None, is_some, option_and_then, if◌then◌else◌}
+use Rattle.std.specs.Prelude.{ℕ, zero, suc, ◌+◌, ◌*◌, ◌-◌, Bool, false, ◌==◌, ◌||◌, ◌&&◌, not, nat_le, nat_lt, List, [], ◌∷◌, drop, Option, Some, None, is_some, option_and_then, if◌then◌else◌}
 use Rattle.bicep_lexer.specs.Bytes.{begins_with}
 
 -- the value of a hexadecimal digit

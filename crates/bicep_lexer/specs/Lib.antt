@@ -6,3 +6,4 @@ pub mod Texts
 pub mod Fronts
 pub mod Reading
 pub mod Progress
+pub mod Values

@@ -1,5 +1,5 @@
 -- How far a reading has come.
-use Rattle.std.specs.Prelude.{ℕ, ◌+◌, ◌-◌, ◌<◌, ◌≤◌, List, [], ◌∷◌, ◌++◌, length, drop, slice_index, Result, Ok, Err}
+use Rattle.std.specs.Prelude.{ℕ, ◌-◌, ◌<◌, ◌≤◌, List, ◌++◌, length, drop, slice_index, Result, Ok, Err}
 use Rattle.bicep_lexer.specs.declared.fault.LexFault.{LexFault}
 use Rattle.bicep_lexer.specs.declared.front.Front.{Front}
 use Rattle.bicep_lexer.specs.declared.front.Front.TheVariants as front

@@ -6,16 +6,16 @@ ghost use Rattle.bicep_lexer.specs.Escapes.{hexadecimal, scalar_of, closed_numbe
 use crate::bytes::begins_with;
 
 /// The value of a hexadecimal digit.
-pub fn hexadecimal(byte: u8) -> Option<u32>
-    ensures value { result ≡ hexadecimal byte }
+pub fn hexadecimal(character: u32) -> Option<u32>
+    ensures value { result ≡ hexadecimal character }
     ensures bound { IfSome result (λ digit. digit < 16) }
 {
-    if byte >= b'0' && byte <= b'9' {
-        Some(u32::from(byte) - 48)
-    } else if byte >= b'A' && byte <= b'F' {
-        Some(u32::from(byte) - 55)
-    } else if byte >= b'a' && byte <= b'f' {
-        Some(u32::from(byte) - 87)
+    if character >= 48 && character <= 57 {
+        Some(character - 48)
+    } else if character >= 65 && character <= 70 {
+        Some(character - 55)
+    } else if character >= 97 && character <= 102 {
+        Some(character - 87)
     } else {
         None
     }
@@ -34,7 +34,7 @@ pub fn closed_number(bytes: &[u8]) -> Option<u32>
         if digits == 0 {
             return None;
         }
-        match hexadecimal(*byte) {
+        match hexadecimal(u32::from(*byte)) {
             None => return None,
             Some(digit) => {
                 number = 16 * number + digit;

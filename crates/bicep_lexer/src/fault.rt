@@ -1,10 +1,9 @@
 // Why a text has no tokens.
 
-use std::alloc::{AllocError, AllocFailed};
 use thiserror::Error;
 
 /// Why a text has no tokens. A place is the offset of a byte in the source.
-#[derive(Debug, Drop, Error)]
+#[derive(Debug, Clone, Copy, PartialEq, Eq, Error)]
 pub enum LexFault {
     /// A character that begins no token, at it.
     #[error("bad character at {0}")]

@@ -13,8 +13,11 @@ mod kind;
 mod lexer;
 mod marks;
 mod skipped;
+#[cfg(test)]
+mod tests;
 mod texts;
 mod token;
+mod value;
 mod words;
 
 pub use fault::LexFault;

@@ -3,7 +3,7 @@
 use crate::kind::TokenKind;
 
 /// A token of a source.
-#[derive(Clone, Copy, Debug)]
+#[derive(Clone, Copy, PartialEq, Eq, Debug)]
 pub struct Token<'a> {
     /// What it is.
     pub kind: TokenKind,

@@ -1,6 +1,5 @@
-use Rattle.std.proofs.Common.{◌≡◌, ◌∙◌, sym, arith, ◌<◌, ◌≤◌}
-use Rattle.std.proofs.lemmas.List.{at_drop_more}
-use Rattle.bicep_lexer.specs.Escapes.{closed_number}
+use Rattle.std.proofs.Common.{◌∙◌, sym, ap, arith}
+use Rattle.bicep_lexer.specs.Escapes.{hexadecimal}
 use Rattle.bicep_lexer.proofs.Scans.{hexadecimal_step, hexadecimal_grows, hexadecimal_fits}
 use Rattle.bicep_lexer.proofs.escapes.closed_number.Goals as goal
 
@@ -18,7 +17,7 @@ pub loop-byte-preserved : goal.loop-byte-preserved
 loop-byte-preserved c =
     let inv = c.loop-byte.invariant in
     record {
-      same = sym (hexadecimal_step c.loop-byte.digits c.loop-byte.number c.in-Some.digit c.args.bytes.now c.loop-byte.byte-index c.loop-byte-test.true (omega arith) c.if-byte-eq125.false (sym c.hexadecimal.ensures.value ∙ c.in-Some.is)) ∙ inv.same;
+      same = sym (hexadecimal_step c.loop-byte.digits c.loop-byte.number c.in-Some.digit c.args.bytes.now c.loop-byte.byte-index c.loop-byte-test.true (omega arith) c.if-byte-eq125.false (sym (ap hexadecimal c.from.ensures) ∙ sym c.hexadecimal.ensures.value ∙ c.in-Some.is)) ∙ inv.same;
       within = omega arith;
       small = hexadecimal_grows c.loop-byte.digits c.loop-byte.number c.in-Some.digit (omega arith) inv.within inv.small c.in-Some.ensures.bound;
     }

@@ -1,4 +1,4 @@
-use Rattle.std.proofs.Common.{◌≡◌, drop, ◌<◌, ◌+◌, ◌*◌, ◌^◌, ◌-◌, ◌≤◌}
+use Rattle.std.proofs.Common.{◌≡◌, drop, ◌<◌, ◌^◌, ◌-◌, ◌≤◌}
 use Rattle.bicep_lexer.specs.Escapes.{closed_number}
 use Rattle.bicep_lexer.proofs.escapes.closed_number.Given as goal
 

@@ -1,6 +1,5 @@
-use Rattle.std.proofs.Common.{◌∙◌, ◌+◌, sym, ap, true, false}
-use Rattle.bicep_lexer.specs.Texts.{piece_end, is_hole}
-use Rattle.bicep_lexer.specs.Escapes.{is_escape}
+use Rattle.std.proofs.Common.{◌∙◌, ◌+◌, sym, true, false}
+use Rattle.bicep_lexer.specs.Texts.{piece_end}
 use Rattle.bicep_lexer.proofs.Scans.{escaped_step, plain_step, escape_step, tail_is, ended_step}
 use Rattle.bicep_lexer.proofs.texts.piece_end.Goals as goal
 use Rattle.bicep_lexer.proofs.texts.piece_end.Goals.{then-escaped, else-escaped+else-byte-eq39+else-is_hole+else-is_break+then-byte-eq92+else-not-is_escape, else-escaped+else-byte-eq39+else-is_hole+else-is_break+else-byte-eq92}

@@ -1,4 +1,4 @@
-use Rattle.std.proofs.Common.{◌≡◌, ◌∙◌, sym, ap, ℕ, List, nat_le, false, arith, rules, drop}
+use Rattle.std.proofs.Common.{◌≡◌, ◌∙◌, sym, ap, nat_le, false, arith}
 use Rattle.std.proofs.lemmas.Bool.Decides.{nat_tests}
 use Rattle.bicep_lexer.specs.Texts.{quotes}
 use Rattle.bicep_lexer.proofs.Scans.{verbatim_step, tail_is}

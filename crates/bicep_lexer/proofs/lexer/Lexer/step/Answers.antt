@@ -1,9 +1,7 @@
-use Rattle.std.proofs.Common.{◌≡◌, ℕ, ◌+◌, ◌<◌, ◌≤◌, ◌∷◌, [], ◌++◌, List, Ok, Err, Result, map, take, drop, length, refl, sym, ap, ◌∙◌, arith}
+use Rattle.std.proofs.Common.{Ok, Err, map, sym, ap, ◌∙◌, arith}
 use Rattle.std.proofs.lemmas.List.{length-drop}
 use Rattle.bicep_lexer.specs.declared.front.Front.TheVariants as front
-use Rattle.bicep_lexer.specs.declared.kind.TokenKind.TheVariants as k
 use Rattle.bicep_lexer.specs.Reading.{standing, turned}
-use Rattle.bicep_lexer.specs.Progress.{whole, IsSpan, OnFront}
 use Rattle.bicep_lexer.proofs.Steps.{step_is, whole_same}
 use Rattle.bicep_lexer.proofs.lexer.Lexer.step.Goals as goal
 

@@ -1,0 +1,163 @@
+// What the tokens of texts mean.
+
+ghost use Rattle.std.specs.Prelude.{◌≡◌, ℕ, ◌+◌, ◌++◌, ◌∷◌, List, [], ◌≤◌, ◌<◌, ◌^◌, length, string_bytes, unwrap_or, IfOk, OnOk};
+ghost use Rattle.std.specs.Str.{chars};
+ghost use Rattle.bicep_lexer.specs.Escapes.{hexadecimal, simple_escape};
+ghost use Rattle.bicep_lexer.specs.Skipped.{newline_length};
+ghost use Rattle.bicep_lexer.specs.Values.{with_digit, character_of, unescaped_from, unescaped, inside, below_newline, value_of};
+
+use crate::escapes::hexadecimal;
+use crate::kind::TokenKind;
+use crate::token::Token;
+use std::alloc::{AllocError, Global};
+
+/// What the characters read so far leave to the next.
+#[derive(Clone, Copy)]
+pub enum Mode {
+    /// It stands for itself, or is a `\`.
+    Plain,
+    /// It stands behind a `\`.
+    Escaped,
+    /// It is in `u{h}`, behind digits of this value.
+    Braced(u32),
+}
+
+fn put(text: &mut String, character: char) -> Result<(), AllocError>
+    ensures { OnOk result (chars (string_bytes text.new) ≡ chars (string_bytes text.old) ++ character ∷ []) }
+{
+    text.push(character)?;
+    Ok(())
+}
+
+fn with_digit(number: u32, digit: Option<u32>) -> u32
+    ensures { result ≡ with_digit number digit }
+{
+    match digit {
+        Some(digit) => number.saturating_mul(16).saturating_add(digit),
+        None => number,
+    }
+}
+
+fn put_number(text: &mut String, number: u32) -> Result<(), AllocError>
+    ensures { OnOk result (chars (string_bytes text.new) ≡ chars (string_bytes text.old) ++ character_of number) }
+{
+    match char::from_u32(number) {
+        Some(character) => put(text, character),
+        None => Ok(()),
+    }
+}
+
+fn escape_of(character: char) -> char
+    ensures { result ≡ unwrap_or (simple_escape character) character }
+{
+    match character {
+        'n' => '\n',
+        'r' => '\r',
+        't' => '\t',
+        _ => character,
+    }
+}
+
+fn turn(text: &mut String, mode: Mode, character: char) -> Result<Mode, AllocError>
+    ensures { IfOk result (λ next. (rest : List ℕ) → chars (string_bytes text.new) ++ unescaped_from next rest ≡ chars (string_bytes text.old) ++ unescaped_from mode (character ∷ rest)) }
+{
+    match mode {
+        Mode::Plain => {
+            if character == '\\' {
+                return Ok(Mode::Escaped);
+            }
+            put(text, character)?;
+            Ok(Mode::Plain)
+        }
+        Mode::Escaped => {
+            if character == 'u' {
+                return Ok(Mode::Braced(0));
+            }
+            put(text, escape_of(character))?;
+            Ok(Mode::Plain)
+        }
+        Mode::Braced(number) => {
+            if character != '}' {
+                return Ok(Mode::Braced(with_digit(number, hexadecimal(u32::from(character)))));
+            }
+            put_number(text, number)?;
+            Ok(Mode::Plain)
+        }
+    }
+}
+
+/// The characters with each escape's character in its place.
+#[tactic(auto, using(crate::proofs::Characters::characters))]
+fn unescaped(alloc: Global, characters: &[char]) -> Result<String, AllocError>
+    ensures { IfOk result (λ text. chars (string_bytes text) ≡ unescaped characters.now) }
+{
+    let mut text = String::new(alloc);
+    let mut mode = Mode::Plain;
+    for character in characters {
+        mode = turn(&mut text, mode, *character)?;
+    }
+    Ok(text)
+}
+
+/// The characters as they are.
+#[tactic(auto, using(crate::proofs::Characters::characters))]
+fn written(alloc: Global, characters: &[char]) -> Result<String, AllocError>
+    ensures { IfOk result (λ text. chars (string_bytes text) ≡ characters.now) }
+{
+    let mut text = String::new(alloc);
+    for character in characters {
+        put(&mut text, *character)?;
+    }
+    Ok(text)
+}
+
+/// Without so many characters at the front and at the back.
+fn inside(characters: &[char], front: usize, back: usize) -> &[char]
+    requires { front + back < 2 ^ 64 }
+    ensures { result.now ≡ inside front back characters.now }
+{
+    if characters.len() < front + back {
+        return &[];
+    }
+    &characters[front..characters.len() - back]
+}
+
+/// Without a newline at the front.
+fn below_newline(characters: &[char]) -> &[char]
+    ensures { result.now ≡ below_newline characters.now }
+{
+    match characters {
+        ['\n', rest @ ..] => rest,
+        ['\r', '\n', rest @ ..] => rest,
+        _ => characters,
+    }
+}
+
+fn characters_of(alloc: Global, text: &str) -> Result<Vec<char>, AllocError>
+    ensures { IfOk result (λ characters. characters.items ≡ chars text.now) }
+{
+    text.chars().collect(alloc)
+}
+
+fn value_of(alloc: Global, kind: TokenKind, characters: &[char]) -> Result<String, AllocError>
+    ensures { IfOk result (λ text. chars (string_bytes text) ≡ value_of kind characters.now) }
+{
+    match kind {
+        TokenKind::Text | TokenKind::RightPiece => unescaped(alloc, inside(characters, 1, 1)),
+        TokenKind::LeftPiece | TokenKind::MiddlePiece => unescaped(alloc, inside(characters, 1, 2)),
+        TokenKind::VerbatimText => written(alloc, below_newline(inside(characters, 3, 3))),
+        _ => written(alloc, characters),
+    }
+}
+
+impl Token<'_> {
+    /// What the token means: of a text or a piece of one its characters between its ends, with each
+    /// escape's character in its place; of a verbatim text those between its quotes, without a newline
+    /// right behind the opening; of any other token its own characters.
+    pub fn value(&self, alloc: Global) -> Result<String, AllocError>
+        ensures { IfOk result (λ text. chars (string_bytes text) ≡ value_of self.now.kind (chars self.now.text.now)) }
+    {
+        let characters = characters_of(alloc, self.text)?;
+        value_of(alloc, self.kind, &characters)
+    }
+}

@@ -7,3 +7,4 @@ pub mod Fronts
 pub mod Reading
 pub mod Progress
 pub mod Values
+pub mod Grammar

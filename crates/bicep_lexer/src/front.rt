@@ -47,10 +47,10 @@ pub enum Front {
 }
 
 /// The opening quote of the outermost text that is open.
-pub fn outermost(open: &[Open]) -> Option<usize>
-    ensures { result ≡ outermost open.now }
+pub fn outermost(opened: &[Open]) -> Option<usize>
+    ensures { result ≡ outermost opened.now }
 {
-    for each in open {
+    for each in opened {
         if let Open::Text(quote) = each {
             return Some(*quote);
         }
@@ -59,19 +59,19 @@ pub fn outermost(open: &[Open]) -> Option<usize>
 }
 
 #[tactic(auto, unfolding(crate::specs::Fronts::unfinished))]
-fn unfinished(open: &[Open], fault: LexFault) -> LexFault
-    ensures { result ≡ unfinished open.now fault }
+fn unfinished(opened: &[Open], fault: LexFault) -> LexFault
+    ensures { result ≡ unfinished opened.now fault }
 {
-    match outermost(open) {
+    match outermost(opened) {
         Some(quote) => LexFault::OpenText(quote),
         None => fault,
     }
 }
 
-fn innermost(open: &[Open]) -> Option<Open>
-    ensures { result ≡ innermost open.now }
+fn innermost(opened: &[Open]) -> Option<Open>
+    ensures { result ≡ innermost opened.now }
 {
-    open.last().copied()
+    opened.last().copied()
 }
 
 #[tactic(auto, unfolding(crate::specs::Fronts::number_front))]
@@ -86,61 +86,61 @@ fn number_front(bytes: &[u8], at: usize) -> Result<Front, LexFault>
     }
 }
 
-fn piece(quote: usize, at: usize, open: &[Open], last: (TokenKind, Turn), other: (TokenKind, Turn), end: PieceEnd) -> Result<Front, LexFault>
+fn piece(quote: usize, at: usize, opened: &[Open], last: (TokenKind, Turn), other: (TokenKind, Turn), end: PieceEnd) -> Result<Front, LexFault>
     requires { at + (counted end + 1) < 2 ^ 64 }
-    ensures { result ≡ piece quote at open.now last other end }
+    ensures { result ≡ piece quote at opened.now last other end }
 {
     match end {
         PieceEnd::Quote(length) => Ok(Front::Word(last.0, length + 1, last.1)),
         PieceEnd::Hole(length) => Ok(Front::Word(other.0, length + 1, other.1)),
         PieceEnd::Line => Err(LexFault::OpenText(quote)),
-        PieceEnd::File => Err(unfinished(open, LexFault::OpenText(quote))),
+        PieceEnd::File => Err(unfinished(opened, LexFault::OpenText(quote))),
         PieceEnd::BadEscape(length) => Err(LexFault::BadEscape(at + (length + 1))),
     }
 }
 
 #[tactic(auto, unfolding(crate::specs::Fronts::text_front))]
-fn text_front(bytes: &[u8], at: usize, open: &[Open]) -> Result<Front, LexFault>
+fn text_front(bytes: &[u8], at: usize, opened: &[Open]) -> Result<Front, LexFault>
     requires some { 1 ≤ length bytes.now }
     requires bound { at + length bytes.now < 2 ^ 64 }
-    ensures { result ≡ text_front at open.now bytes.now }
+    ensures { result ≡ text_front at opened.now bytes.now }
 {
     if quotes(3, bytes) == 3 {
         match verbatim_length(&bytes[3..]) {
             Some(length) => Ok(Front::Word(TokenKind::VerbatimText, length + 3, Turn::Stays)),
-            None => Err(unfinished(open, LexFault::OpenText(at))),
+            None => Err(unfinished(opened, LexFault::OpenText(at))),
         }
     } else {
         let end = piece_end(&bytes[1..]);
-        piece(at, at, open, (TokenKind::Text, Turn::Stays), (TokenKind::LeftPiece, Turn::Opens(Open::Text(at))), end)
+        piece(at, at, opened, (TokenKind::Text, Turn::Stays), (TokenKind::LeftPiece, Turn::Opens(Open::Text(at))), end)
     }
 }
 
 #[tactic(auto, unfolding(crate::specs::Fronts::close_front))]
-fn close_front(bytes: &[u8], at: usize, open: &[Open]) -> Result<Front, LexFault>
+fn close_front(bytes: &[u8], at: usize, opened: &[Open]) -> Result<Front, LexFault>
     requires some { 1 ≤ length bytes.now }
     requires bound { at + length bytes.now < 2 ^ 64 }
-    ensures { result ≡ close_front at open.now bytes.now }
+    ensures { result ≡ close_front at opened.now bytes.now }
 {
-    match innermost(open) {
+    match innermost(opened) {
         None => Ok(Front::Word(TokenKind::CloseBrace, 1, Turn::Stays)),
         Some(Open::Brace) => Ok(Front::Word(TokenKind::CloseBrace, 1, Turn::Closes)),
         Some(Open::Text(quote)) => {
             let end = piece_end(&bytes[1..]);
-            piece(quote, at, open, (TokenKind::RightPiece, Turn::Closes), (TokenKind::MiddlePiece, Turn::Stays), end)
+            piece(quote, at, opened, (TokenKind::RightPiece, Turn::Closes), (TokenKind::MiddlePiece, Turn::Stays), end)
         }
     }
 }
 
 #[tactic(auto, unfolding(crate::specs::Fronts::comment_front))]
-fn comment_front(bytes: &[u8], at: usize, open: &[Open], line: Line) -> Result<Front, LexFault>
+fn comment_front(bytes: &[u8], at: usize, opened: &[Open], line: Line) -> Result<Front, LexFault>
     requires { 2 ≤ length bytes.now }
-    ensures { result ≡ comment_front at open.now line bytes.now }
+    ensures { result ≡ comment_front at opened.now line bytes.now }
 {
     let rest = &bytes[2..];
     match comment_length(rest) {
         Some(length) => Ok(Front::Skipped(length + 2, behind_comment(line, &rest[..length]))),
-        None => Err(unfinished(open, LexFault::OpenComment(at))),
+        None => Err(unfinished(opened, LexFault::OpenComment(at))),
     }
 }
 
@@ -198,9 +198,9 @@ fn opens_comment(bytes: &[u8], second: u8) -> bool
 
 /// What stands at the front of what is left, at its place in the source.
 #[tactic(auto, unfolding(crate::specs::Fronts::front_of))]
-pub fn front_of(bytes: &[u8], at: usize, open: &[Open], line: Line) -> Result<Front, LexFault>
+pub fn front_of(bytes: &[u8], at: usize, opened: &[Open], line: Line) -> Result<Front, LexFault>
     requires { at + length bytes.now < 2 ^ 64 }
-    ensures { result ≡ front_of at open.now line bytes.now }
+    ensures { result ≡ front_of at opened.now line bytes.now }
 {
     let first = match bytes {
         [first, ..] => *first,
@@ -213,11 +213,11 @@ pub fn front_of(bytes: &[u8], at: usize, open: &[Open], line: Line) -> Result<Fr
     } else if first.is_ascii_digit() {
         number_front(bytes, at)
     } else if first == b'\'' {
-        text_front(bytes, at, open)
+        text_front(bytes, at, opened)
     } else if opens_comment(bytes, b'/') {
         Ok(Front::Skipped(line_length(bytes), line))
     } else if opens_comment(bytes, b'*') {
-        comment_front(bytes, at, open, line)
+        comment_front(bytes, at, opened, line)
     } else if newline_length(bytes) != 0 {
         newline_front(line, newline_length(bytes))
     } else if first == b'#' {
@@ -225,7 +225,7 @@ pub fn front_of(bytes: &[u8], at: usize, open: &[Open], line: Line) -> Result<Fr
     } else if first == b'{' {
         Ok(Front::Word(TokenKind::OpenBrace, 1, Turn::Opens(Open::Brace)))
     } else if first == b'}' {
-        close_front(bytes, at, open)
+        close_front(bytes, at, opened)
     } else {
         mark_front(bytes, at)
     }

@@ -18,7 +18,7 @@ struct Lexer<'a> {
     text: &'a str,
     at: usize,
     line: Line,
-    open: Vec<Open>,
+    opened: Vec<Open>,
     found: Vec<Token<'a>>,
 }
 
@@ -44,7 +44,7 @@ impl<'a> Lexer<'a> {
         requires { IsSpan count (drop self.old.at self.old.text.now) }
         ensures found { OnOk result (map standing self.new.found.items ≡ map standing self.old.found.items ++ (kind, self.old.at, take count (drop self.old.at self.old.text.now)) ∷ []) }
         ensures at { OnOk result (self.new.at ≡ self.old.at + count) }
-        ensures rest { OnOk result ((self.new.text.now ≡ self.old.text.now) × (self.new.open.items ≡ self.old.open.items) × (self.new.line ≡ self.old.line)) }
+        ensures rest { OnOk result ((self.new.text.now ≡ self.old.text.now) × (self.new.opened.items ≡ self.old.opened.items) × (self.new.line ≡ self.old.line)) }
         ensures err { IfErr result (λ f. f ≡ OutOfMemory) }
     {
         let text = slice_at(self.text, self.at, count);
@@ -56,18 +56,18 @@ impl<'a> Lexer<'a> {
 
     /// Opens and closes what a token does.
     fn turn(&mut self, turn: Turn) -> Result<(), LexFault>
-        ensures opened { OnOk result (self.new.open.items ≡ turned turn self.old.open.items) }
+        ensures opened { OnOk result (self.new.opened.items ≡ turned turn self.old.opened.items) }
         ensures rest { OnOk result ((self.new.text.now ≡ self.old.text.now) × (self.new.at ≡ self.old.at) × (self.new.line ≡ self.old.line) × (map standing self.new.found.items ≡ map standing self.old.found.items)) }
         ensures err { IfErr result (λ f. f ≡ OutOfMemory) }
     {
         match turn {
             Turn::Stays => Ok(()),
-            Turn::Opens(open) => {
-                self.open.push(open).map_err(|_| LexFault::OutOfMemory)?;
+            Turn::Opens(each) => {
+                self.opened.push(each).map_err(|_| LexFault::OutOfMemory)?;
                 Ok(())
             }
             Turn::Closes => {
-                let _closed = self.open.pop();
+                let _closed = self.opened.pop();
                 Ok(())
             }
         }
@@ -76,19 +76,19 @@ impl<'a> Lexer<'a> {
     /// What stands at the front.
     fn front(&self) -> Result<Front, LexFault>
         requires { self.now.at ≤ length self.now.text.now }
-        ensures value { result ≡ front_of self.now.at self.now.open.items self.now.line (drop self.now.at self.now.text.now) }
+        ensures value { result ≡ front_of self.now.at self.now.opened.items self.now.line (drop self.now.at self.now.text.now) }
         ensures span { OnFront result (drop self.now.at self.now.text.now) }
         ensures bound { length self.now.text.now < 2 ^ 64 }
     {
         let bytes = self.text.as_bytes();
-        front_of(&bytes[self.at..], self.at, &self.open, self.line)
+        front_of(&bytes[self.at..], self.at, &self.opened, self.line)
     }
 
     /// Takes what stands at the front.
     fn step(&mut self) -> Result<(), LexFault>
         requires { self.old.at < length self.old.text.now }
-        ensures reading { OnOk result (whole self.new.text.now self.new.at self.new.open.items self.new.line (map standing self.new.found.items) ≡ whole self.old.text.now self.old.at self.old.open.items self.old.line (map standing self.old.found.items)) }
-        ensures fault { IfErr result (λ f. f ≢ OutOfMemory → whole self.old.text.now self.old.at self.old.open.items self.old.line (map standing self.old.found.items) ≡ Err f) }
+        ensures reading { OnOk result (whole self.new.text.now self.new.at self.new.opened.items self.new.line (map standing self.new.found.items) ≡ whole self.old.text.now self.old.at self.old.opened.items self.old.line (map standing self.old.found.items)) }
+        ensures fault { IfErr result (λ f. f ≢ OutOfMemory → whole self.old.text.now self.old.at self.old.opened.items self.old.line (map standing self.old.found.items) ≡ Err f) }
         ensures text { OnOk result (self.new.text.now ≡ self.old.text.now) }
         ensures rises { OnOk result (self.old.at < self.new.at) }
         ensures within { OnOk result (self.new.at ≤ length self.old.text.now) }
@@ -125,14 +125,14 @@ pub fn tokens<'a>(alloc: Global, text: &'a str) -> Result<Vec<Token<'a>>, LexFau
     ensures fault { IfErr result (λ f. f ≢ OutOfMemory → reading text.now ≡ Err f) }
 {
     let at = mark_length(text.as_bytes());
-    let mut lexer = Lexer { text, at, line: Line::Front, open: Vec::new(alloc), found: Vec::new(alloc) };
+    let mut lexer = Lexer { text, at, line: Line::Front, opened: Vec::new(alloc), found: Vec::new(alloc) };
     while lexer.at < text.len() {
         match lexer.step() {
             Ok(()) => {}
             Err(fault) => return Err(fault),
         }
     }
-    match outermost(&lexer.open) {
+    match outermost(&lexer.opened) {
         Some(quote) => Err(LexFault::OpenText(quote)),
         None => Ok(lexer.found),
     }

@@ -14,6 +14,8 @@ mod lexer;
 mod marks;
 mod skipped;
 #[cfg(test)]
+mod samples;
+#[cfg(test)]
 mod tests;
 mod texts;
 mod token;

@@ -1,0 +1,135 @@
+-- Which sources spell which tokens: a source is words and what is skipped, in a row.
+use Rattle.std.specs.Prelude.{◌≡◌, ◌≢◌, ℕ, ◌+◌, ◌<◌, ◌≤◌, ◌^◌, Bool, true, false, nat_lt, nat_le, not, ◌==◌, List, [], ◌∷◌, ◌++◌, length, Option, Some, None, is_some, ◌⊎◌}
+use Rattle.std.specs.Char.{is_ascii_digit}
+use Rattle.bicep_lexer.specs.declared.kind.TokenKind.{TokenKind}
+use Rattle.bicep_lexer.specs.declared.kind.TokenKind.TheVariants as k
+use Rattle.bicep_lexer.specs.declared.front.Open.{Open}
+use Rattle.bicep_lexer.specs.declared.front.Open.TheVariants as opened
+use Rattle.bicep_lexer.specs.declared.front.Line.{Line}
+use Rattle.bicep_lexer.specs.declared.front.Line.TheVariants as line
+use Rattle.bicep_lexer.specs.declared.front.Turn.{Turn}
+use Rattle.bicep_lexer.specs.declared.front.Turn.TheVariants as turn
+use Rattle.bicep_lexer.specs.Bytes.{is_letter, is_name_byte, is_blank, begins_with, number_from}
+use Rattle.bicep_lexer.specs.Escapes.{is_escape}
+use Rattle.bicep_lexer.specs.Marks.{double_mark, single_mark}
+use Rattle.bicep_lexer.specs.Skipped.{newline_length, closes_comment, behind_comment, is_directive}
+use Rattle.bicep_lexer.specs.Texts.{is_hole, is_break, quotes}
+use Rattle.bicep_lexer.specs.Fronts.{outermost, innermost, opens_comment}
+use Rattle.bicep_lexer.specs.Reading.{Standing, turned, mark_length}
+
+-- the test gives this answer of the rest from each byte of a word on, where the word stands before `rest`
+abbrev pub Throughout : (List ℕ → Bool) → Bool → List ℕ → List ℕ → Type 0
+Throughout test answer [] rest = Unit {0}
+Throughout test answer (b ∷ word) rest = (test (b ∷ (word ++ rest)) ≡ answer) × Throughout test answer word rest
+
+-- whether the first byte passes
+abbrev pub begins : (ℕ → Bool) → List ℕ → Bool
+begins test [] = false
+begins test (b ∷ bs) = test b
+
+-- the longest word of such bytes
+abbrev pub IsRun : (ℕ → Bool) → List ℕ → List ℕ → Type 0
+IsRun test word rest = Throughout (begins test) true word rest × (begins test rest ≡ false)
+
+-- whether a line's end stands at the front
+abbrev pub ends_line : List ℕ → Bool
+ends_line bytes = not (newline_length bytes == 0)
+
+-- all that the line still has
+abbrev pub IsLine : List ℕ → List ℕ → Type 0
+IsLine word rest = Throughout ends_line false word rest × ((rest ≡ []) ⊎ (ends_line rest ≡ true))
+
+-- what stands between the ends of a piece in single quotes: no quote, no `${` and no line's end but behind
+-- a `\`, and each `\` begins an escape
+abbrev pub IsInside : Bool → List ℕ → List ℕ → Type 0
+IsInside escaped [] rest = escaped ≡ false
+IsInside true (b ∷ word) rest = IsInside false word rest
+IsInside false (b ∷ word) rest =
+    (b ≢ 39) × (is_hole b (word ++ rest) ≡ false) × (is_break b ≡ false) × (b ≡ 92 → is_escape (word ++ rest) ≡ true)
+    × IsInside (b == 92) word rest
+
+-- whether at least three quotes stand at the front
+abbrev pub three_quotes : List ℕ → Bool
+three_quotes bytes = nat_le 3 (quotes 5 bytes)
+
+-- LF or CR LF
+abbrev pub IsLineEnd : List ℕ → Type 0
+IsLineEnd word = (word ≡ 10 ∷ []) ⊎ (word ≡ 13 ∷ 10 ∷ [])
+
+-- whether the byte makes a mark of two with the first of the rest
+abbrev pub makes_double : ℕ → List ℕ → Bool
+makes_double b [] = false
+makes_double b (c ∷ rest) = is_some (double_mark b c)
+
+-- A word of a kind at a place, before the rest, and what it opens or closes.
+pub data IsWord (os : List Open) (l : Line) (at : ℕ) (kind : TokenKind) (word rest : List ℕ) (t : Turn) : Type 0 where
+  -- a letter, and then as many bytes of a name as there are
+  name : kind ≡ k.Name → t ≡ turn.Stays → (first : ℕ) (others : List ℕ) → word ≡ first ∷ others → is_letter first ≡ true → IsRun is_name_byte word rest → IsWord os l at kind word rest t
+  -- as many digits as there are
+  number : kind ≡ k.Number → t ≡ turn.Stays → (first : ℕ) (others : List ℕ) → word ≡ first ∷ others → IsRun is_ascii_digit word rest → number_from 0 word < 2 ^ 63 → IsWord os l at kind word rest t
+  -- the first line's end behind a token
+  newline : kind ≡ k.Newline → t ≡ turn.Stays → l ≢ line.Folded → IsLineEnd word → IsWord os l at kind word rest t
+  -- a text without interpolation, or its first, a middle or its last piece
+  text : kind ≡ k.Text → t ≡ turn.Stays → (inside : List ℕ) → word ≡ 39 ∷ (inside ++ 39 ∷ []) → IsInside false inside (39 ∷ rest) → quotes 3 (word ++ rest) == 3 ≡ false → IsWord os l at kind word rest t
+  left : kind ≡ k.LeftPiece → t ≡ turn.Opens (opened.Text at) → (inside : List ℕ) → word ≡ 39 ∷ (inside ++ 36 ∷ 123 ∷ []) → IsInside false inside (36 ∷ 123 ∷ rest) → quotes 3 (word ++ rest) == 3 ≡ false → IsWord os l at kind word rest t
+  middle : kind ≡ k.MiddlePiece → t ≡ turn.Stays → (quote : ℕ) → innermost os ≡ Some (opened.Text quote) → (inside : List ℕ) → word ≡ 125 ∷ (inside ++ 36 ∷ 123 ∷ []) → IsInside false inside (36 ∷ 123 ∷ rest) → IsWord os l at kind word rest t
+  right : kind ≡ k.RightPiece → t ≡ turn.Closes → (quote : ℕ) → innermost os ≡ Some (opened.Text quote) → (inside : List ℕ) → word ≡ 125 ∷ (inside ++ 39 ∷ []) → IsInside false inside (39 ∷ rest) → IsWord os l at kind word rest t
+  -- three quotes, no three quotes, and then three to five of them, as many as there are
+  verbatim : kind ≡ k.VerbatimText → t ≡ turn.Stays → (inside closing : List ℕ) → word ≡ 39 ∷ 39 ∷ 39 ∷ (inside ++ closing) → Throughout three_quotes false inside (closing ++ rest) → length closing ≡ quotes 5 (closing ++ rest) → 3 ≤ length closing → IsWord os l at kind word rest t
+  -- a brace; a `}` where a text was opened last is none
+  open_brace : kind ≡ k.OpenBrace → t ≡ turn.Opens opened.Brace → word ≡ 123 ∷ [] → IsWord os l at kind word rest t
+  close_brace : kind ≡ k.CloseBrace → t ≡ turn.Closes → innermost os ≡ Some opened.Brace → word ≡ 125 ∷ [] → IsWord os l at kind word rest t
+  lone_brace : kind ≡ k.CloseBrace → t ≡ turn.Stays → innermost os ≡ None → word ≡ 125 ∷ [] → IsWord os l at kind word rest t
+  -- a mark of two bytes, or of one that makes none with the next and begins no comment
+  double : t ≡ turn.Stays → (first second : ℕ) → word ≡ first ∷ second ∷ [] → double_mark first second ≡ Some kind → IsWord os l at kind word rest t
+  single : t ≡ turn.Stays → (first : ℕ) → word ≡ first ∷ [] → single_mark first ≡ Some kind → makes_double first rest ≡ false → opens_comment 47 (first ∷ rest) ≡ false → opens_comment 42 (first ∷ rest) ≡ false → IsWord os l at kind word rest t
+
+-- What is skipped before the rest, and what then stands on the line.
+pub data IsSkipped (l : Line) (word rest : List ℕ) (next : Line) : Type 0 where
+  -- a space or a tab
+  blank : next ≡ l → (b : ℕ) → is_blank b ≡ true → word ≡ b ∷ [] → IsSkipped l word rest next
+  -- `//` and the rest of the line
+  line_comment : next ≡ l → (others : List ℕ) → word ≡ 47 ∷ 47 ∷ others → IsLine word rest → IsSkipped l word rest next
+  -- `/*` up to the first `*/`
+  comment : (inside : List ℕ) → next ≡ behind_comment l (inside ++ 42 ∷ 47 ∷ []) → word ≡ 47 ∷ 42 ∷ (inside ++ 42 ∷ 47 ∷ []) → Throughout closes_comment false inside (42 ∷ 47 ∷ rest) → IsSkipped l word rest next
+  -- a line whose first mark is `#disable-next-line`
+  directive : next ≡ l → l ≢ line.Within → (others : List ℕ) → word ≡ 35 ∷ others → is_directive (word ++ rest) ≡ true → IsLine word rest → IsSkipped l word rest next
+  -- a line's end behind another
+  folded : next ≡ line.Folded → l ≡ line.Folded → IsLineEnd word → IsSkipped l word rest next
+
+-- a part of a source
+pub data Part : Type 0 where
+  skip : List ℕ → Line → Part
+  token : TokenKind → List ℕ → Turn → Part
+
+-- the bytes of parts in a row
+abbrev pub bytes_of : List Part → List ℕ
+bytes_of [] = []
+bytes_of (skip word l ∷ ps) = word ++ bytes_of ps
+bytes_of (token kind word t ∷ ps) = word ++ bytes_of ps
+
+-- the tokens of parts in a row, the first at `at`
+abbrev pub tokens_of : ℕ → List Part → List Standing
+tokens_of at [] = []
+tokens_of at (skip word l ∷ ps) = tokens_of (at + length word) ps
+tokens_of at (token kind word t ∷ ps) = (kind, at, word) ∷ tokens_of (at + length word) ps
+
+-- what stands on the line behind a token
+abbrev pub behind_token : TokenKind → Line
+behind_token k.Newline = line.Folded
+behind_token kind = line.Within
+
+-- the parts stand in a row, each what it may be in its place, and no text is open at the end
+abbrev pub InARow : List Open → Line → ℕ → List Part → Type 0
+InARow os l at [] = outermost os ≡ None
+InARow os l at (skip word next ∷ ps) = IsSkipped l word (bytes_of ps) next × InARow os next (at + length word) ps
+InARow os l at (token kind word t ∷ ps) = IsWord os l at kind word (bytes_of ps) t × InARow (turned t os) (behind_token kind) (at + length word) ps
+
+-- the source, below a byte order mark, is parts in a row with these tokens
+abbrev pub Spells : List ℕ → List Standing → Type 0
+Spells source tokens =
+    (mark : List ℕ) × (ps : List Part)
+    × (source ≡ mark ++ bytes_of ps)
+    × (length mark ≡ mark_length source)
+    × InARow [] line.Front (length mark) ps
+    × (tokens ≡ tokens_of (length mark) ps)

@@ -3,3 +3,4 @@ pub mod Ends
 pub mod Spans
 pub mod Steps
 pub mod Characters
+pub mod Complete

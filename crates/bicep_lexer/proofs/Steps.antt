@@ -14,7 +14,7 @@ use Rattle.bicep_lexer.specs.Progress.{behind, whole, OnFront}
 use Rattle.bicep_lexer.proofs.Scans.{tail_is}
 use Rattle.bicep_lexer.proofs.Spans.{front_span}
 
-reading-skip : (n at : ℕ) (os : List Open) (l : Line) (bs : List ℕ) → n ≤ length bs → reading_from n at os l bs ≡ reading_from 0 (at + n) os l (drop n bs)
+pub reading-skip : (n at : ℕ) (os : List Open) (l : Line) (bs : List ℕ) → n ≤ length bs → reading_from n at os l bs ≡ reading_from 0 (at + n) os l (drop n bs)
 reading-skip zero at os l bs h = let e : at ≡ at + 0 = omega arith in ap (λ i. reading_from 0 i os l bs) e
 reading-skip (suc n) at os l [] h = absurd (omega arith)
 reading-skip (suc n) at os l (b ∷ bs) h =
@@ -29,7 +29,7 @@ left_behind (suc n) at os l b bs some within =
     ap (λ i. reading_from i (at + 1) os l bs) less ∙ reading-skip (suc n) at os l (b ∷ bs) within
 
 -- the reading of what is left, by what stands at its front
-abbrev by_front : ℕ → List Open → List ℕ → Result Front LexFault → Outcome
+abbrev pub by_front : ℕ → List Open → List ℕ → Result Front LexFault → Outcome
 by_front at os left (Err f) = Err f
 by_front at os left (Ok (front.Skipped n l)) = reading_from 0 (at + n) os l (drop n left)
 by_front at os left (Ok (front.Newline n)) = before (k.Newline, at, take n left) (reading_from 0 (at + n) os line.Folded (drop n left))
@@ -41,7 +41,7 @@ follow_front at os b bs (Ok (front.Skipped n l)) h = left_behind n at os l b bs 
 follow_front at os b bs (Ok (front.Newline n)) h = ap (before (k.Newline, at, take n (b ∷ bs))) (left_behind n at os line.Folded b bs h.some h.within)
 follow_front at os b bs (Ok (front.Word kind n t)) h = ap (before (kind, at, take n (b ∷ bs))) (left_behind n at (turned t os) line.Within b bs h.some h.within)
 
-read_front : (at : ℕ) (os : List Open) (l : Line) (left : List ℕ) → 0 < length left → reading_from 0 at os l left ≡ by_front at os left (front_of at os l left)
+pub read_front : (at : ℕ) (os : List Open) (l : Line) (left : List ℕ) → 0 < length left → reading_from 0 at os l left ≡ by_front at os left (front_of at os l left)
 read_front at os l [] h = absurd (omega arith)
 read_front at os l (b ∷ bs) h = follow_front at os b bs (front_of at os l (b ∷ bs)) (front_span at os l (b ∷ bs))
 

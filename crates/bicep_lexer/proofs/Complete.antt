@@ -229,14 +229,14 @@ newline_first line.Front n h = refl
 newline_first line.Within n h = refl
 
 -- a byte that begins no other word, and nothing that is skipped
-abbrev NoOther : ℕ → Type 0
+abbrev pub NoOther : ℕ → Type 0
 NoOther b = (is_blank b ≡ false) × (is_letter b ≡ false) × (is_ascii_digit b ≡ false) × (eqb b 39 ≡ false) × (eqb b 10 ≡ false) × (eqb b 13 ≡ false) × (eqb b 35 ≡ false) × (eqb b 123 ≡ false) × (eqb b 125 ≡ false)
 
-abbrev SingleFacts : Option TokenKind → ℕ → Type 0
+abbrev pub SingleFacts : Option TokenKind → ℕ → Type 0
 SingleFacts None b = Unit {0}
 SingleFacts (Some kind) b = NoOther b × (behind_token kind ≡ line.Within)
 
-abbrev DoubleFacts : Option TokenKind → ℕ → Type 0
+abbrev pub DoubleFacts : Option TokenKind → ℕ → Type 0
 DoubleFacts None a = Unit {0}
 DoubleFacts (Some kind) a = NoOther a × (eqb a 47 ≡ false) × (behind_token kind ≡ line.Within)
 
@@ -252,7 +252,7 @@ double_as a b x z y h slash =
     both true q h = refl
     both false q h = absurd cc
 
-single_facts : (b : ℕ) → SingleFacts (single_mark b) b
+pub single_facts : (b : ℕ) → SingleFacts (single_mark b) b
 unfolding single_mark
 single_facts b =
     let P : Option TokenKind → Type 0 = λ o. SingleFacts o b in
@@ -275,7 +275,7 @@ single_facts b =
     if_else P (eqb b 37) _ _ (λ y. (other_as b 37 y (refl, refl, refl, refl, refl, refl, refl, refl, refl), refl)) (λ n.
     if_else P (eqb b 33) _ _ (λ y. (other_as b 33 y (refl, refl, refl, refl, refl, refl, refl, refl, refl), refl)) (λ n. tt))))))))))))))))))
 
-double_facts : (a b : ℕ) → DoubleFacts (double_mark a b) a
+pub double_facts : (a b : ℕ) → DoubleFacts (double_mark a b) a
 unfolding double_mark
 double_facts a b =
     let P : Option TokenKind → Type 0 = λ o. DoubleFacts o a in
@@ -386,7 +386,7 @@ word_front os l at kind w rest t (single_word ts b ws is alone slashes star) =
     word_as kind kind (length w) 1 t turn.Stays (front_of at os l (w ++ rest)) refl (ap length ws) ts facts.1
       (ap (λ x. front_of at os l (x ++ rest)) ws ∙ single_front at os l b rest kind is alone slashes star)
 
-take_seam : (w rest : List ℕ) → take (length w) (w ++ rest) ≡ w
+pub take_seam : (w rest : List ℕ) → take (length w) (w ++ rest) ≡ w
 take_seam [] [] = refl
 take_seam [] (c ∷ rest) = refl
 take_seam (b ∷ w) rest = ap (λ xs. b ∷ xs) (take_seam w rest)

@@ -4,3 +4,4 @@ pub mod Spans
 pub mod Steps
 pub mod Characters
 pub mod Complete
+pub mod Sound

@@ -60,7 +60,7 @@ push_span b bs n small some within last =
     }
 
 -- so many bytes, the last of them ASCII
-abbrev Reaches : ℕ → List ℕ → Type 0
+abbrev pub Reaches : ℕ → List ℕ → Type 0
 Reaches n bs = (0 < n) × (n ≤ length bs) × (get_or bs (n - 1) 0 < 128)
 
 one_further : (b n : ℕ) (bs : List ℕ) → Reaches n bs → Reaches (1 + n) (b ∷ bs)
@@ -104,7 +104,7 @@ piece_span quote at b os last other ends.Line bs small h = tt
 piece_span quote at b os last other ends.File bs small h = tt
 piece_span quote at b os last other (ends.BadEscape n) bs small h = tt
 
-quotes_is : (most : ℕ) (bs : List ℕ) → quotes most bs ≡ prefix_len (λ b. eqb b 39) (take most bs)
+pub quotes_is : (most : ℕ) (bs : List ℕ) → quotes most bs ≡ prefix_len (λ b. eqb b 39) (take most bs)
 unfolding quotes
 quotes_is most bs = length-prefix_len (λ b. eqb b 39) (take most bs)
 
@@ -114,7 +114,7 @@ get_or-take (suc k) i [] h = refl
 get_or-take (suc k) zero (x ∷ xs) h = refl
 get_or-take (suc k) (suc i) (x ∷ xs) h = get_or-take k i xs (omega arith)
 
-quotes_reach : (most : ℕ) (bs : List ℕ) → 0 < quotes most bs → Reaches (quotes most bs) bs
+pub quotes_reach : (most : ℕ) (bs : List ℕ) → 0 < quotes most bs → Reaches (quotes most bs) bs
 quotes_reach most bs some =
     let p : ℕ → Bool = λ b. eqb b 39 in
     let is = quotes_is most bs in

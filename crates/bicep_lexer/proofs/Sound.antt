@@ -176,3 +176,302 @@ later_good os l at quote bs (ends.Hole n) top h =
 later_good os l at quote bs ends.Line top h = tt
 later_good os l at quote bs ends.File top h = tt
 later_good os l at quote bs (ends.BadEscape n) top h = tt
+
+-- how a verbatim text ends
+abbrev VerbatimOf : List ℕ → Option ℕ → Type 0
+VerbatimOf bs None = Unit {0}
+VerbatimOf bs (Some n) = (w : List ℕ) × (tail : List ℕ) × (bs ≡ w ++ tail) × Throughout three_quotes false w tail × (nat_le 3 (quotes 5 tail) ≡ true) × (n ≡ length w + quotes 5 tail)
+
+verbatim_more : (b : ℕ) (bs : List ℕ) (o : Option ℕ) → three_quotes (b ∷ bs) ≡ false → VerbatimOf bs o → VerbatimOf (b ∷ bs) (option_map suc o)
+verbatim_more b bs None few h = tt
+verbatim_more b bs (Some n) few h =
+    let count : suc n ≡ suc (length h.0) + quotes 5 h.1 = omega (arith, h.5) in
+    (b ∷ h.0, h.1, ap (λ xs. b ∷ xs) h.2, (subst (λ xs. three_quotes (b ∷ xs) ≡ false) h.2 few, h.3), h.4, count)
+
+verbatim_good : (bs : List ℕ) → VerbatimOf bs (verbatim_length bs)
+verbatim_good [] = tt
+verbatim_good (b ∷ bs) =
+    let zero_more : quotes 5 (b ∷ bs) ≡ 0 + quotes 5 (b ∷ bs) = omega arith in
+    if_else (VerbatimOf (b ∷ bs)) (nat_le 3 (quotes 5 (b ∷ bs))) _ _
+      (λ y. ([], b ∷ bs, refl, tt, y, zero_more))
+      (λ n. verbatim_more b bs (verbatim_length bs) n (verbatim_good bs))
+
+-- three quotes at the front
+three_are : (bytes : List ℕ) → quotes 3 bytes ≡ 3 → (bs : List ℕ) × (bytes ≡ 39 ∷ 39 ∷ 39 ∷ bs)
+three_are bytes h = go bytes (sym (quotes_is 3 bytes) ∙ h)
+  where
+    go : (bytes : List ℕ) → prefix_len (λ b. eqb b 39) (take 3 bytes) ≡ 3 → (bs : List ℕ) × (bytes ≡ 39 ∷ 39 ∷ 39 ∷ bs)
+    go [] e = absurd cc
+    go (b ∷ []) e = absurd (elim (eqb b 39) as (λ t. cond t (1 + 0) 0 ≡ 3 → ⊥) [ true ↦ λ e. cc | false ↦ λ e. cc ] e)
+    go (b ∷ c ∷ []) e = absurd (elim (eqb b 39) as (λ t. cond t (1 + cond (eqb c 39) (1 + 0) 0) 0 ≡ 3 → ⊥) [ true ↦ (elim (eqb c 39) as (λ t. 1 + cond t (1 + 0) 0 ≡ 3 → ⊥) [ true ↦ λ e. cc | false ↦ λ e. cc ]) | false ↦ λ e. cc ] e)
+    go (b ∷ c ∷ d ∷ bs) e =
+        let first : b ≡ 39 = grind (arith, nat_tests) in
+        let second : c ≡ 39 = grind (arith, nat_tests) in
+        let third : d ≡ 39 = grind (arith, nat_tests) in
+        (bs, ap (λ x. x ∷ c ∷ d ∷ bs) first ∙ ap (λ x. 39 ∷ x ∷ d ∷ bs) second ∙ ap (λ x. 39 ∷ 39 ∷ x ∷ bs) third)
+
+verbatim_is_good : (os : List Open) (l : Line) (at : ℕ) (bs : List ℕ) (o : Option ℕ) → VerbatimOf bs o → OnGood os l at (verbatim at os o) (39 ∷ 39 ∷ 39 ∷ bs)
+verbatim_is_good os l at bs None h = tt
+verbatim_is_good os l at bs (Some n) h =
+    let w = h.0 in
+    let tail = h.1 in
+    let q = quotes 5 tail in
+    let some : 0 < q = grind (arith, nat_tests, h.4) in
+    let within : q ≤ length tail = (quotes_reach 5 tail some).1 in
+    let closing = take q tail in
+    let count : length closing ≡ q = length-take-le q tail within in
+    let seam : closing ++ drop q tail ≡ tail = take-append-drop q tail in
+    let whole : 39 ∷ 39 ∷ 39 ∷ bs ≡ (39 ∷ 39 ∷ 39 ∷ (w ++ closing)) ++ drop q tail = ap (λ xs. 39 ∷ 39 ∷ 39 ∷ xs) (h.2 ∙ ap (λ xs. w ++ xs) (sym seam) ∙ sym (append_assoc w closing (drop q tail))) in
+    let all : n + 3 ≡ suc (suc (suc (length (w ++ closing)))) = omega (arith, h.5, count, length-append w closing) in
+    let same : length closing ≡ quotes 5 (closing ++ drop q tail) = count ∙ ap (quotes 5) (sym seam) in
+    let three : 3 ≤ length closing = grind (arith, nat_tests, h.4, count) in
+    (split_word os l at k.VerbatimText turn.Stays (39 ∷ 39 ∷ 39 ∷ (w ++ closing)) (drop q tail) (39 ∷ 39 ∷ 39 ∷ bs) (n + 3) whole all
+      (verbatim_word refl refl w closing refl (subst (Throughout three_quotes false w) (sym seam) h.3) same three), refl)
+
+text_front_good : (os : List Open) (l : Line) (at b : ℕ) (bs : List ℕ) → eqb b 39 ≡ true → OnGood os l at (text_front at os (b ∷ bs)) (b ∷ bs)
+unfolding text_front
+text_front_good os l at b bs h =
+    if_else (λ o. OnGood os l at o (b ∷ bs)) (eqb (quotes 3 (b ∷ bs)) 3) _ _
+      (λ y.
+        let three = three_are (b ∷ bs) (eqb-true (quotes 3 (b ∷ bs)) 3 y) in
+        subst (λ xs. OnGood os l at (verbatim at os (verbatim_length (drop 3 xs))) xs) (sym three.1)
+          (verbatim_is_good os l at three.0 (verbatim_length three.0) (verbatim_good three.0)))
+      (λ short.
+        let is = eqb-true b 39 h in
+        subst (λ x. OnGood os l at (piece at at os (k.Text, turn.Stays) (k.LeftPiece, turn.Opens (opened.Text at)) (piece_end false bs)) (x ∷ bs)) (sym is)
+          (text_good os l at bs (piece_end false bs) (subst (λ x. quotes 3 (x ∷ bs) == 3 ≡ false) is short) (inside_good false bs)))
+
+close_good : (os : List Open) (l : Line) (at : ℕ) (bs : List ℕ) (o : Option Open) → innermost os ≡ o → OnGood os l at (closed at os o (125 ∷ bs)) (125 ∷ bs)
+close_good os l at bs None top = (lone_brace refl refl top refl, refl)
+close_good os l at bs (Some opened.Brace) top = (close_brace refl refl top refl, refl)
+close_good os l at bs (Some (opened.Text quote)) top = later_good os l at quote bs (piece_end false bs) top (inside_good false bs)
+
+-- the rest of a line
+line_good : (bytes : List ℕ) → IsLine (take (line_length bytes) bytes) (drop (line_length bytes) bytes)
+line_good [] = (tt, inl refl)
+line_good (b ∷ bs) =
+    let r = line_good bs in
+    if_else (λ n. IsLine (take n (b ∷ bs)) (drop n (b ∷ bs))) (eqb (newline_length (b ∷ bs)) 0) _ _
+      (λ y.
+        let seam : take (line_length bs) bs ++ drop (line_length bs) bs ≡ bs = take-append-drop (line_length bs) bs in
+        ((subst (λ xs. ends_line (b ∷ xs) ≡ false) (sym seam) (ap not y), r.0), r.1))
+      (λ n. (tt, inr (ap not n)))
+
+slash_line : (bs : List ℕ) → line_length (47 ∷ bs) ≡ suc (line_length bs)
+slash_line bs = refl
+
+hash_line : (bs : List ℕ) → line_length (35 ∷ bs) ≡ suc (line_length bs)
+hash_line bs = refl
+
+slashes_are : (second b : ℕ) (bs : List ℕ) → opens_comment second (b ∷ bs) ≡ true → (others : List ℕ) × (b ∷ bs ≡ 47 ∷ second ∷ others)
+slashes_are second b [] h = absurd (elim (eqb b 47) as (λ k. (k && false) ≡ true → ⊥) [ true ↦ λ e. cc | false ↦ λ e. cc ] h)
+slashes_are second b (c ∷ bs) h =
+    let first : b ≡ 47 = grind (arith, nat_tests) in
+    let next : c ≡ second = grind (arith, nat_tests) in
+    (bs, ap (λ x. x ∷ c ∷ bs) first ∙ ap (λ x. 47 ∷ x ∷ bs) next)
+
+line_comment_good : (os : List Open) (l : Line) (at : ℕ) (others : List ℕ) → OnGood os l at (Ok (front.Skipped (line_length (47 ∷ 47 ∷ others)) l)) (47 ∷ 47 ∷ others)
+line_comment_good os l at others = line_comment refl (take (line_length others) others) refl (line_good (47 ∷ 47 ∷ others))
+
+abbrev CommentOf : List ℕ → Option ℕ → Type 0
+CommentOf bs None = Unit {0}
+CommentOf bs (Some n) = (w : List ℕ) × (rest : List ℕ) × (bs ≡ w ++ 42 ∷ 47 ∷ rest) × Throughout closes_comment false w (42 ∷ 47 ∷ rest) × (n ≡ length w + 2)
+
+comment_more : (b : ℕ) (bs : List ℕ) (o : Option ℕ) → closes_comment (b ∷ bs) ≡ false → CommentOf bs o → CommentOf (b ∷ bs) (option_map suc o)
+comment_more b bs None stays h = tt
+comment_more b bs (Some n) stays h =
+    let count : suc n ≡ suc (length h.0) + 2 = omega (arith, h.4) in
+    (b ∷ h.0, h.1, ap (λ xs. b ∷ xs) h.2, (subst (λ xs. closes_comment (b ∷ xs) ≡ false) h.2 stays, h.3), count)
+
+closing_are : (b : ℕ) (bs : List ℕ) → closes_comment (b ∷ bs) ≡ true → CommentOf (b ∷ bs) (Some 2)
+closing_are b [] h = absurd (elim (eqb b 42) as (λ k. (k && false) ≡ true → ⊥) [ true ↦ λ e. cc | false ↦ λ e. cc ] h)
+closing_are b (c ∷ bs) h =
+    let first : b ≡ 42 = grind (arith, nat_tests) in
+    let next : c ≡ 47 = grind (arith, nat_tests) in
+    ([], bs, ap (λ x. x ∷ c ∷ bs) first ∙ ap (λ x. 42 ∷ x ∷ bs) next, tt, refl)
+
+comment_good : (bs : List ℕ) → CommentOf bs (comment_length bs)
+comment_good [] = tt
+comment_good (b ∷ bs) =
+    if_else (CommentOf (b ∷ bs)) (closes_comment (b ∷ bs)) _ _ (λ y. closing_are b bs y) (λ n. comment_more b bs (comment_length bs) n (comment_good bs))
+
+comment_is_good : (os : List Open) (l : Line) (at : ℕ) (bs : List ℕ) (o : Option ℕ) → CommentOf bs o → OnGood os l at (commented at os l (47 ∷ 42 ∷ bs) o) (47 ∷ 42 ∷ bs)
+comment_is_good os l at bs None h = tt
+comment_is_good os l at bs (Some n) h =
+    let w = h.0 in
+    let rest = h.1 in
+    let whole : bs ≡ (w ++ 42 ∷ 47 ∷ []) ++ rest = h.2 ∙ sym (append_assoc w (42 ∷ 47 ∷ []) rest) in
+    let count : n ≡ length (w ++ 42 ∷ 47 ∷ []) = omega (arith, h.4, length-append w (42 ∷ 47 ∷ [])) in
+    let all : n + 2 ≡ suc (suc (length (w ++ 42 ∷ 47 ∷ []))) = omega (arith, count) in
+    let word_is : w ++ 42 ∷ 47 ∷ [] ≡ take n bs = sym (ap (λ i. take i bs) count ∙ ap (take (length (w ++ 42 ∷ 47 ∷ []))) whole ∙ take_seam (w ++ 42 ∷ 47 ∷ []) rest) in
+    split_skipped l (behind_comment l (take n bs)) (47 ∷ 42 ∷ (w ++ 42 ∷ 47 ∷ [])) rest (47 ∷ 42 ∷ bs) (n + 2) (ap (λ xs. 47 ∷ 42 ∷ xs) whole) all
+      (comment w (ap (behind_comment l) (sym word_is)) refl h.3)
+
+comment_front_good : (os : List Open) (l : Line) (at : ℕ) (bs : List ℕ) → OnGood os l at (comment_front at os l (47 ∷ 42 ∷ bs)) (47 ∷ 42 ∷ bs)
+unfolding comment_front
+comment_front_good os l at bs = comment_is_good os l at bs (comment_length bs) (comment_good bs)
+
+-- a line's end at the front
+line_end_are : (b : ℕ) (bs : List ℕ) → not (eqb (newline_length (b ∷ bs)) 0) ≡ true → (w : List ℕ) × (rest : List ℕ) × (b ∷ bs ≡ w ++ rest) × (newline_length (b ∷ bs) ≡ length w) × IsLineEnd w
+line_end_are b bs =
+    if_else (λ n. not (eqb n 0) ≡ true → (w : List ℕ) × (rest : List ℕ) × (b ∷ bs ≡ w ++ rest) × (n ≡ length w) × IsLineEnd w) (eqb b 10) _ _
+      (λ y h. (10 ∷ [], bs, ap (λ x. x ∷ bs) (eqb-true b 10 y), refl, inl refl))
+      (λ n. second b bs)
+  where
+    second : (b : ℕ) (bs : List ℕ) → not (eqb (cond (eqb b 13 && begins_with 10 bs) 2 0) 0) ≡ true → (w : List ℕ) × (rest : List ℕ) × (b ∷ bs ≡ w ++ rest) × (cond (eqb b 13 && begins_with 10 bs) 2 0 ≡ length w) × IsLineEnd w
+    second b [] h = absurd (elim (eqb b 13) as (λ k. not (eqb (cond (k && false) 2 0) 0) ≡ true → ⊥) [ true ↦ λ e. cc | false ↦ λ e. cc ] h)
+    second b (c ∷ bs) ends =
+        (if_else (λ n. not (eqb n 0) ≡ true → (w : List ℕ) × (rest : List ℕ) × (b ∷ c ∷ bs ≡ w ++ rest) × (n ≡ length w) × IsLineEnd w) (eqb b 13 && eqb c 10) _ _
+          (λ y h.
+            let first : b ≡ 13 = grind (arith, nat_tests) in
+            let next : c ≡ 10 = grind (arith, nat_tests) in
+            (13 ∷ 10 ∷ [], bs, ap (λ x. x ∷ c ∷ bs) first ∙ ap (λ x. 13 ∷ x ∷ bs) next, refl, inr refl))
+          (λ n h. absurd cc)) ends
+
+newline_good : (os : List Open) (l : Line) (at : ℕ) (w rest bytes : List ℕ) (n : ℕ) → bytes ≡ w ++ rest → n ≡ length w → IsLineEnd w → OnGood os l at (newline_front l n) bytes
+newline_good os line.Folded at w rest bytes n is count h = split_skipped line.Folded line.Folded w rest bytes n is count (folded refl refl h)
+newline_good os line.Front at w rest bytes n is count h = split_word os line.Front at k.Newline turn.Stays w rest bytes n is count (newline refl refl (λ e. cc) h)
+newline_good os line.Within at w rest bytes n is count h = split_word os line.Within at k.Newline turn.Stays w rest bytes n is count (newline refl refl (λ e. cc) h)
+
+directive_line : (os : List Open) (l : Line) (at : ℕ) (bs : List ℕ) → l ≢ line.Within → is_directive (35 ∷ bs) ≡ true → OnGood os l at (Ok (front.Skipped (line_length (35 ∷ bs)) l)) (35 ∷ bs)
+directive_line os l at bs place is =
+    let seam : take (line_length (35 ∷ bs)) (35 ∷ bs) ++ drop (line_length (35 ∷ bs)) (35 ∷ bs) ≡ 35 ∷ bs = take-append-drop (line_length (35 ∷ bs)) (35 ∷ bs) in
+    directive refl place (take (line_length bs) bs) refl (subst (λ xs. is_directive xs ≡ true) (sym seam) is) (line_good (35 ∷ bs))
+
+directive_good : (os : List Open) (l : Line) (at : ℕ) (bs : List ℕ) → OnGood os l at (directive_front at l (35 ∷ bs)) (35 ∷ bs)
+directive_good os line.Within at bs = tt
+directive_good os line.Front at bs = if_else (λ o. OnGood os line.Front at o (35 ∷ bs)) (is_directive (35 ∷ bs)) _ _ (λ y. directive_line os line.Front at bs (λ e. cc) y) (λ n. tt)
+directive_good os line.Folded at bs = if_else (λ o. OnGood os line.Folded at o (35 ∷ bs)) (is_directive (35 ∷ bs)) _ _ (λ y. directive_line os line.Folded at bs (λ e. cc) y) (λ n. tt)
+
+single_good : (os : List Open) (l : Line) (at b : ℕ) (bs : List ℕ) (o : Option TokenKind) → single_mark b ≡ o → makes_double b bs ≡ false → opens_comment 47 (b ∷ bs) ≡ false → opens_comment 42 (b ∷ bs) ≡ false → OnGood os l at (single at o) (b ∷ bs)
+single_good os l at b bs None is alone slashes star = tt
+single_good os l at b bs (Some kind) is alone slashes star =
+    let facts : SingleFacts (Some kind) b = subst (λ o. SingleFacts o b) is (single_facts b) in
+    (single_word refl b refl is alone slashes star, facts.1)
+
+double_good : (os : List Open) (l : Line) (at a b : ℕ) (bs : List ℕ) (o : Option TokenKind) → double_mark a b ≡ o → opens_comment 47 (a ∷ b ∷ bs) ≡ false → opens_comment 42 (a ∷ b ∷ bs) ≡ false → OnGood os l at (double at a o) (a ∷ b ∷ bs)
+double_good os l at a b bs None is slashes star = single_good os l at a (b ∷ bs) (single_mark a) refl (ap is_some is) slashes star
+double_good os l at a b bs (Some kind) is slashes star =
+    let facts : DoubleFacts (Some kind) a = subst (λ o. DoubleFacts o a) is (double_facts a b) in
+    (double_word refl a b refl is, facts.2)
+
+mark_good : (os : List Open) (l : Line) (at b : ℕ) (bs : List ℕ) → opens_comment 47 (b ∷ bs) ≡ false → opens_comment 42 (b ∷ bs) ≡ false → OnGood os l at (mark_front at (b ∷ bs)) (b ∷ bs)
+unfolding mark_front
+mark_good os l at b [] slashes star = single_good os l at b [] (single_mark b) refl refl slashes star
+mark_good os l at b (c ∷ bs) slashes star = double_good os l at b c bs (double_mark b c) refl slashes star
+
+by_good : (os : List Open) (l : Line) (at b : ℕ) (bs : List ℕ) → OnGood os l at (front_by at os l b (b ∷ bs)) (b ∷ bs)
+unfolding close_front
+by_good os l at b bs =
+    let P : Result Front LexFault → Type 0 = λ o. OnGood os l at o (b ∷ bs) in
+    if_else P (is_blank b) _ _ (λ y. blank refl b y refl) (λ n.
+    if_else P (is_letter b) _ _ (λ y. name_good os l at b bs y) (λ n.
+    if_else P (is_ascii_digit b) _ _ (λ y. number_good os l at b bs y) (λ n.
+    if_else P (eqb b 39) _ _ (λ y. text_front_good os l at b bs y) (λ n.
+    if_else P (opens_comment 47 (b ∷ bs)) _ _
+      (λ y. let s = slashes_are 47 b bs y in subst (λ xs. OnGood os l at (Ok (front.Skipped (line_length xs) l)) xs) (sym s.1) (line_comment_good os l at s.0)) (λ slashes.
+    if_else P (opens_comment 42 (b ∷ bs)) _ _
+      (λ y. let s = slashes_are 42 b bs y in subst (λ xs. OnGood os l at (comment_front at os l xs) xs) (sym s.1) (comment_front_good os l at s.0)) (λ star.
+    if_else P (not (eqb (newline_length (b ∷ bs)) 0)) _ _
+      (λ y. let s = line_end_are b bs y in newline_good os l at s.0 s.1 (b ∷ bs) (newline_length (b ∷ bs)) s.2 s.3 s.4) (λ n.
+    if_else P (eqb b 35) _ _ (λ y. subst (λ x. OnGood os l at (directive_front at l (x ∷ bs)) (x ∷ bs)) (sym (eqb-true b 35 y)) (directive_good os l at bs)) (λ n.
+    if_else P (eqb b 123) _ _ (λ y. (open_brace refl refl (ap (λ x. x ∷ []) (eqb-true b 123 y)), refl)) (λ n.
+    if_else P (eqb b 125) _ _ (λ y. subst (λ x. OnGood os l at (closed at os (innermost os) (x ∷ bs)) (x ∷ bs)) (sym (eqb-true b 125 y)) (close_good os l at bs (innermost os) refl)) (λ n.
+    mark_good os l at b bs slashes star))))))))))
+
+front_good : (os : List Open) (l : Line) (at : ℕ) (bytes : List ℕ) → OnGood os l at (front_of at os l bytes) bytes
+unfolding front_of
+front_good os l at [] = tt
+front_good os l at (b ∷ bs) = by_good os l at b bs
+
+-- a token before tokens
+before_ok : (t : Standing) (o : Outcome) (ts : List Standing) → before t o ≡ Ok ts → (more : List Standing) × (o ≡ Ok more) × (ts ≡ t ∷ more)
+before_ok t (Ok more) ts h = (more, refl, sym same)
+  where
+    same : t ∷ more ≡ ts
+    same = cc
+before_ok t (Err f) ts h = absurd cc
+
+ended_ok : (o : Option ℕ) (ts : List Standing) → ended_by o ≡ Ok ts → (o ≡ None) × (ts ≡ [])
+ended_ok None ts h = (refl, sym same)
+  where
+    same : [] ≡ ts
+    same = cc
+ended_ok (Some at) ts h = absurd cc
+
+-- parts in a row that spell what is left
+abbrev RowOf : List Open → Line → ℕ → List ℕ → List Standing → Type 0
+RowOf os l at bytes ts = (ps : List Part) × (bytes_of ps ≡ bytes) × InARow os l at ps × (ts ≡ tokens_of at ps)
+
+token_row : (os : List Open) (l : Line) (at : ℕ) (bytes : List ℕ) (kind : TokenKind) (n : ℕ) (t : Turn) (ts more : List Standing) → n ≤ length bytes → ts ≡ (kind, at, take n bytes) ∷ more → IsWord os l at kind (take n bytes) (drop n bytes) t → RowOf (turned t os) (behind_token kind) (at + n) (drop n bytes) more → RowOf os l at bytes ts
+token_row os l at bytes kind n t ts more within is word_is r =
+    let ps = r.0 in
+    let w = take n bytes in
+    let count : n ≡ length w = sym (length-take-le n bytes within) in
+    (token kind w t ∷ ps
+    , ap (λ xs. w ++ xs) r.1 ∙ take-append-drop n bytes
+    , (subst (λ xs. IsWord os l at kind w xs t) (sym r.1) word_is, subst (λ i. InARow (turned t os) (behind_token kind) (at + i) ps) count r.2)
+    , is ∙ ap (λ xs. (kind, at, w) ∷ xs) (r.3 ∙ ap (λ i. tokens_of (at + i) ps) count))
+
+skip_row : (os : List Open) (l next : Line) (at : ℕ) (bytes : List ℕ) (n : ℕ) (ts : List Standing) → n ≤ length bytes → IsSkipped l (take n bytes) (drop n bytes) next → RowOf os next (at + n) (drop n bytes) ts → RowOf os l at bytes ts
+skip_row os l next at bytes n ts within skipped r =
+    let ps = r.0 in
+    let w = take n bytes in
+    let count : n ≡ length w = sym (length-take-le n bytes within) in
+    (skip w next ∷ ps
+    , ap (λ xs. w ++ xs) r.1 ∙ take-append-drop n bytes
+    , (subst (λ xs. IsSkipped l w xs next) (sym r.1) skipped, subst (λ i. InARow os next (at + i) ps) count r.2)
+    , r.3 ∙ ap (λ i. tokens_of (at + i) ps) count)
+
+-- the same for all that is shorter
+abbrev RowsBelow : ℕ → Type 0
+RowsBelow m = (os : List Open) (l : Line) (at : ℕ) (bytes : List ℕ) (ts : List Standing) → length bytes ≤ m → reading_from 0 at os l bytes ≡ Ok ts → RowOf os l at bytes ts
+
+front_row : (m : ℕ) → RowsBelow m → (os : List Open) (l : Line) (at : ℕ) (bytes : List ℕ) (ts : List Standing) (o : Result Front LexFault) → length bytes ≤ suc m → OnFront o bytes → OnGood os l at o bytes → by_front at os bytes o ≡ Ok ts → RowOf os l at bytes ts
+front_row m rows os l at bytes ts (Err f) most span good h = absurd cc
+front_row m rows os l at bytes ts (Ok (front.Skipped n next)) most span good h =
+    skip_row os l next at bytes n ts span.1 good
+      (rows os next (at + n) (drop n bytes) ts (omega (arith, length-drop n bytes, span.0, most)) h)
+front_row m rows os l at bytes ts (Ok (front.Newline n)) most span good h =
+    let b = before_ok (k.Newline, at, take n bytes) (reading_from 0 (at + n) os line.Folded (drop n bytes)) ts h in
+    token_row os l at bytes k.Newline n turn.Stays ts b.0 span.within b.2 good
+      (rows os line.Folded (at + n) (drop n bytes) b.0 (omega (arith, length-drop n bytes, span.some, most)) b.1)
+front_row m rows os l at bytes ts (Ok (front.Word kind n t)) most span good h =
+    let b = before_ok (kind, at, take n bytes) (reading_from 0 (at + n) (turned t os) line.Within (drop n bytes)) ts h in
+    token_row os l at bytes kind n t ts b.0 span.within b.2 good.0
+      (subst (λ x. RowOf (turned t os) x (at + n) (drop n bytes) b.0) (sym good.1)
+        (rows (turned t os) line.Within (at + n) (drop n bytes) b.0 (omega (arith, length-drop n bytes, span.some, most)) b.1))
+
+row_of : (m : ℕ) → RowsBelow m
+row_of m os l at [] ts most h =
+    let e = ended_ok (outermost os) ts h in
+    ([], refl, e.0, e.1)
+row_of zero os l at (b ∷ bs) ts most h = absurd (omega arith)
+row_of (suc m) os l at (b ∷ bs) ts most h =
+    let bytes = b ∷ bs in
+    front_row m (row_of m) os l at bytes ts (front_of at os l bytes) most (front_span at os l bytes) (front_good os l at bytes)
+      (sym (read_front at os l bytes (omega arith)) ∙ h)
+
+mark-within : (source : List ℕ) → mark_length source ≤ length source
+unfolding mark_length
+mark-within [] = omega arith
+mark-within (b ∷ []) = elim (eqb 239 b) as (λ t. cond (t && false) 3 0 ≤ 1) [ true ↦ omega arith | false ↦ omega arith ]
+mark-within (b ∷ c ∷ []) = elim (eqb 239 b) as (λ t. cond (t && (eqb 187 c && false)) 3 0 ≤ 2) [ true ↦ (elim (eqb 187 c) as (λ t. cond (true && (t && false)) 3 0 ≤ 2) [ true ↦ omega arith | false ↦ omega arith ]) | false ↦ omega arith ]
+mark-within (b ∷ c ∷ d ∷ source) = if_else (λ n. n ≤ suc (suc (suc (length source)))) (eqb 239 b && (eqb 187 c && (eqb 191 d && true))) 3 0 (λ y. omega arith) (λ n. omega arith)
+
+-- a source that is read as tokens spells them
+pub sound : (source : List ℕ) (tokens : List Standing) → reading source ≡ Ok tokens → Spells source tokens
+unfolding reading
+sound source tokens h =
+    let n = mark_length source in
+    let within = mark-within source in
+    let e : 0 + n ≡ n = omega arith in
+    let bytes = drop n source in
+    let count : n ≡ length (take n source) = sym (length-take-le n source within) in
+    let read : reading_from 0 n [] line.Front bytes ≡ Ok tokens = ap (λ i. reading_from 0 i [] line.Front bytes) (sym e) ∙ sym (reading-skip n 0 [] line.Front source within) ∙ h in
+    let r = row_of (length bytes) [] line.Front n bytes tokens (omega arith) read in
+    (take n source, r.0
+    , sym (ap (λ xs. take n source ++ xs) r.1 ∙ take-append-drop n source)
+    , sym count
+    , subst (λ i. InARow [] line.Front i r.0) count r.2
+    , r.3 ∙ ap (λ i. tokens_of i r.0) count)

@@ -5,3 +5,4 @@ pub mod Steps
 pub mod Characters
 pub mod Complete
 pub mod Sound
+pub mod Laws

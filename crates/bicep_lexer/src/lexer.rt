@@ -1,8 +1,9 @@
 // From a source to its tokens.
 
-ghost use Rattle.std.specs.Prelude.{◌≡◌, ◌≢◌, ℕ, ◌+◌, ◌-◌, ◌≤◌, ◌<◌, ◌^◌, [], ◌∷◌, ◌++◌, length, take, drop, map, slice_index, Ok, Err, OnOk, IfOk, IfErr};
+ghost use Rattle.std.specs.Prelude.{◌≡◌, ◌≢◌, ℕ, ◌+◌, ◌-◌, ◌≤◌, ◌<◌, ◌^◌, List, [], ◌∷◌, ◌++◌, length, take, drop, map, slice_index, Ok, Err, OnOk, IfOk, IfErr};
 ghost use Rattle.bicep_lexer.specs.declared.fault.LexFault.TheVariants.{OutOfMemory};
-ghost use Rattle.bicep_lexer.specs.Reading.{standing, turned, mark_length, ended, reading};
+ghost use Rattle.bicep_lexer.specs.Grammar.{Spells};
+ghost use Rattle.bicep_lexer.specs.Reading.{Standing, standing, turned, mark_length, ended, reading};
 ghost use Rattle.bicep_lexer.specs.Fronts.{front_of};
 ghost use Rattle.bicep_lexer.specs.Progress.{whole, behind, IsSpan, OnFront};
 
@@ -115,12 +116,7 @@ impl<'a> Lexer<'a> {
     }
 }
 
-/// The tokens of a source, in its order.
-///
-/// Each token's text is the slice of the source at its place; between two tokens stands only what is
-/// skipped. A fault is the first that is met from the left: at the character, escape, number, comment
-/// or text that it is about. Memory that is refused is `OutOfMemory`.
-pub fn tokens<'a>(alloc: Global, text: &'a str) -> Result<Vec<Token<'a>>, LexFault>
+fn read<'a>(alloc: Global, text: &'a str) -> Result<Vec<Token<'a>>, LexFault>
     ensures tokens { IfOk result (λ found. reading text.now ≡ Ok (map standing found.items)) }
     ensures fault { IfErr result (λ f. f ≢ OutOfMemory → reading text.now ≡ Err f) }
 {
@@ -136,4 +132,19 @@ pub fn tokens<'a>(alloc: Global, text: &'a str) -> Result<Vec<Token<'a>>, LexFau
         Some(quote) => Err(LexFault::OpenText(quote)),
         None => Ok(lexer.found),
     }
+}
+
+/// The tokens of a source, in its order.
+///
+/// Each token's text is the slice of the source at its place; between two tokens stands only what is
+/// skipped. A fault is the first that is met from the left: at the character, escape, number, comment
+/// or text that it is about. Memory that is refused is `OutOfMemory`.
+pub fn tokens<'a>(alloc: Global, text: &'a str) -> Result<Vec<Token<'a>>, LexFault>
+    ensures spelled { IfOk result (λ found. Spells text.now (map standing found.items)) }
+    ensures alone { IfOk result (λ found. (others : List Standing) → Spells text.now others → others ≡ map standing found.items) }
+    ensures refused { IfErr result (λ f. f ≢ OutOfMemory → (any : List Standing) → ¬ Spells text.now any) }
+    ensures reading { IfOk result (λ found. reading text.now ≡ Ok (map standing found.items)) }
+    ensures fault { IfErr result (λ f. f ≢ OutOfMemory → reading text.now ≡ Err f) }
+{
+    read(alloc, text)
 }

@@ -1,14 +1,11 @@
-use Rattle.std.proofs.Common.{map, [], refl, ap, ◌∙◌, arith}
-use Rattle.bicep_lexer.specs.Reading.{standing, mark_length, reading}
-use Rattle.bicep_lexer.proofs.Steps.{whole-start, whole_same}
+use Rattle.bicep_lexer.proofs.Laws.{spelled, alone, refused}
 use Rattle.bicep_lexer.proofs.lexer.tokens.Goals as goal
 
-pub loop-lexer-init : goal.loop-lexer-init
-loop-lexer-init c =
-    let text = c.args.text.now in
-    let at = c.mark_length-at.result in
-    record {
-      same = whole_same text text at at c.new.result.items [] _ (map standing c.new-2.result.items) [] (reading text) refl refl c.new.ensures.items (ap (map standing) c.new-2.ensures.items) (whole-start text at (c.mark_length-at.ensures.value ∙ ap mark_length c.as_bytes.ensures.value) (omega arith));
-      source = refl;
-      within = omega arith;
-    }
+pub returns-clause-spelled : goal.returns-clause-spelled
+returns-clause-spelled c = spelled c.args.text.now c.read.result c.read.ensures.tokens
+
+pub returns-clause-alone : goal.returns-clause-alone
+returns-clause-alone c = alone c.args.text.now c.read.result c.read.ensures.tokens
+
+pub returns-clause-refused : goal.returns-clause-refused
+returns-clause-refused c = refused c.args.text.now c.read.result c.read.ensures.fault

@@ -1,11 +1,9 @@
 -- What a source spells is its reading.
-use Rattle.std.proofs.Common.{◌≡◌, ◌≢◌, ℕ, zero, suc, ◌+◌, ◌-◌, ◌^◌, ◌<◌, ◌≤◌, Bool, true, false, cond, not, ◌&&◌, ◌||◌, eqb, nat_lt, nat_le, ◌==◌, List, [], ◌∷◌, ◌++◌, length, take, drop, Option, Some, None, Result, Ok, Err, option_map, is_some, refl, ap, sym, subst, ◌∙◌, append_assoc, append-nil, arith, ◌⊎◌, inl, inr, length-append}
+use Rattle.std.proofs.Common.{◌≡◌, ◌≢◌, ℕ, suc, ◌+◌, ◌^◌, ◌<◌, ◌≤◌, Bool, true, false, cond, not, ◌&&◌, eqb, nat_lt, nat_le, ◌==◌, List, [], ◌∷◌, ◌++◌, length, take, drop, Option, Some, None, Result, Ok, Err, option_map, is_some, refl, ap, sym, subst, ◌∙◌, append_assoc, arith, ◌⊎◌, inl, inr, length-append}
 use Rattle.std.specs.Char.{is_ascii_digit}
 use Rattle.std.specs.List.{prefix_len, take_while}
 use Rattle.std.proofs.lemmas.Bool.{eqb-true}
 use Rattle.std.proofs.lemmas.Bool.Decides.{nat_tests}
-use Rattle.std.proofs.lemmas.List.{length-drop}
-use Rattle.std.proofs.lemmas.List.Folds.{length-prefix_len}
 use Rattle.bicep_lexer.specs.declared.kind.TokenKind.{TokenKind}
 use Rattle.bicep_lexer.specs.declared.kind.TokenKind.TheVariants as k
 use Rattle.bicep_lexer.specs.declared.fault.LexFault.{LexFault}
@@ -25,8 +23,8 @@ use Rattle.bicep_lexer.specs.Escapes.{is_escape}
 use Rattle.bicep_lexer.specs.Marks.{double_mark, single_mark}
 use Rattle.bicep_lexer.specs.Skipped.{newline_length, line_length, closes_comment, comment_length, behind_comment, is_directive}
 use Rattle.bicep_lexer.specs.Texts.{piece_end, further, is_hole, is_break, quotes, verbatim_length}
-use Rattle.bicep_lexer.specs.Fronts.{outermost, innermost, word, number_front, piece, verbatim, text_front, closed, close_front, opens_comment, commented, comment_front, newline_front, directive_front, single, double, mark_front, front_by, front_of}
-use Rattle.bicep_lexer.specs.Reading.{Standing, Outcome, turned, before, ended, ended_by, reading_from, mark_length, reading}
+use Rattle.bicep_lexer.specs.Fronts.{innermost, word, number_front, piece, verbatim, text_front, closed, close_front, opens_comment, commented, comment_front, newline_front, directive_front, single, double, mark_front, front_of}
+use Rattle.bicep_lexer.specs.Reading.{Standing, turned, before, ended_by, reading_from, reading}
 use Rattle.bicep_lexer.specs.Grammar.{Throughout, begins, IsRun, ends_line, IsLine, IsInside, three_quotes, IsLineEnd, makes_double, IsWord, name, number, newline, text, left, middle, right, verbatim as verbatim_word, open_brace, close_brace, lone_brace, double as double_word, single as single_word, IsSkipped, blank, line_comment, comment, directive, folded, Part, skip, token, bytes_of, tokens_of, behind_token, InARow, Spells}
 use Rattle.bicep_lexer.proofs.Ends.{if_else}
 use Rattle.bicep_lexer.proofs.Steps.{by_front, read_front, reading-skip}

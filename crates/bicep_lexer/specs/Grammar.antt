@@ -1,5 +1,5 @@
 -- Which sources spell which tokens: a source is words and what is skipped, in a row.
-use Rattle.std.specs.Prelude.{◌≡◌, ◌≢◌, ℕ, ◌+◌, ◌<◌, ◌≤◌, ◌^◌, Bool, true, false, nat_lt, nat_le, not, ◌==◌, List, [], ◌∷◌, ◌++◌, length, Option, Some, None, is_some, ◌⊎◌}
+use Rattle.std.specs.Prelude.{◌≡◌, ◌≢◌, ℕ, ◌+◌, ◌<◌, ◌≤◌, ◌^◌, Bool, true, false, nat_le, not, ◌==◌, List, [], ◌∷◌, ◌++◌, length, Some, None, is_some, ◌⊎◌}
 use Rattle.std.specs.Char.{is_ascii_digit}
 use Rattle.bicep_lexer.specs.declared.kind.TokenKind.{TokenKind}
 use Rattle.bicep_lexer.specs.declared.kind.TokenKind.TheVariants as k
@@ -9,7 +9,7 @@ use Rattle.bicep_lexer.specs.declared.front.Line.{Line}
 use Rattle.bicep_lexer.specs.declared.front.Line.TheVariants as line
 use Rattle.bicep_lexer.specs.declared.front.Turn.{Turn}
 use Rattle.bicep_lexer.specs.declared.front.Turn.TheVariants as turn
-use Rattle.bicep_lexer.specs.Bytes.{is_letter, is_name_byte, is_blank, begins_with, number_from}
+use Rattle.bicep_lexer.specs.Bytes.{is_letter, is_name_byte, is_blank, number_from}
 use Rattle.bicep_lexer.specs.Escapes.{is_escape}
 use Rattle.bicep_lexer.specs.Marks.{double_mark, single_mark}
 use Rattle.bicep_lexer.specs.Skipped.{newline_length, closes_comment, behind_comment, is_directive}

@@ -162,7 +162,7 @@ fn tokens_are_slices_of_their_source(rt: HostRuntime) -> Result<(), Fail> {
         let found = tokens(rt.alloc(), row.0)?;
         let last = found.as_slice().last().ok_or("no token")?;
         assert_eq!(rt; last.at, row.2, "{}", row.0);
-        assert_eq!(rt; last.text, row.3, "{}", row.0);
+        assert!(rt; last.text == row.3, "{}", row.0);
     }
     Ok(())
 }

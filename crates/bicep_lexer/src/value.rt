@@ -9,6 +9,7 @@ ghost use Rattle.bicep_lexer.specs.Values.{with_digit, character_of, unescaped_f
 use crate::escapes::hexadecimal;
 use crate::kind::TokenKind;
 use crate::token::Token;
+use arm_value::{OutOfMemory, Text};
 use std::alloc::{AllocError, Global};
 
 /// What the characters read so far leave to the next.
@@ -153,11 +154,13 @@ fn value_of(alloc: Global, kind: TokenKind, characters: &[char]) -> Result<Strin
 impl Token<'_> {
     /// What the token means: of a text or a piece of one its characters between its ends, with each
     /// escape's character in its place; of a verbatim text those between its quotes, without a newline
-    /// right behind the opening; of any other token its own characters.
-    pub fn value(&self, alloc: Global) -> Result<String, AllocError>
-        ensures { IfOk result (λ text. chars (string_bytes text) ≡ value_of self.now.kind (chars self.now.text.now)) }
+    /// right behind the opening; of any other token its own characters. Memory that is refused is
+    /// `OutOfMemory`.
+    pub fn value(&self, alloc: Global) -> Result<Text, OutOfMemory>
+        ensures { IfOk result (λ text. text ≡ value_of self.now.kind (chars self.now.text.now)) }
     {
         let characters = characters_of(alloc, self.text)?;
-        value_of(alloc, self.kind, &characters)
+        let value = value_of(alloc, self.kind, &characters)?;
+        Ok(Text::from_string(value))
     }
 }

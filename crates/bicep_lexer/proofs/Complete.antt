@@ -71,9 +71,9 @@ inside_ends false (b ∷ w) tail e h is =
     ∙ passed (is_hole b bs) (ends.Hole 2) _ h.1
     ∙ passed (is_break b) ends.Line _ h.2
     ∙ (elim (eqb b 92) as (λ t. eqb b 92 ≡ t → IsInside t w tail → cond t (cond (is_escape bs) (further 1 (piece_end true bs)) (ends.BadEscape 0)) (further 1 (piece_end false bs)) ≡ further 1 (piece_end t bs)) [
-        true ↦ λ y i. taken (is_escape bs) (further 1 (piece_end true bs)) (ends.BadEscape 0) (h.3 (eqb-true b 92 y))
+      | true ↦ λ y i. taken (is_escape bs) (further 1 (piece_end true bs)) (ends.BadEscape 0) (h.3 (eqb-true b 92 y))
       | false ↦ λ y i. refl
-      ] refl h.4)
+    ] refl h.4)
     ∙ ap (further 1) (inside_ends (eqb b 92) w tail e h.4 is)
     ∙ further-suc (length w) e
 
@@ -124,7 +124,7 @@ pub data TokenFront (kind : TokenKind) (n : ℕ) (t : Turn) (o : Result Front Le
 word_as : (kind kind' : TokenKind) (n n' : ℕ) (t t' : Turn) (o : Result Front LexFault) → kind ≡ kind' → n ≡ n' → t ≡ t' → behind_token kind' ≡ line.Within → o ≡ Ok (front.Word kind' n' t') → TokenFront kind n t o
 word_as kind kind' n n' t t' o ks ns ts within h =
     word_is (ap behind_token ks ∙ within)
-      (h ∙ sym (ap (λ x. Ok (front.Word x n t)) ks ∙ ap (λ x. Ok (front.Word kind' x t)) ns ∙ ap (λ x. Ok (front.Word kind' n' x)) ts))
+    (h ∙ sym (ap (λ x. Ok (front.Word x n t)) ks ∙ ap (λ x. Ok (front.Word kind' x t)) ns ∙ ap (λ x. Ok (front.Word kind' n' x)) ts))
 
 letter_no_blank : (b : ℕ) → is_letter b ≡ true → is_blank b ≡ false
 letter_no_blank b h = grind (arith, nat_tests)
@@ -340,49 +340,49 @@ open_front at os l rest = refl
 word_front : (os : List Open) (l : Line) (at : ℕ) (kind : TokenKind) (w rest : List ℕ) (t : Turn) → IsWord os l at kind w rest t → TokenFront kind (length w) t (front_of at os l (w ++ rest))
 word_front os l at kind w rest t (name ks ts b bs ws letter run) =
     word_as kind k.Name (length w) (length (b ∷ bs)) t turn.Stays (front_of at os l (w ++ rest)) ks (ap length ws) ts refl
-      (ap (λ x. front_of at os l (x ++ rest)) ws ∙ name_front at os l b bs rest letter (subst (λ x. IsRun is_name_byte x rest) ws run))
+    (ap (λ x. front_of at os l (x ++ rest)) ws ∙ name_front at os l b bs rest letter (subst (λ x. IsRun is_name_byte x rest) ws run))
 word_front os l at kind w rest t (number ks ts b bs ws run small) =
     word_as kind k.Number (length w) (length (b ∷ bs)) t turn.Stays (front_of at os l (w ++ rest)) ks (ap length ws) ts refl
-      (ap (λ x. front_of at os l (x ++ rest)) ws ∙ digits_front at os l b bs rest (subst (λ x. IsRun is_ascii_digit x rest) ws run) (subst (λ x. number_from 0 x < 2 ^ 63) ws small))
+    (ap (λ x. front_of at os l (x ++ rest)) ws ∙ digits_front at os l b bs rest (subst (λ x. IsRun is_ascii_digit x rest) ws run) (subst (λ x. number_from 0 x < 2 ^ 63) ws small))
 word_front os l at kind w rest t (newline ks ts first is) =
     newline_is ks ts (newline_is_front at os l rest w is ∙ newline_first l (length w) first)
 word_front os l at kind w rest t (text ks ts inside ws is short) =
     let n : suc (length (inside ++ 39 ∷ [])) ≡ length inside + 1 + 1 = omega (arith, length-append inside (39 ∷ [])) in
     word_as kind k.Text (length w) (length inside + 1 + 1) t turn.Stays (front_of at os l (w ++ rest)) ks (ap length ws ∙ n) ts refl
-      (ap (λ x. front_of at os l (x ++ rest)) ws ∙ whole_front at os l inside rest is (subst (λ x. quotes 3 (x ++ rest) == 3 ≡ false) ws short))
+    (ap (λ x. front_of at os l (x ++ rest)) ws ∙ whole_front at os l inside rest is (subst (λ x. quotes 3 (x ++ rest) == 3 ≡ false) ws short))
 word_front os l at kind w rest t (left ks ts inside ws is short) =
     let n : suc (length (inside ++ 36 ∷ 123 ∷ [])) ≡ length inside + 2 + 1 = omega (arith, length-append inside (36 ∷ 123 ∷ [])) in
     word_as kind k.LeftPiece (length w) (length inside + 2 + 1) t (turn.Opens (opened.Text at)) (front_of at os l (w ++ rest)) ks (ap length ws ∙ n) ts refl
-      (ap (λ x. front_of at os l (x ++ rest)) ws ∙ left_front at os l inside rest is (subst (λ x. quotes 3 (x ++ rest) == 3 ≡ false) ws short))
+    (ap (λ x. front_of at os l (x ++ rest)) ws ∙ left_front at os l inside rest is (subst (λ x. quotes 3 (x ++ rest) == 3 ≡ false) ws short))
 word_front os l at kind w rest t (middle ks ts quote top inside ws is) =
     let n : suc (length (inside ++ 36 ∷ 123 ∷ [])) ≡ length inside + 2 + 1 = omega (arith, length-append inside (36 ∷ 123 ∷ [])) in
     word_as kind k.MiddlePiece (length w) (length inside + 2 + 1) t turn.Stays (front_of at os l (w ++ rest)) ks (ap length ws ∙ n) ts refl
-      (ap (λ x. front_of at os l (x ++ rest)) ws ∙ middle_front at quote os l inside rest top is)
+    (ap (λ x. front_of at os l (x ++ rest)) ws ∙ middle_front at quote os l inside rest top is)
 word_front os l at kind w rest t (right ks ts quote top inside ws is) =
     let n : suc (length (inside ++ 39 ∷ [])) ≡ length inside + 1 + 1 = omega (arith, length-append inside (39 ∷ [])) in
     word_as kind k.RightPiece (length w) (length inside + 1 + 1) t turn.Closes (front_of at os l (w ++ rest)) ks (ap length ws ∙ n) ts refl
-      (ap (λ x. front_of at os l (x ++ rest)) ws ∙ right_front at quote os l inside rest top is)
+    (ap (λ x. front_of at os l (x ++ rest)) ws ∙ right_front at quote os l inside rest top is)
 word_front os l at kind w rest t (verbatim_word ks ts inside closing ws is counted some) =
     let n : suc (suc (suc (length (inside ++ closing)))) ≡ length inside + length closing + 3 = omega (arith, length-append inside closing) in
     word_as kind k.VerbatimText (length w) (length inside + length closing + 3) t turn.Stays (front_of at os l (w ++ rest)) ks (ap length ws ∙ n) ts refl
-      (ap (λ x. front_of at os l (x ++ rest)) ws ∙ verbatim_front at os l inside closing rest is counted some)
+    (ap (λ x. front_of at os l (x ++ rest)) ws ∙ verbatim_front at os l inside closing rest is counted some)
 word_front os l at kind w rest t (open_brace ks ts ws) =
     word_as kind k.OpenBrace (length w) 1 t (turn.Opens opened.Brace) (front_of at os l (w ++ rest)) ks (ap length ws) ts refl
-      (ap (λ x. front_of at os l (x ++ rest)) ws ∙ open_front at os l rest)
+    (ap (λ x. front_of at os l (x ++ rest)) ws ∙ open_front at os l rest)
 word_front os l at kind w rest t (close_brace ks ts top ws) =
     word_as kind k.CloseBrace (length w) 1 t turn.Closes (front_of at os l (w ++ rest)) ks (ap length ws) ts refl
-      (ap (λ x. front_of at os l (x ++ rest)) ws ∙ close_is_front at os l rest ∙ ap (λ o. closed at os o (125 ∷ rest)) top)
+    (ap (λ x. front_of at os l (x ++ rest)) ws ∙ close_is_front at os l rest ∙ ap (λ o. closed at os o (125 ∷ rest)) top)
 word_front os l at kind w rest t (lone_brace ks ts top ws) =
     word_as kind k.CloseBrace (length w) 1 t turn.Stays (front_of at os l (w ++ rest)) ks (ap length ws) ts refl
-      (ap (λ x. front_of at os l (x ++ rest)) ws ∙ close_is_front at os l rest ∙ ap (λ o. closed at os o (125 ∷ rest)) top)
+    (ap (λ x. front_of at os l (x ++ rest)) ws ∙ close_is_front at os l rest ∙ ap (λ o. closed at os o (125 ∷ rest)) top)
 word_front os l at kind w rest t (double_word ts a b ws is) =
     let facts : DoubleFacts (Some kind) a = subst (λ o. DoubleFacts o a) is (double_facts a b) in
     word_as kind kind (length w) 2 t turn.Stays (front_of at os l (w ++ rest)) refl (ap length ws) ts facts.2
-      (ap (λ x. front_of at os l (x ++ rest)) ws ∙ double_front at os l a b rest kind is)
+    (ap (λ x. front_of at os l (x ++ rest)) ws ∙ double_front at os l a b rest kind is)
 word_front os l at kind w rest t (single_word ts b ws is alone slashes star) =
     let facts : SingleFacts (Some kind) b = subst (λ o. SingleFacts o b) is (single_facts b) in
     word_as kind kind (length w) 1 t turn.Stays (front_of at os l (w ++ rest)) refl (ap length ws) ts facts.1
-      (ap (λ x. front_of at os l (x ++ rest)) ws ∙ single_front at os l b rest kind is alone slashes star)
+    (ap (λ x. front_of at os l (x ++ rest)) ws ∙ single_front at os l b rest kind is alone slashes star)
 
 pub take_seam : (w rest : List ℕ) → take (length w) (w ++ rest) ≡ w
 take_seam [] [] = refl
@@ -434,16 +434,16 @@ skipped_front os l at w rest next (blank ns b is ws) =
 skipped_front os l at w rest next (line_comment ns others ws is) =
     let row : IsLine (47 ∷ 47 ∷ others) rest = subst (λ x. IsLine x rest) ws is in
     skipped_as (length w) (length (47 ∷ 47 ∷ others)) next l (front_of at os l (w ++ rest)) (ap length ws) ns
-      (ap (λ x. front_of at os l (x ++ rest)) ws ∙ slashes_front at os l (others ++ rest) ∙ ap (λ n. Ok (front.Skipped n l)) (line_is (47 ∷ 47 ∷ others) rest row.0 row.1))
+    (ap (λ x. front_of at os l (x ++ rest)) ws ∙ slashes_front at os l (others ++ rest) ∙ ap (λ n. Ok (front.Skipped n l)) (line_is (47 ∷ 47 ∷ others) rest row.0 row.1))
 skipped_front os l at w rest next (comment inside ns ws is) =
     let n : suc (suc (length (inside ++ 42 ∷ 47 ∷ []))) ≡ length inside + 2 + 2 = omega (arith, length-append inside (42 ∷ 47 ∷ [])) in
     skipped_as (length w) (length inside + 2 + 2) next (behind_comment l (inside ++ 42 ∷ 47 ∷ [])) (front_of at os l (w ++ rest)) (ap length ws ∙ n) ns
-      (ap (λ x. front_of at os l (x ++ rest)) ws ∙ comment_is_front at os l inside rest is)
+    (ap (λ x. front_of at os l (x ++ rest)) ws ∙ comment_is_front at os l inside rest is)
 skipped_front os l at w rest next (directive ns place others ws is row) =
     let row' : IsLine (35 ∷ others) rest = subst (λ x. IsLine x rest) ws row in
     skipped_as (length w) (length (35 ∷ others)) next l (front_of at os l (w ++ rest)) (ap length ws) ns
-      (ap (λ x. front_of at os l (x ++ rest)) ws ∙ hash_front at os l (others ++ rest) ∙ directive_is at l (35 ∷ (others ++ rest)) place (subst (λ x. is_directive (x ++ rest) ≡ true) ws is)
-       ∙ ap (λ n. Ok (front.Skipped n l)) (line_is (35 ∷ others) rest row'.0 row'.1))
+    (ap (λ x. front_of at os l (x ++ rest)) ws ∙ hash_front at os l (others ++ rest) ∙ directive_is at l (35 ∷ (others ++ rest)) place (subst (λ x. is_directive (x ++ rest) ≡ true) ws is)
+    ∙ ap (λ n. Ok (front.Skipped n l)) (line_is (35 ∷ others) rest row'.0 row'.1))
 skipped_front os l at w rest next (folded ns ls is) =
     newline_is_front at os l rest w is ∙ ap (λ x. newline_front x (length w)) ls ∙ sym (ap (λ x. Ok (front.Skipped (length w) x)) ns)
 

@@ -59,11 +59,11 @@ run_good test [] = (tt, refl)
 run_good test (b ∷ bs) =
     let P : ℕ → Type 0 = λ n. IsRun test (take n (b ∷ bs)) (drop n (b ∷ bs)) in
     if_else P (test b) (1 + prefix_len test bs) 0
-      (λ y.
-        let e : suc (prefix_len test bs) ≡ 1 + prefix_len test bs = omega arith in
-        let r = run_good test bs in
-        subst P e ((y, r.0), r.1))
-      (λ n. (tt, n))
+    (λ y.
+    let e : suc (prefix_len test bs) ≡ 1 + prefix_len test bs = omega arith in
+    let r = run_good test bs in
+    subst P e ((y, r.0), r.1))
+    (λ n. (tt, n))
 
 first_of : (test : ℕ → Bool) (b : ℕ) (bs : List ℕ) → test b ≡ true → take (prefix_len test (b ∷ bs)) (b ∷ bs) ≡ b ∷ take (prefix_len test bs) bs
 first_of test b bs h =
@@ -75,9 +75,11 @@ unfolding name_length
 name_good os l at b bs h =
     let n = prefix_len is_name_byte (b ∷ bs) in
     let e : n ≡ length (take_while is_name_byte (b ∷ bs)) = sym (length-prefix_len is_name_byte (b ∷ bs)) in
-    let starts : is_name_byte b ≡ true = ap (λ t. t || is_ascii_digit b) h in
-    (subst (λ i. IsWord os l at k.Name (take i (b ∷ bs)) (drop i (b ∷ bs)) turn.Stays) e
-      (name refl refl b (take (prefix_len is_name_byte bs) bs) (first_of is_name_byte b bs starts) h (run_good is_name_byte (b ∷ bs))), refl)
+    let starts : is_name_byte b ≡ true = ap (λ t. t || is_ascii_digit b) h in (
+      subst (λ i. IsWord os l at k.Name (take i (b ∷ bs)) (drop i (b ∷ bs)) turn.Stays) e
+          (name refl refl b (take (prefix_len is_name_byte bs) bs) (first_of is_name_byte b bs starts) h (run_good is_name_byte (b ∷ bs))),
+      refl,
+    )
 
 number_good : (os : List Open) (l : Line) (at b : ℕ) (bs : List ℕ) → is_ascii_digit b ≡ true → OnGood os l at (number_front at (b ∷ bs)) (b ∷ bs)
 unfolding number_front
@@ -85,11 +87,13 @@ number_good os l at b bs h =
     let n = prefix_len is_ascii_digit (b ∷ bs) in
     let e : n ≡ length (take_while is_ascii_digit (b ∷ bs)) = sym (length-prefix_len is_ascii_digit (b ∷ bs)) in
     if_else (λ o. OnGood os l at o (b ∷ bs)) (nat_lt (number_from 0 (digits_of (b ∷ bs))) (2 ^ 63)) _ _
-      (λ y.
-        let small : number_from 0 (take n (b ∷ bs)) < 2 ^ 63 = grind (arith, nat_tests) in
-        (subst (λ i. IsWord os l at k.Number (take i (b ∷ bs)) (drop i (b ∷ bs)) turn.Stays) e
-          (number refl refl b (take (prefix_len is_ascii_digit bs) bs) (first_of is_ascii_digit b bs h) (run_good is_ascii_digit (b ∷ bs)) small), refl))
-      (λ n. tt)
+    (λ y.
+    let small : number_from 0 (take n (b ∷ bs)) < 2 ^ 63 = grind (arith, nat_tests) in (
+      subst (λ i. IsWord os l at k.Number (take i (b ∷ bs)) (drop i (b ∷ bs)) turn.Stays) e
+          (number refl refl b (take (prefix_len is_ascii_digit bs) bs) (first_of is_ascii_digit b bs h) (run_good is_ascii_digit (b ∷ bs)) small),
+      refl,
+    ))
+    (λ n. tt)
 
 -- how what is inside a piece ends
 abbrev InsideOf : Bool → List ℕ → PieceEnd → Type 0
@@ -130,14 +134,14 @@ inside_good false (b ∷ bs) =
     if_else P (is_hole b bs) _ _ (λ y. hole_good b bs y) (λ no_hole.
     if_else P (is_break b) _ _ (λ y. tt) (λ no_break.
     if_else P (eqb b 92) _ _
-      (λ y. if_else P (is_escape bs) _ _
-        (λ right. inside_more false true b bs (piece_end true bs)
-          (λ w tail is i. (unequal b 39 no_quote, subst (λ x. is_hole b x ≡ false) is no_hole, no_break, (λ e. subst (λ x. is_escape x ≡ true) is right), subst (λ t. IsInside t w tail) (sym y) i))
-          (inside_good true bs))
-        (λ n. tt))
-      (λ no_backslash. inside_more false false b bs (piece_end false bs)
-          (λ w tail is i. (unequal b 39 no_quote, subst (λ x. is_hole b x ≡ false) is no_hole, no_break, (λ e. absurd (unequal b 92 no_backslash e)), subst (λ t. IsInside t w tail) (sym no_backslash) i))
-          (inside_good false bs)))))
+    (λ y. if_else P (is_escape bs) _ _
+    (λ right. inside_more false true b bs (piece_end true bs)
+    (λ w tail is i. (unequal b 39 no_quote, subst (λ x. is_hole b x ≡ false) is no_hole, no_break, (λ e. subst (λ x. is_escape x ≡ true) is right), subst (λ t. IsInside t w tail) (sym y) i))
+    (inside_good true bs))
+    (λ n. tt))
+    (λ no_backslash. inside_more false false b bs (piece_end false bs)
+    (λ w tail is i. (unequal b 39 no_quote, subst (λ x. is_hole b x ≡ false) is no_hole, no_break, (λ e. absurd (unequal b 92 no_backslash e)), subst (λ t. IsInside t w tail) (sym no_backslash) i))
+    (inside_good false bs)))))
 
 -- a piece that begins with b, up to its end
 quote_split : (b n : ℕ) (w rest bs : List ℕ) → bs ≡ w ++ 39 ∷ rest → b ∷ bs ≡ (b ∷ (w ++ 39 ∷ [])) ++ rest
@@ -154,24 +158,32 @@ hole_count n w h = omega (arith, h, length-append w (36 ∷ 123 ∷ []))
 
 text_good : (os : List Open) (l : Line) (at : ℕ) (bs : List ℕ) (e : PieceEnd) → quotes 3 (39 ∷ bs) == 3 ≡ false → InsideOf false bs e → OnGood os l at (piece at at os (k.Text, turn.Stays) (k.LeftPiece, turn.Opens (opened.Text at)) e) (39 ∷ bs)
 text_good os l at bs (ends.Quote n) short h =
-    let whole = quote_split 39 n h.0 h.1 bs h.2 in
-    (split_word os l at k.Text turn.Stays (39 ∷ (h.0 ++ 39 ∷ [])) h.1 (39 ∷ bs) (n + 1) whole (quote_count n h.0 h.3)
-      (text refl refl h.0 refl h.4 (subst (λ x. quotes 3 x == 3 ≡ false) whole short)), refl)
+    let whole = quote_split 39 n h.0 h.1 bs h.2 in (
+      split_word os l at k.Text turn.Stays (39 ∷ (h.0 ++ 39 ∷ [])) h.1 (39 ∷ bs) (n + 1) whole (quote_count n h.0 h.3)
+          (text refl refl h.0 refl h.4 (subst (λ x. quotes 3 x == 3 ≡ false) whole short)),
+      refl,
+    )
 text_good os l at bs (ends.Hole n) short h =
-    let whole = hole_split 39 n h.0 h.1 bs h.2 in
-    (split_word os l at k.LeftPiece (turn.Opens (opened.Text at)) (39 ∷ (h.0 ++ 36 ∷ 123 ∷ [])) h.1 (39 ∷ bs) (n + 1) whole (hole_count n h.0 h.3)
-      (left refl refl h.0 refl h.4 (subst (λ x. quotes 3 x == 3 ≡ false) whole short)), refl)
+    let whole = hole_split 39 n h.0 h.1 bs h.2 in (
+      split_word os l at k.LeftPiece (turn.Opens (opened.Text at)) (39 ∷ (h.0 ++ 36 ∷ 123 ∷ [])) h.1 (39 ∷ bs) (n + 1) whole (hole_count n h.0 h.3)
+          (left refl refl h.0 refl h.4 (subst (λ x. quotes 3 x == 3 ≡ false) whole short)),
+      refl,
+    )
 text_good os l at bs ends.Line short h = tt
 text_good os l at bs ends.File short h = tt
 text_good os l at bs (ends.BadEscape n) short h = tt
 
 later_good : (os : List Open) (l : Line) (at quote : ℕ) (bs : List ℕ) (e : PieceEnd) → innermost os ≡ Some (opened.Text quote) → InsideOf false bs e → OnGood os l at (piece quote at os (k.RightPiece, turn.Closes) (k.MiddlePiece, turn.Stays) e) (125 ∷ bs)
-later_good os l at quote bs (ends.Quote n) top h =
-    (split_word os l at k.RightPiece turn.Closes (125 ∷ (h.0 ++ 39 ∷ [])) h.1 (125 ∷ bs) (n + 1) (quote_split 125 n h.0 h.1 bs h.2) (quote_count n h.0 h.3)
-      (right refl refl quote top h.0 refl h.4), refl)
-later_good os l at quote bs (ends.Hole n) top h =
-    (split_word os l at k.MiddlePiece turn.Stays (125 ∷ (h.0 ++ 36 ∷ 123 ∷ [])) h.1 (125 ∷ bs) (n + 1) (hole_split 125 n h.0 h.1 bs h.2) (hole_count n h.0 h.3)
-      (middle refl refl quote top h.0 refl h.4), refl)
+later_good os l at quote bs (ends.Quote n) top h = (
+  split_word os l at k.RightPiece turn.Closes (125 ∷ (h.0 ++ 39 ∷ [])) h.1 (125 ∷ bs) (n + 1) (quote_split 125 n h.0 h.1 bs h.2) (quote_count n h.0 h.3)
+      (right refl refl quote top h.0 refl h.4),
+  refl,
+)
+later_good os l at quote bs (ends.Hole n) top h = (
+  split_word os l at k.MiddlePiece turn.Stays (125 ∷ (h.0 ++ 36 ∷ 123 ∷ [])) h.1 (125 ∷ bs) (n + 1) (hole_split 125 n h.0 h.1 bs h.2) (hole_count n h.0 h.3)
+      (middle refl refl quote top h.0 refl h.4),
+  refl,
+)
 later_good os l at quote bs ends.Line top h = tt
 later_good os l at quote bs ends.File top h = tt
 later_good os l at quote bs (ends.BadEscape n) top h = tt
@@ -192,8 +204,8 @@ verbatim_good [] = tt
 verbatim_good (b ∷ bs) =
     let zero_more : quotes 5 (b ∷ bs) ≡ 0 + quotes 5 (b ∷ bs) = omega arith in
     if_else (VerbatimOf (b ∷ bs)) (nat_le 3 (quotes 5 (b ∷ bs))) _ _
-      (λ y. ([], b ∷ bs, refl, tt, y, zero_more))
-      (λ n. verbatim_more b bs (verbatim_length bs) n (verbatim_good bs))
+    (λ y. ([], b ∷ bs, refl, tt, y, zero_more))
+    (λ n. verbatim_more b bs (verbatim_length bs) n (verbatim_good bs))
 
 -- three quotes at the front
 three_are : (bytes : List ℕ) → quotes 3 bytes ≡ 3 → (bs : List ℕ) × (bytes ≡ 39 ∷ 39 ∷ 39 ∷ bs)
@@ -223,22 +235,24 @@ verbatim_is_good os l at bs (Some n) h =
     let whole : 39 ∷ 39 ∷ 39 ∷ bs ≡ (39 ∷ 39 ∷ 39 ∷ (w ++ closing)) ++ drop q tail = ap (λ xs. 39 ∷ 39 ∷ 39 ∷ xs) (h.2 ∙ ap (λ xs. w ++ xs) (sym seam) ∙ sym (append_assoc w closing (drop q tail))) in
     let all : n + 3 ≡ suc (suc (suc (length (w ++ closing)))) = omega (arith, h.5, count, length-append w closing) in
     let same : length closing ≡ quotes 5 (closing ++ drop q tail) = count ∙ ap (quotes 5) (sym seam) in
-    let three : 3 ≤ length closing = grind (arith, nat_tests, h.4, count) in
-    (split_word os l at k.VerbatimText turn.Stays (39 ∷ 39 ∷ 39 ∷ (w ++ closing)) (drop q tail) (39 ∷ 39 ∷ 39 ∷ bs) (n + 3) whole all
-      (verbatim_word refl refl w closing refl (subst (Throughout three_quotes false w) (sym seam) h.3) same three), refl)
+    let three : 3 ≤ length closing = grind (arith, nat_tests, h.4, count) in (
+      split_word os l at k.VerbatimText turn.Stays (39 ∷ 39 ∷ 39 ∷ (w ++ closing)) (drop q tail) (39 ∷ 39 ∷ 39 ∷ bs) (n + 3) whole all
+          (verbatim_word refl refl w closing refl (subst (Throughout three_quotes false w) (sym seam) h.3) same three),
+      refl,
+    )
 
 text_front_good : (os : List Open) (l : Line) (at b : ℕ) (bs : List ℕ) → eqb b 39 ≡ true → OnGood os l at (text_front at os (b ∷ bs)) (b ∷ bs)
 unfolding text_front
 text_front_good os l at b bs h =
     if_else (λ o. OnGood os l at o (b ∷ bs)) (eqb (quotes 3 (b ∷ bs)) 3) _ _
-      (λ y.
-        let three = three_are (b ∷ bs) (eqb-true (quotes 3 (b ∷ bs)) 3 y) in
-        subst (λ xs. OnGood os l at (verbatim at os (verbatim_length (drop 3 xs))) xs) (sym three.1)
-          (verbatim_is_good os l at three.0 (verbatim_length three.0) (verbatim_good three.0)))
-      (λ short.
-        let is = eqb-true b 39 h in
-        subst (λ x. OnGood os l at (piece at at os (k.Text, turn.Stays) (k.LeftPiece, turn.Opens (opened.Text at)) (piece_end false bs)) (x ∷ bs)) (sym is)
-          (text_good os l at bs (piece_end false bs) (subst (λ x. quotes 3 (x ∷ bs) == 3 ≡ false) is short) (inside_good false bs)))
+    (λ y.
+    let three = three_are (b ∷ bs) (eqb-true (quotes 3 (b ∷ bs)) 3 y) in
+    subst (λ xs. OnGood os l at (verbatim at os (verbatim_length (drop 3 xs))) xs) (sym three.1)
+    (verbatim_is_good os l at three.0 (verbatim_length three.0) (verbatim_good three.0)))
+    (λ short.
+    let is = eqb-true b 39 h in
+    subst (λ x. OnGood os l at (piece at at os (k.Text, turn.Stays) (k.LeftPiece, turn.Opens (opened.Text at)) (piece_end false bs)) (x ∷ bs)) (sym is)
+    (text_good os l at bs (piece_end false bs) (subst (λ x. quotes 3 (x ∷ bs) == 3 ≡ false) is short) (inside_good false bs)))
 
 close_good : (os : List Open) (l : Line) (at : ℕ) (bs : List ℕ) (o : Option Open) → innermost os ≡ o → OnGood os l at (closed at os o (125 ∷ bs)) (125 ∷ bs)
 close_good os l at bs None top = (lone_brace refl refl top refl, refl)
@@ -251,10 +265,10 @@ line_good [] = (tt, inl refl)
 line_good (b ∷ bs) =
     let r = line_good bs in
     if_else (λ n. IsLine (take n (b ∷ bs)) (drop n (b ∷ bs))) (eqb (newline_length (b ∷ bs)) 0) _ _
-      (λ y.
-        let seam : take (line_length bs) bs ++ drop (line_length bs) bs ≡ bs = take-append-drop (line_length bs) bs in
-        ((subst (λ xs. ends_line (b ∷ xs) ≡ false) (sym seam) (ap not y), r.0), r.1))
-      (λ n. (tt, inr (ap not n)))
+    (λ y.
+    let seam : take (line_length bs) bs ++ drop (line_length bs) bs ≡ bs = take-append-drop (line_length bs) bs in
+    ((subst (λ xs. ends_line (b ∷ xs) ≡ false) (sym seam) (ap not y), r.0), r.1))
+    (λ n. (tt, inr (ap not n)))
 
 slash_line : (bs : List ℕ) → line_length (47 ∷ bs) ≡ suc (line_length bs)
 slash_line bs = refl
@@ -304,7 +318,7 @@ comment_is_good os l at bs (Some n) h =
     let all : n + 2 ≡ suc (suc (length (w ++ 42 ∷ 47 ∷ []))) = omega (arith, count) in
     let word_is : w ++ 42 ∷ 47 ∷ [] ≡ take n bs = sym (ap (λ i. take i bs) count ∙ ap (take (length (w ++ 42 ∷ 47 ∷ []))) whole ∙ take_seam (w ++ 42 ∷ 47 ∷ []) rest) in
     split_skipped l (behind_comment l (take n bs)) (47 ∷ 42 ∷ (w ++ 42 ∷ 47 ∷ [])) rest (47 ∷ 42 ∷ bs) (n + 2) (ap (λ xs. 47 ∷ 42 ∷ xs) whole) all
-      (comment w (ap (behind_comment l) (sym word_is)) refl h.3)
+    (comment w (ap (behind_comment l) (sym word_is)) refl h.3)
 
 comment_front_good : (os : List Open) (l : Line) (at : ℕ) (bs : List ℕ) → OnGood os l at (comment_front at os l (47 ∷ 42 ∷ bs)) (47 ∷ 42 ∷ bs)
 unfolding comment_front
@@ -314,18 +328,18 @@ comment_front_good os l at bs = comment_is_good os l at bs (comment_length bs) (
 line_end_are : (b : ℕ) (bs : List ℕ) → not (eqb (newline_length (b ∷ bs)) 0) ≡ true → (w : List ℕ) × (rest : List ℕ) × (b ∷ bs ≡ w ++ rest) × (newline_length (b ∷ bs) ≡ length w) × IsLineEnd w
 line_end_are b bs =
     if_else (λ n. not (eqb n 0) ≡ true → (w : List ℕ) × (rest : List ℕ) × (b ∷ bs ≡ w ++ rest) × (n ≡ length w) × IsLineEnd w) (eqb b 10) _ _
-      (λ y h. (10 ∷ [], bs, ap (λ x. x ∷ bs) (eqb-true b 10 y), refl, inl refl))
-      (λ n. second b bs)
+    (λ y h. (10 ∷ [], bs, ap (λ x. x ∷ bs) (eqb-true b 10 y), refl, inl refl))
+    (λ n. second b bs)
   where
     second : (b : ℕ) (bs : List ℕ) → not (eqb (cond (eqb b 13 && begins_with 10 bs) 2 0) 0) ≡ true → (w : List ℕ) × (rest : List ℕ) × (b ∷ bs ≡ w ++ rest) × (cond (eqb b 13 && begins_with 10 bs) 2 0 ≡ length w) × IsLineEnd w
     second b [] h = absurd (elim (eqb b 13) as (λ k. not (eqb (cond (k && false) 2 0) 0) ≡ true → ⊥) [ true ↦ λ e. cc | false ↦ λ e. cc ] h)
     second b (c ∷ bs) ends =
         (if_else (λ n. not (eqb n 0) ≡ true → (w : List ℕ) × (rest : List ℕ) × (b ∷ c ∷ bs ≡ w ++ rest) × (n ≡ length w) × IsLineEnd w) (eqb b 13 && eqb c 10) _ _
-          (λ y h.
-            let first : b ≡ 13 = grind (arith, nat_tests) in
-            let next : c ≡ 10 = grind (arith, nat_tests) in
-            (13 ∷ 10 ∷ [], bs, ap (λ x. x ∷ c ∷ bs) first ∙ ap (λ x. 13 ∷ x ∷ bs) next, refl, inr refl))
-          (λ n h. absurd cc)) ends
+        (λ y h.
+        let first : b ≡ 13 = grind (arith, nat_tests) in
+        let next : c ≡ 10 = grind (arith, nat_tests) in
+        (13 ∷ 10 ∷ [], bs, ap (λ x. x ∷ c ∷ bs) first ∙ ap (λ x. 13 ∷ x ∷ bs) next, refl, inr refl))
+        (λ n h. absurd cc)) ends
 
 newline_good : (os : List Open) (l : Line) (at : ℕ) (w rest bytes : List ℕ) (n : ℕ) → bytes ≡ w ++ rest → n ≡ length w → IsLineEnd w → OnGood os l at (newline_front l n) bytes
 newline_good os line.Folded at w rest bytes n is count h = split_skipped line.Folded line.Folded w rest bytes n is count (folded refl refl h)
@@ -368,11 +382,11 @@ by_good os l at b bs =
     if_else P (is_ascii_digit b) _ _ (λ y. number_good os l at b bs y) (λ n.
     if_else P (eqb b 39) _ _ (λ y. text_front_good os l at b bs y) (λ n.
     if_else P (opens_comment 47 (b ∷ bs)) _ _
-      (λ y. let s = slashes_are 47 b bs y in subst (λ xs. OnGood os l at (Ok (front.Skipped (line_length xs) l)) xs) (sym s.1) (line_comment_good os l at s.0)) (λ slashes.
+    (λ y. let s = slashes_are 47 b bs y in subst (λ xs. OnGood os l at (Ok (front.Skipped (line_length xs) l)) xs) (sym s.1) (line_comment_good os l at s.0)) (λ slashes.
     if_else P (opens_comment 42 (b ∷ bs)) _ _
-      (λ y. let s = slashes_are 42 b bs y in subst (λ xs. OnGood os l at (comment_front at os l xs) xs) (sym s.1) (comment_front_good os l at s.0)) (λ star.
+    (λ y. let s = slashes_are 42 b bs y in subst (λ xs. OnGood os l at (comment_front at os l xs) xs) (sym s.1) (comment_front_good os l at s.0)) (λ star.
     if_else P (not (eqb (newline_length (b ∷ bs)) 0)) _ _
-      (λ y. let s = line_end_are b bs y in newline_good os l at s.0 s.1 (b ∷ bs) (newline_length (b ∷ bs)) s.2 s.3 s.4) (λ n.
+    (λ y. let s = line_end_are b bs y in newline_good os l at s.0 s.1 (b ∷ bs) (newline_length (b ∷ bs)) s.2 s.3 s.4) (λ n.
     if_else P (eqb b 35) _ _ (λ y. subst (λ x. OnGood os l at (directive_front at l (x ∷ bs)) (x ∷ bs)) (sym (eqb-true b 35 y)) (directive_good os l at bs)) (λ n.
     if_else P (eqb b 123) _ _ (λ y. (open_brace refl refl (ap (λ x. x ∷ []) (eqb-true b 123 y)), refl)) (λ n.
     if_else P (eqb b 125) _ _ (λ y. subst (λ x. OnGood os l at (closed at os (innermost os) (x ∷ bs)) (x ∷ bs)) (sym (eqb-true b 125 y)) (close_good os l at bs (innermost os) refl)) (λ n.
@@ -406,21 +420,23 @@ token_row : (os : List Open) (l : Line) (at : ℕ) (bytes : List ℕ) (kind : To
 token_row os l at bytes kind n t ts more within is word_is r =
     let ps = r.0 in
     let w = take n bytes in
-    let count : n ≡ length w = sym (length-take-le n bytes within) in
-    (token kind w t ∷ ps
-    , ap (λ xs. w ++ xs) r.1 ∙ take-append-drop n bytes
-    , (subst (λ xs. IsWord os l at kind w xs t) (sym r.1) word_is, subst (λ i. InARow (turned t os) (behind_token kind) (at + i) ps) count r.2)
-    , is ∙ ap (λ xs. (kind, at, w) ∷ xs) (r.3 ∙ ap (λ i. tokens_of (at + i) ps) count))
+    let count : n ≡ length w = sym (length-take-le n bytes within) in (
+      token kind w t ∷ ps,
+      ap (λ xs. w ++ xs) r.1 ∙ take-append-drop n bytes,
+      (subst (λ xs. IsWord os l at kind w xs t) (sym r.1) word_is, subst (λ i. InARow (turned t os) (behind_token kind) (at + i) ps) count r.2),
+      is ∙ ap (λ xs. (kind, at, w) ∷ xs) (r.3 ∙ ap (λ i. tokens_of (at + i) ps) count),
+    )
 
 skip_row : (os : List Open) (l next : Line) (at : ℕ) (bytes : List ℕ) (n : ℕ) (ts : List Standing) → n ≤ length bytes → IsSkipped l (take n bytes) (drop n bytes) next → RowOf os next (at + n) (drop n bytes) ts → RowOf os l at bytes ts
 skip_row os l next at bytes n ts within skipped r =
     let ps = r.0 in
     let w = take n bytes in
-    let count : n ≡ length w = sym (length-take-le n bytes within) in
-    (skip w next ∷ ps
-    , ap (λ xs. w ++ xs) r.1 ∙ take-append-drop n bytes
-    , (subst (λ xs. IsSkipped l w xs next) (sym r.1) skipped, subst (λ i. InARow os next (at + i) ps) count r.2)
-    , r.3 ∙ ap (λ i. tokens_of (at + i) ps) count)
+    let count : n ≡ length w = sym (length-take-le n bytes within) in (
+      skip w next ∷ ps,
+      ap (λ xs. w ++ xs) r.1 ∙ take-append-drop n bytes,
+      (subst (λ xs. IsSkipped l w xs next) (sym r.1) skipped, subst (λ i. InARow os next (at + i) ps) count r.2),
+      r.3 ∙ ap (λ i. tokens_of (at + i) ps) count,
+    )
 
 -- the same for all that is shorter
 abbrev RowsBelow : ℕ → Type 0
@@ -430,16 +446,16 @@ front_row : (m : ℕ) → RowsBelow m → (os : List Open) (l : Line) (at : ℕ)
 front_row m rows os l at bytes ts (Err f) most span good h = absurd cc
 front_row m rows os l at bytes ts (Ok (front.Skipped n next)) most span good h =
     skip_row os l next at bytes n ts span.1 good
-      (rows os next (at + n) (drop n bytes) ts (omega (arith, length-drop n bytes, span.0, most)) h)
+    (rows os next (at + n) (drop n bytes) ts (omega (arith, length-drop n bytes, span.0, most)) h)
 front_row m rows os l at bytes ts (Ok (front.Newline n)) most span good h =
     let b = before_ok (k.Newline, at, take n bytes) (reading_from 0 (at + n) os line.Folded (drop n bytes)) ts h in
     token_row os l at bytes k.Newline n turn.Stays ts b.0 span.within b.2 good
-      (rows os line.Folded (at + n) (drop n bytes) b.0 (omega (arith, length-drop n bytes, span.some, most)) b.1)
+    (rows os line.Folded (at + n) (drop n bytes) b.0 (omega (arith, length-drop n bytes, span.some, most)) b.1)
 front_row m rows os l at bytes ts (Ok (front.Word kind n t)) most span good h =
     let b = before_ok (kind, at, take n bytes) (reading_from 0 (at + n) (turned t os) line.Within (drop n bytes)) ts h in
     token_row os l at bytes kind n t ts b.0 span.within b.2 good.0
-      (subst (λ x. RowOf (turned t os) x (at + n) (drop n bytes) b.0) (sym good.1)
-        (rows (turned t os) line.Within (at + n) (drop n bytes) b.0 (omega (arith, length-drop n bytes, span.some, most)) b.1))
+    (subst (λ x. RowOf (turned t os) x (at + n) (drop n bytes) b.0) (sym good.1)
+    (rows (turned t os) line.Within (at + n) (drop n bytes) b.0 (omega (arith, length-drop n bytes, span.some, most)) b.1))
 
 row_of : (m : ℕ) → RowsBelow m
 row_of m os l at [] ts most h =
@@ -449,7 +465,7 @@ row_of zero os l at (b ∷ bs) ts most h = absurd (omega arith)
 row_of (suc m) os l at (b ∷ bs) ts most h =
     let bytes = b ∷ bs in
     front_row m (row_of m) os l at bytes ts (front_of at os l bytes) most (front_span at os l bytes) (front_good os l at bytes)
-      (sym (read_front at os l bytes (omega arith)) ∙ h)
+    (sym (read_front at os l bytes (omega arith)) ∙ h)
 
 mark-within : (source : List ℕ) → mark_length source ≤ length source
 unfolding mark_length
@@ -468,9 +484,11 @@ sound source tokens h =
     let bytes = drop n source in
     let count : n ≡ length (take n source) = sym (length-take-le n source within) in
     let read : reading_from 0 n [] line.Front bytes ≡ Ok tokens = ap (λ i. reading_from 0 i [] line.Front bytes) (sym e) ∙ sym (reading-skip n 0 [] line.Front source within) ∙ h in
-    let r = row_of (length bytes) [] line.Front n bytes tokens (omega arith) read in
-    (take n source, r.0
-    , sym (ap (λ xs. take n source ++ xs) r.1 ∙ take-append-drop n source)
-    , sym count
-    , subst (λ i. InARow [] line.Front i r.0) count r.2
-    , r.3 ∙ ap (λ i. tokens_of i r.0) count)
+    let r = row_of (length bytes) [] line.Front n bytes tokens (omega arith) read in (
+      take n source,
+      r.0,
+      sym (ap (λ xs. take n source ++ xs) r.1 ∙ take-append-drop n source),
+      sym count,
+      subst (λ i. InARow [] line.Front i r.0) count r.2,
+      r.3 ∙ ap (λ i. tokens_of i r.0) count,
+    )

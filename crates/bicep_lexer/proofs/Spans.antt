@@ -143,8 +143,8 @@ verbatim_reaches : (bs : List ℕ) → OnCount (verbatim_length bs) bs
 verbatim_reaches [] = tt
 verbatim_reaches (b ∷ bs) =
     if_else (λ o. OnCount o (b ∷ bs)) (nat_le 3 (quotes 5 (b ∷ bs))) _ _
-      (λ y. quotes_reach 5 (b ∷ bs) (grind (arith, nat_tests)))
-      (λ n. count_further b (verbatim_length bs) bs (verbatim_reaches bs))
+    (λ y. quotes_reach 5 (b ∷ bs) (grind (arith, nat_tests)))
+    (λ n. count_further b (verbatim_length bs) bs (verbatim_reaches bs))
 
 -- three quotes at the front of what reaches that far
 verbatim_span : (at : ℕ) (os : List Open) (bytes : List ℕ) (o : Option ℕ) → 3 ≤ length bytes → get_or bytes 0 0 < 128 → OnCount o (drop 3 bytes) → OnFront (verbatim at os o) bytes
@@ -162,11 +162,11 @@ text_span : (at b : ℕ) (os : List Open) (bs : List ℕ) → b < 128 → OnFron
 unfolding text_front
 text_span at b os bs small =
     if_else (λ o. OnFront o (b ∷ bs)) (eqb (quotes 3 (b ∷ bs)) 3) _ _
-      (λ y.
-        let three : quotes 3 (b ∷ bs) ≡ 3 = eqb-true (quotes 3 (b ∷ bs)) 3 y in
-        let r : Reaches (quotes 3 (b ∷ bs)) (b ∷ bs) = quotes_reach 3 (b ∷ bs) (omega (arith, three)) in
-        verbatim_span at os (b ∷ bs) (verbatim_length (drop 3 (b ∷ bs))) (omega (arith, three, r.1)) small (verbatim_reaches (drop 3 (b ∷ bs))))
-      (λ n. piece_span at at b os _ _ (piece_end false bs) bs small (end_reaches false bs))
+    (λ y.
+    let three : quotes 3 (b ∷ bs) ≡ 3 = eqb-true (quotes 3 (b ∷ bs)) 3 y in
+    let r : Reaches (quotes 3 (b ∷ bs)) (b ∷ bs) = quotes_reach 3 (b ∷ bs) (omega (arith, three)) in
+    verbatim_span at os (b ∷ bs) (verbatim_length (drop 3 (b ∷ bs))) (omega (arith, three, r.1)) small (verbatim_reaches (drop 3 (b ∷ bs))))
+    (λ n. piece_span at at b os _ _ (piece_end false bs) bs small (end_reaches false bs))
 
 one_span : (b : ℕ) (bs : List ℕ) → b < 128 → IsSpan 1 (b ∷ bs)
 one_span b bs small = record { some = omega arith; within = omega arith; first = small; last = small }
@@ -195,15 +195,19 @@ comment_reaches bs n h = within (comment_length bs) n h (bound bs)
     Within : Option ℕ → List ℕ → Type 0
     Within None bs = Unit {0}
     Within (Some n) bs = n ≤ length bs
+
     room : (b : ℕ) (bs : List ℕ) → closes_comment (b ∷ bs) ≡ true → 2 ≤ suc (length bs)
     room b [] h = absurd (elim (eqb b 42) as (λ k. (k && false) ≡ true → ⊥) [ true ↦ λ e. cc | false ↦ λ e. cc ] h)
     room b (c ∷ bs) h = omega arith
+
     further_on : (b : ℕ) (o : Option ℕ) (bs : List ℕ) → Within o bs → Within (option_map suc o) (b ∷ bs)
     further_on b None bs h = tt
     further_on b (Some n) bs h = omega (arith, h)
+
     bound : (bs : List ℕ) → Within (comment_length bs) bs
     bound [] = tt
     bound (b ∷ bs) = if_else (λ o. Within o (b ∷ bs)) (closes_comment (b ∷ bs)) _ _ (λ y. room b bs y) (λ n. further_on b (comment_length bs) bs (bound bs))
+
     within : (o : Option ℕ) (n : ℕ) → o ≡ Some n → Within o bs → n ≤ length bs
     within None n e h = absurd (cc)
     within (Some m) n e h = let same : m ≡ n = cc in omega (arith, same, h)
@@ -229,15 +233,15 @@ line_span b bs l lf cr = (line_some b bs (no_newline b bs lf cr), line_within (b
 newline_is_span : (b : ℕ) (bs : List ℕ) → not (eqb (newline_length (b ∷ bs)) 0) ≡ true → IsSpan (newline_length (b ∷ bs)) (b ∷ bs)
 newline_is_span b [] =
     if_else (λ n. not (eqb n 0) ≡ true → IsSpan n (b ∷ [])) (eqb b 10) _ _
-      (λ y h. one_span b [] (subst Small (sym (eqb-true b 10 y)) (omega arith)))
-      (λ n. elim (eqb b 13) as (λ k. not (eqb (cond (k && false) 2 0) 0) ≡ true → IsSpan (cond (k && false) 2 0) (b ∷ [])) [ true ↦ λ h. absurd cc | false ↦ λ h. absurd cc ])
+    (λ y h. one_span b [] (subst Small (sym (eqb-true b 10 y)) (omega arith)))
+    (λ n. elim (eqb b 13) as (λ k. not (eqb (cond (k && false) 2 0) 0) ≡ true → IsSpan (cond (k && false) 2 0) (b ∷ [])) [ true ↦ λ h. absurd cc | false ↦ λ h. absurd cc ])
 newline_is_span b (c ∷ bs) =
     if_else (λ n. not (eqb n 0) ≡ true → IsSpan n (b ∷ c ∷ bs)) (eqb b 10) _ _
-      (λ y h. one_span b (c ∷ bs) (subst Small (sym (eqb-true b 10 y)) (omega arith)))
-      (λ n. if_else (λ n. not (eqb n 0) ≡ true → IsSpan n (b ∷ c ∷ bs)) (eqb b 13 && eqb c 10) _ _
-        (λ y h. let small : b < 128 = grind (arith, nat_tests) in let small' : c < 128 = grind (arith, nat_tests) in
-          record { some = omega arith; within = omega arith; first = small; last = small' })
-        (λ n h. absurd cc))
+    (λ y h. one_span b (c ∷ bs) (subst Small (sym (eqb-true b 10 y)) (omega arith)))
+    (λ n. if_else (λ n. not (eqb n 0) ≡ true → IsSpan n (b ∷ c ∷ bs)) (eqb b 13 && eqb c 10) _ _
+    (λ y h. let small : b < 128 = grind (arith, nat_tests) in let small' : c < 128 = grind (arith, nat_tests) in
+    record { some = omega arith; within = omega arith; first = small; last = small' })
+    (λ n h. absurd cc))
 
 newline_span : (b : ℕ) (bs : List ℕ) (l : Line) → not (eqb (newline_length (b ∷ bs)) 0) ≡ true → OnFront (newline_front l (newline_length (b ∷ bs))) (b ∷ bs)
 newline_span b bs line.Folded h = let s = newline_is_span b bs h in (s.some, s.within)
@@ -283,8 +287,8 @@ single_small b =
 small_two : (a b x z : ℕ) → x < 128 → z < 128 → (eqb a x && eqb b z) ≡ true → (a < 128) × (b < 128)
 small_two a b x z small small' h =
     elim (eqb a x) as (λ k. eqb a x ≡ k → (k && eqb b z) ≡ true → (a < 128) × (b < 128)) [
-      true ↦ λ e h. (small_one a x small e, small_one b z small' h)
-    | false ↦ λ e h. absurd cc
+      | true ↦ λ e h. (small_one a x small e, small_one b z small' h)
+      | false ↦ λ e h. absurd cc
     ] refl h
 
 double_small : (a b : ℕ) → IfMark (double_mark a b) ((a < 128) × (b < 128))

@@ -48,7 +48,11 @@ pub fn closed_number(bytes: &[u8]) -> Option<u32>
 fn scalar_of(number: u32) -> Option<u32>
     ensures { result ≡ scalar_of number }
 {
-    if number < 0xd800 || (number >= 0xe000 && number < 0x11_0000) { Some(number) } else { None }
+    if number < 0xd800 || (number >= 0xe000 && number < 0x11_0000) {
+        Some(number)
+    } else {
+        None
+    }
 }
 
 /// The character of `{h}` at the front, with one to six hexadecimal digits.

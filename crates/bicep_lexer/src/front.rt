@@ -86,7 +86,14 @@ fn number_front(bytes: &[u8], at: usize) -> Result<Front, LexFault>
     }
 }
 
-fn piece(quote: usize, at: usize, opened: &[Open], last: (TokenKind, Turn), other: (TokenKind, Turn), end: PieceEnd) -> Result<Front, LexFault>
+fn piece(
+    quote: usize,
+    at: usize,
+    opened: &[Open],
+    last: (TokenKind, Turn),
+    other: (TokenKind, Turn),
+    end: PieceEnd,
+) -> Result<Front, LexFault>
     requires { at + (counted end + 1) < 2 ^ 64 }
     ensures { result ≡ piece quote at opened.now last other end }
 {
@@ -112,7 +119,14 @@ fn text_front(bytes: &[u8], at: usize, opened: &[Open]) -> Result<Front, LexFaul
         }
     } else {
         let end = piece_end(&bytes[1..]);
-        piece(at, at, opened, (TokenKind::Text, Turn::Stays), (TokenKind::LeftPiece, Turn::Opens(Open::Text(at))), end)
+        piece(
+            at,
+            at,
+            opened,
+            (TokenKind::Text, Turn::Stays),
+            (TokenKind::LeftPiece, Turn::Opens(Open::Text(at))),
+            end,
+        )
     }
 }
 
@@ -127,7 +141,14 @@ fn close_front(bytes: &[u8], at: usize, opened: &[Open]) -> Result<Front, LexFau
         Some(Open::Brace) => Ok(Front::Word(TokenKind::CloseBrace, 1, Turn::Closes)),
         Some(Open::Text(quote)) => {
             let end = piece_end(&bytes[1..]);
-            piece(quote, at, opened, (TokenKind::RightPiece, Turn::Closes), (TokenKind::MiddlePiece, Turn::Stays), end)
+            piece(
+                quote,
+                at,
+                opened,
+                (TokenKind::RightPiece, Turn::Closes),
+                (TokenKind::MiddlePiece, Turn::Stays),
+                end,
+            )
         }
     }
 }

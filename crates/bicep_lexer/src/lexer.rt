@@ -29,7 +29,11 @@ fn mark_length(bytes: &[u8]) -> usize
     ensures value { result ≡ mark_length bytes.now }
     ensures bound { result ≤ length bytes.now }
 {
-    if bytes.starts_with(&[0xef, 0xbb, 0xbf]) { 3 } else { 0 }
+    if bytes.starts_with(&[0xef, 0xbb, 0xbf]) {
+        3
+    } else {
+        0
+    }
 }
 
 fn slice_at(text: &str, at: usize, count: usize) -> &str
@@ -49,7 +53,11 @@ impl<'a> Lexer<'a> {
         ensures err { IfErr result (λ f. f ≡ OutOfMemory) }
     {
         let text = slice_at(self.text, self.at, count);
-        let token = Token { kind, at: self.at, text };
+        let token = Token {
+            kind,
+            at: self.at,
+            text,
+        };
         self.found.push(token).map_err(|_| LexFault::OutOfMemory)?;
         self.at += count;
         Ok(())
@@ -121,7 +129,13 @@ fn read<'a>(alloc: Global, text: &'a str) -> Result<Vec<Token<'a>>, LexFault>
     ensures fault { IfErr result (λ f. f ≢ OutOfMemory → reading text.now ≡ Err f) }
 {
     let at = mark_length(text.as_bytes());
-    let mut lexer = Lexer { text, at, line: Line::Front, opened: Vec::new(alloc), found: Vec::new(alloc) };
+    let mut lexer = Lexer {
+        text,
+        at,
+        line: Line::Front,
+        opened: Vec::new(alloc),
+        found: Vec::new(alloc),
+    };
     while lexer.at < text.len() {
         match lexer.step() {
             Ok(()) => {}

@@ -12,9 +12,9 @@ mod front;
 mod kind;
 mod lexer;
 mod marks;
-mod skipped;
 #[cfg(test)]
 mod samples;
+mod skipped;
 #[cfg(test)]
 mod tests;
 mod texts;

@@ -60,13 +60,19 @@ fn shapes(alloc: Global, source: &str) -> Result<String, LexFault> {
     };
     let mut all = String::new(alloc);
     for token in &found {
-        all.push_str(shape(token.kind)).map_err(|_| LexFault::OutOfMemory)?;
+        all.push_str(shape(token.kind))
+            .map_err(|_| LexFault::OutOfMemory)?;
     }
     Ok(all)
 }
 
 // The lines in a row, and their shapes.
-fn joined(alloc: Global, front: &str, newline: &str, lines: &[(&str, &str)]) -> Result<(String, String), AllocError> {
+fn joined(
+    alloc: Global,
+    front: &str,
+    newline: &str,
+    lines: &[(&str, &str)],
+) -> Result<(String, String), AllocError> {
     let mut source = String::new(alloc);
     let mut expected = String::new(alloc);
     source.push_str(front)?;
@@ -81,11 +87,20 @@ fn joined(alloc: Global, front: &str, newline: &str, lines: &[(&str, &str)]) -> 
 #[test]
 fn everyday_files_have_their_tokens(rt: HostRuntime) -> Result<(), Fail> {
     let (source, expected) = joined(rt.alloc(), "", "\n", &STORAGE)?;
-    assert_eq!(rt; shapes(rt.alloc(), source.as_str())?.as_str(), expected.as_str());
+    assert_eq!(rt;
+        shapes(rt.alloc(), source.as_str())?.as_str(),
+        expected.as_str()
+    );
     let (source, expected) = joined(rt.alloc(), "", "\n", &NETWORK)?;
-    assert_eq!(rt; shapes(rt.alloc(), source.as_str())?.as_str(), expected.as_str());
+    assert_eq!(rt;
+        shapes(rt.alloc(), source.as_str())?.as_str(),
+        expected.as_str()
+    );
     let (source, expected) = joined(rt.alloc(), "\u{feff}", "\r\n", &SITE)?;
-    assert_eq!(rt; shapes(rt.alloc(), source.as_str())?.as_str(), expected.as_str());
+    assert_eq!(rt;
+        shapes(rt.alloc(), source.as_str())?.as_str(),
+        expected.as_str()
+    );
     Ok(())
 }
 
@@ -141,7 +156,12 @@ fn faults_stand_where_they_are(rt: HostRuntime) -> Result<(), Fail> {
 
 // Sources with their shapes, and the place and the text of their last token.
 const LAST: [(&str, &str, usize, &str); 12] = [
-    ("'1${'2${'3${'4${'5${x}e'}d'}c'}b'}a'", "lllllnrrrrr", 33, "}a'"),
+    (
+        "'1${'2${'3${'4${'5${x}e'}d'}c'}b'}a'",
+        "lllllnrrrrr",
+        33,
+        "}a'",
+    ),
     ("'a${b}c${d}e'", "lnmnr", 10, "}e'"),
     ("a\r\n\n // c\n/* d */\r\n", "n\n", 1, "\r\n"),
     ("a // c\r\n\n", "n\n", 6, "\r\n"),
@@ -162,21 +182,30 @@ fn tokens_are_slices_of_their_source(rt: HostRuntime) -> Result<(), Fail> {
         let found = tokens(rt.alloc(), row.0)?;
         let last = found.as_slice().last().ok_or("no token")?;
         assert_eq!(rt; last.at, row.2, "{}", row.0);
-        assert!(rt; last.text == row.3, "{}", row.0);
+        let text = String::from_str(rt.alloc(), last.text)?;
+        assert_eq!(rt; text.as_str(), row.3, "{}", row.0);
     }
     Ok(())
 }
 
 // Sources, and what their first and their last token mean.
 const VALUES: [(&str, &str, &str); 9] = [
-    ("'a\\'b\\\\c\\$d\\n\\r\\t\\u{1F600}$'x", "a'b\\c$d\n\r\t\u{1F600}$", "x"),
+    (
+        "'a\\'b\\\\c\\$d\\n\\r\\t\\u{1F600}$'x",
+        "a'b\\c$d\n\r\t\u{1F600}$",
+        "x",
+    ),
     ("'a\\t${x}c\\\\'", "a\t", "c\\"),
     ("'${x}-${y}'''", "", ""),
     ("''''x'''", "'x", "'x"),
     ("'''\r\na\r\n'''", "a\r\n", "a\r\n"),
     ("'''\n\na\\t'''''", "\na\\t''", "\na\\t''"),
     ("''''''", "", ""),
-    ("'\\u{41}\u{e9}\\u{0000fc}'", "A\u{e9}\u{fc}", "A\u{e9}\u{fc}"),
+    (
+        "'\\u{41}\u{e9}\\u{0000fc}'",
+        "A\u{e9}\u{fc}",
+        "A\u{e9}\u{fc}",
+    ),
     ("abc 007", "abc", "007"),
 ];
 

@@ -68,7 +68,11 @@ pub fn quotes(most: usize, bytes: &[u8]) -> usize
     ensures value { result ≡ quotes most bytes.now }
     ensures bound { result ≤ length bytes.now }
 {
-    bytes.iter().take(most).take_while(|byte| **byte == b'\'').count()
+    bytes
+        .iter()
+        .take(most)
+        .take_while(|byte| **byte == b'\'')
+        .count()
 }
 
 /// How many bytes a verbatim text still has, its closing quotes included.

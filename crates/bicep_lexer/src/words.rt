@@ -15,7 +15,10 @@ pub fn name_length(bytes: &[u8]) -> usize
 pub fn digits_length(bytes: &[u8]) -> usize
     ensures { result ≡ length (digits_of bytes.now) }
 {
-    bytes.iter().take_while(|byte| byte.is_ascii_digit()).count()
+    bytes
+        .iter()
+        .take_while(|byte| byte.is_ascii_digit())
+        .count()
 }
 
 /// Whether digits write a number below 2^63.

@@ -175,14 +175,25 @@ const LAST: [(&str, &str, usize, &str); 12] = [
     ("'${\n{}}'", "l\n{}r", 6, "}'"),
 ];
 
+// The place and the text of the last token.
+fn last_of(alloc: Global, source: &str) -> Result<(usize, String), Fail> {
+    let found = match tokens(alloc, source) {
+        Ok(found) => found,
+        Err(fault) => return Err(Fail::from(fault)),
+    };
+    let mut last = (0, String::new(alloc));
+    for token in &found {
+        last = (token.at, String::from_str(alloc, token.text)?);
+    }
+    Ok(last)
+}
+
 #[test]
 fn tokens_are_slices_of_their_source(rt: HostRuntime) -> Result<(), Fail> {
     for row in &LAST {
         assert_eq!(rt; shapes(rt.alloc(), row.0)?.as_str(), row.1, "{}", row.0);
-        let found = tokens(rt.alloc(), row.0)?;
-        let last = found.as_slice().last().ok_or("no token")?;
-        assert_eq!(rt; last.at, row.2, "{}", row.0);
-        let text = String::from_str(rt.alloc(), last.text)?;
+        let (at, text) = last_of(rt.alloc(), row.0)?;
+        assert_eq!(rt; at, row.2, "{}", row.0);
         assert_eq!(rt; text.as_str(), row.3, "{}", row.0);
     }
     Ok(())

@@ -1,5 +1,5 @@
 -- What a source spells is its reading.
-use Rattle.std.proofs.Common.{◌≡◌, ◌≢◌, ℕ, suc, ◌+◌, ◌^◌, ◌<◌, ◌≤◌, Bool, true, false, cond, not, ◌&&◌, eqb, nat_lt, nat_le, ◌==◌, List, [], ◌∷◌, ◌++◌, length, take, drop, Option, Some, None, Result, Ok, Err, option_map, is_some, refl, ap, sym, subst, ◌∙◌, append_assoc, arith, ◌⊎◌, inl, inr, length-append}
+use Rattle.std.proofs.Common.{◌≡◌, ◌≢◌, ℕ, suc, ◌+◌, ◌^◌, ◌<◌, ◌≤◌, Bool, true, false, cond, not, ◌&&◌, eqb, nat_lt, nat_le, ◌==◌, List, [], ◌∷◌, ◌++◌, length, take, drop, Option, Some, None, Result, Ok, Err, option_map, is_some, refl, ap, sym, subst, ◌∙◌, append_assoc, arith, ◌⊎◌, inl, inr, length-append, append-nil}
 use Rattle.std.specs.Char.{is_ascii_digit}
 use Rattle.std.specs.List.{prefix_len, take_while}
 use Rattle.std.proofs.lemmas.Bool.{eqb-true}
@@ -23,9 +23,13 @@ use Rattle.bicep_lexer.specs.Escapes.{is_escape}
 use Rattle.bicep_lexer.specs.Marks.{double_mark, single_mark}
 use Rattle.bicep_lexer.specs.Skipped.{newline_length, line_length, closes_comment, comment_length, behind_comment, is_directive}
 use Rattle.bicep_lexer.specs.Texts.{piece_end, further, is_hole, is_break, quotes, verbatim_length}
-use Rattle.bicep_lexer.specs.Fronts.{innermost, word, number_front, piece, verbatim, text_front, closed, close_front, opens_comment, commented, comment_front, newline_front, directive_front, single, double, mark_front, front_of}
-use Rattle.bicep_lexer.specs.Reading.{Standing, turned, before, ended_by, reading_from, reading}
-use Rattle.bicep_lexer.specs.Grammar.{Throughout, begins, IsRun, ends_line, IsLine, IsInside, three_quotes, IsLineEnd, makes_double, IsWord, name, number, newline, text, left, middle, right, verbatim as verbatim_word, open_brace, close_brace, lone_brace, double as double_word, single as single_word, IsSkipped, blank, line_comment, comment, directive, folded, Part, skip, token, bytes_of, tokens_of, behind_token, InARow, Spells}
+use Rattle.bicep_lexer.specs.Fronts.{unfinished, innermost, word, number_front, piece, verbatim, text_front, closed, close_front, opens_comment, commented, comment_front, newline_front, directive_front, single, double, mark_front, front_of}
+use Rattle.bicep_lexer.specs.Reading.{Outcome, Standing, turned, before, ended_by, reading_from, reading}
+use Rattle.bicep_lexer.specs.Grammar.{Throughout, begins, IsRun, ends_line, IsLine, IsInside, three_quotes, IsLineEnd, makes_double, IsWord, name, number, newline, text, left, middle, right, verbatim as verbatim_word, open_brace, close_brace, lone_brace, double as double_word, single as single_word, IsSkipped, blank, line_comment, comment, directive, folded, Part, skip, token, bytes_of, tokens_of, behind_token, InARow, StandsBefore, NoneIsOpen, Spells, AreSlices}
+use Rattle.bicep_lexer.specs.Progress.{behind, OnFront}
+use Rattle.bicep_lexer.proofs.Spans.{front_span}
+use Rattle.std.proofs.lemmas.List.{drop-drop}
+use Rattle.bicep_lexer.specs.Faults.{BeginsPiece, BeginsNothing, IsFault, open_at_end, bad_number, bad_escape, open_at_line, open_at_file, open_verbatim, open_comment, bad_character, Refuses}
 use Rattle.bicep_lexer.proofs.Ends.{if_else}
 use Rattle.bicep_lexer.proofs.Steps.{by_front, read_front, reading-skip}
 
@@ -469,29 +473,196 @@ token_read os l at kind w rest t (word_is within is) =
     ∙ ap (λ xs. before (kind, at, w) (reading_from 0 (at + length w) (turned t os) line.Within xs)) (drop_seam w rest)
     ∙ ap (λ x. before (kind, at, w) (reading_from 0 (at + length w) (turned t os) x rest)) (sym within)
 
-row_is_read : (ps : List Part) (os : List Open) (l : Line) (at : ℕ) → InARow os l at ps → reading_from 0 at os l (bytes_of ps) ≡ Ok (tokens_of at ps)
-row_is_read [] os l at h = ap ended_by h
-row_is_read (skip w next ∷ ps) os l at h =
-    read_by at os l (w ++ bytes_of ps) (front.Skipped (length w) next) (skipped_front os l at w (bytes_of ps) next h.0)
-    ∙ ap (reading_from 0 (at + length w) os next) (drop_seam w (bytes_of ps))
-    ∙ row_is_read ps os next (at + length w) h.1
-row_is_read (token kind w t ∷ ps) os l at h =
-    token_read os l at kind w (bytes_of ps) t (word_front os l at kind w (bytes_of ps) t h.0)
-    ∙ ap (before (kind, at, w)) (row_is_read ps (turned t os) (behind_token kind) (at + length w) h.1)
+behind-more : (t : Standing) (ts : List Standing) (o : Outcome) → before t (behind ts o) ≡ behind (t ∷ ts) o
+behind-more t ts (Ok us) = refl
+behind-more t ts (Err f) = refl
+
+behind-none : (o : Outcome) → behind [] o ≡ o
+behind-none (Ok us) = refl
+behind-none (Err f) = refl
+
+-- parts in a row are read as their tokens, and then the rest as it is read
+row_is_read : (Then : List Open → Line → ℕ → Type 0) (rest : List ℕ) (final : Outcome) → ((os : List Open) (l : Line) (at : ℕ) → Then os l at → reading_from 0 at os l rest ≡ final) → (ps : List Part) (os : List Open) (l : Line) (at : ℕ) → InARow Then rest os l at ps → reading_from 0 at os l (bytes_of ps rest) ≡ behind (tokens_of at ps) final
+row_is_read Then rest final last [] os l at h = last os l at h ∙ sym (behind-none final)
+row_is_read Then rest final last (skip w next ∷ ps) os l at h =
+    read_by at os l (w ++ bytes_of ps rest) (front.Skipped (length w) next) (skipped_front os l at w (bytes_of ps rest) next h.0)
+    ∙ ap (reading_from 0 (at + length w) os next) (drop_seam w (bytes_of ps rest))
+    ∙ row_is_read Then rest final last ps os next (at + length w) h.1
+row_is_read Then rest final last (token kind w t ∷ ps) os l at h =
+    token_read os l at kind w (bytes_of ps rest) t (word_front os l at kind w (bytes_of ps rest) t h.0)
+    ∙ ap (before (kind, at, w)) (row_is_read Then rest final last ps (turned t os) (behind_token kind) (at + length w) h.1)
+    ∙ behind-more (kind, at, w) (tokens_of (at + length w) ps) final
+
+source_is_read : (Then : List Open → Line → ℕ → Type 0) (rest : List ℕ) (final : Outcome) → ((os : List Open) (l : Line) (at : ℕ) → Then os l at → reading_from 0 at os l rest ≡ final) → (source mark : List ℕ) (ps : List Part) → StandsBefore source rest mark ps Then → reading source ≡ behind (tokens_of (length mark) ps) final
+unfolding reading
+source_is_read Then rest final last source mark ps s =
+    let n = length mark in
+    let within : n ≤ length source = omega (arith, length-append mark (bytes_of ps rest), ap length s.is) in
+    let e : 0 + n ≡ n = omega arith in
+    ap (λ i. reading_from i 0 [] line.Front source) (sym s.is_mark)
+    ∙ reading-skip n 0 [] line.Front source within
+    ∙ ap (λ i. reading_from 0 i [] line.Front (drop n source)) e
+    ∙ ap (λ xs. reading_from 0 n [] line.Front (drop n xs)) s.is
+    ∙ ap (reading_from 0 n [] line.Front) (drop_seam mark (bytes_of ps rest))
+    ∙ row_is_read Then rest final last ps [] line.Front n s.row
 
 -- a source that spells tokens is read as them
 pub complete : (source : List ℕ) (tokens : List Standing) → Spells source tokens → reading source ≡ Ok tokens
-unfolding reading
 complete source tokens s =
-    let mark = s.0 in
+    source_is_read NoneIsOpen [] (Ok []) (λ os l at h. ap ended_by h) source s.0 s.1 s.2
+    ∙ ap (λ x. Ok x) (append-nil (tokens_of (length s.0) s.1) ∙ sym s.3)
+
+-- where a digit run is too large
+too_large_front : (at : ℕ) (w bytes : List ℕ) → digits_of bytes ≡ w → 2 ^ 63 ≤ number_from 0 w → number_front at bytes ≡ Err (fault.BadNumber at)
+unfolding number_front
+too_large_front at w bytes is large =
+    let lt : nat_lt (number_from 0 w) (2 ^ 63) ≡ false = grind (arith, nat_tests) in
+    ap (λ ds. cond (nat_lt (number_from 0 ds) (2 ^ 63)) (word k.Number (length ds)) (Err (fault.BadNumber at))) is
+    ∙ passed (nat_lt (number_from 0 w) (2 ^ 63)) _ _ lt
+
+too_large : (at : ℕ) (os : List Open) (l : Line) (b : ℕ) (bs rest : List ℕ) → IsRun is_ascii_digit (b ∷ bs) rest → 2 ^ 63 ≤ number_from 0 (b ∷ bs) → front_of at os l (b ∷ (bs ++ rest)) ≡ Err (fault.BadNumber at)
+unfolding front_of
+too_large at os l b bs rest run large =
+    passed (is_blank b) _ _ (digit_no_blank b run.0.0)
+    ∙ passed (is_letter b) _ _ (digit_no_letter b run.0.0)
+    ∙ taken (is_ascii_digit b) _ _ run.0.0
+    ∙ too_large_front at (b ∷ bs) (b ∷ (bs ++ rest)) (run_is is_ascii_digit (b ∷ bs) rest run.0 run.1) large
+
+-- the front of a piece that ends in a fault
+piece_fault : (at : ℕ) (os : List Open) (l : Line) (b quote : ℕ) (bs : List ℕ) (e : PieceEnd) (f : LexFault) → BeginsPiece os at b (b ∷ bs) quote → piece_end false bs ≡ e → ((last other : TokenKind × Turn) → piece quote at os last other e ≡ Err f) → front_of at os l (b ∷ bs) ≡ Err f
+piece_fault at os l b quote bs e f (inl h) is gives =
+    let bytes : List ℕ → List ℕ = λ xs. xs in
+    ap (λ x. front_of at os l (x ∷ bs)) h.0
+    ∙ quote_front at os l bs
+    ∙ text_is_front at os bs (subst (λ x. quotes 3 (x ∷ bs) == 3 ≡ false) h.0 h.2)
+    ∙ ap (piece at at os (k.Text, turn.Stays) (k.LeftPiece, turn.Opens (opened.Text at))) is
+    ∙ ap (λ q. piece q at os (k.Text, turn.Stays) (k.LeftPiece, turn.Opens (opened.Text at)) e) (sym h.1)
+    ∙ gives (k.Text, turn.Stays) (k.LeftPiece, turn.Opens (opened.Text at))
+piece_fault at os l b quote bs e f (inr h) is gives =
+    ap (λ x. front_of at os l (x ∷ bs)) h.0
+    ∙ close_is_front at os l bs
+    ∙ ap (λ o. closed at os o (125 ∷ bs)) h.1
+    ∙ ap (piece quote at os (k.RightPiece, turn.Closes) (k.MiddlePiece, turn.Stays)) is
+    ∙ gives (k.RightPiece, turn.Closes) (k.MiddlePiece, turn.Stays)
+
+break_ends : (c : ℕ) (rest : List ℕ) → is_break c ≡ true → piece_end false (c ∷ rest) ≡ ends.Line
+break_ends c rest h =
+    passed (eqb c 39) _ _ (no_39 c h) ∙ passed (is_hole c rest) _ _ (ap (λ t. t && begins_with 123 rest) (no_36 c h)) ∙ taken (is_break c) _ _ h
+  where
+    no_39 : (c : ℕ) → is_break c ≡ true → eqb c 39 ≡ false
+    no_39 c h = grind (arith, nat_tests)
+    no_36 : (c : ℕ) → is_break c ≡ true → eqb c 36 ≡ false
+    no_36 c h = grind (arith, nat_tests)
+
+wrong_ends : (rest : List ℕ) → is_escape rest ≡ false → piece_end false (92 ∷ rest) ≡ ends.BadEscape 0
+wrong_ends rest h = passed (is_escape rest) (further 1 (piece_end true rest)) (ends.BadEscape 0) h
+
+open_verbatim_is : (w : List ℕ) → Throughout three_quotes false w [] → verbatim_length w ≡ None
+open_verbatim_is [] h = refl
+open_verbatim_is (b ∷ w) h =
+    passed (nat_le 3 (quotes 5 (b ∷ w))) _ _ (subst (λ xs. three_quotes (b ∷ xs) ≡ false) (append-nil w) h.0)
+    ∙ ap (option_map suc) (open_verbatim_is w h.1)
+
+open_comment_is : (w : List ℕ) → Throughout closes_comment false w [] → comment_length w ≡ None
+open_comment_is [] h = refl
+open_comment_is (b ∷ w) h =
+    passed (closes_comment (b ∷ w)) _ _ (subst (λ xs. closes_comment (b ∷ xs) ≡ false) (append-nil w) h.0)
+    ∙ ap (option_map suc) (open_comment_is w h.1)
+
+open_verbatim_front : (at : ℕ) (os : List Open) (bs : List ℕ) → verbatim_length bs ≡ None → text_front at os (39 ∷ 39 ∷ 39 ∷ bs) ≡ Err (unfinished os (fault.OpenText at))
+unfolding text_front quotes
+open_verbatim_front at os bs h = ap (verbatim at os) h
+
+no_directive_front : (at : ℕ) (l : Line) (bytes : List ℕ) → (l ≢ line.Within → is_directive bytes ≡ false) → directive_front at l bytes ≡ Err (fault.BadCharacter at)
+no_directive_front at line.Within bytes h = refl
+no_directive_front at line.Front bytes h = passed (is_directive bytes) _ _ (h (λ e. cc))
+no_directive_front at line.Folded bytes h = passed (is_directive bytes) _ _ (h (λ e. cc))
+
+-- where no word begins
+nothing_front : (at : ℕ) (os : List Open) (l : Line) (b : ℕ) (bs : List ℕ) → BeginsNothing l b (b ∷ bs) → makes_double b bs ≡ false → front_of at os l (b ∷ bs) ≡ Err (fault.BadCharacter at)
+unfolding front_of
+nothing_front at os l b bs h alone =
+    passed (is_blank b) _ _ h.no_blank
+    ∙ passed (is_letter b) _ _ h.no_letter
+    ∙ passed (is_ascii_digit b) _ _ h.no_digit
+    ∙ passed (eqb b 39) _ _ h.no_quote
+    ∙ passed (opens_comment 47 (b ∷ bs)) _ _ h.no_line_comment
+    ∙ passed (opens_comment 42 (b ∷ bs)) _ _ h.no_comment
+    ∙ passed (not (eqb (newline_length (b ∷ bs)) 0)) _ _ h.no_line_end
+    ∙ if_else (λ o. o ≡ Err (fault.BadCharacter at)) (eqb b 35) _ _
+        (λ y. no_directive_front at l (b ∷ bs) (h.no_directive (eqb-true b 35 y)))
+        (λ n. passed (eqb b 123) _ _ h.no_open_brace ∙ passed (eqb b 125) _ _ h.no_close_brace ∙ single_mark_front at b bs alone ∙ ap (single at) h.no_mark)
+
+fault_read : (at : ℕ) (os : List Open) (l : Line) (bytes : List ℕ) (f : LexFault) → 0 < length bytes → front_of at os l bytes ≡ Err f → reading_from 0 at os l bytes ≡ Err f
+fault_read at os l bytes f some h = read_front at os l bytes some ∙ ap (by_front at os bytes) h
+
+cons_some : (b : ℕ) (bs bytes : List ℕ) → bytes ≡ b ∷ bs → 0 < length bytes
+cons_some b bs bytes h = omega (arith, ap length h)
+
+-- the fault that stands there is read
+fault_is_read : (os : List Open) (l : Line) (at : ℕ) (bytes : List ℕ) (f : LexFault) → IsFault os l at bytes f → reading_from 0 at os l bytes ≡ Err f
+fault_is_read os l at bytes f (open_at_end is quote top told) = ap (λ xs. reading_from 0 at os l xs) is ∙ ap ended_by top ∙ sym (ap (λ x. Err x) told)
+fault_is_read os l at bytes f (bad_number first others rest is run large told) =
+    fault_read at os l bytes f (cons_some first (others ++ rest) bytes is)
+      (ap (front_of at os l) is ∙ too_large at os l first others rest run large ∙ sym (ap (λ x. Err x) told))
+fault_is_read os l at bytes f (bad_escape b quote inside rest opens is ok wrong told) =
+    let n : length inside + 0 ≡ length inside = omega arith in
+    fault_read at os l bytes f (cons_some b (inside ++ 92 ∷ rest) bytes is)
+      (ap (front_of at os l) is
+       ∙ piece_fault at os l b quote (inside ++ 92 ∷ rest) (further (length inside) (ends.BadEscape 0)) f (subst (λ xs. BeginsPiece os at b xs quote) is opens)
+           (inside_ends false inside (92 ∷ rest) (ends.BadEscape 0) ok (wrong_ends rest wrong))
+           (λ last other. ap (λ i. Err (fault.BadEscape (at + (i + 1)))) n ∙ sym (ap (λ x. Err x) told)))
+fault_is_read os l at bytes f (open_at_line b quote inside end rest opens is ok break told) =
+    fault_read at os l bytes f (cons_some b (inside ++ end ∷ rest) bytes is)
+      (ap (front_of at os l) is
+       ∙ piece_fault at os l b quote (inside ++ end ∷ rest) ends.Line f (subst (λ xs. BeginsPiece os at b xs quote) is opens)
+           (inside_ends false inside (end ∷ rest) ends.Line ok (break_ends end rest break))
+           (λ last other. sym (ap (λ x. Err x) told)))
+fault_is_read os l at bytes f (open_at_file b quote inside opens is ok told) =
+    fault_read at os l bytes f (cons_some b inside bytes is)
+      (ap (front_of at os l) is
+       ∙ piece_fault at os l b quote inside ends.File f (subst (λ xs. BeginsPiece os at b xs quote) is opens)
+           (ap (piece_end false) (sym (append-nil inside)) ∙ inside_ends false inside [] ends.File ok refl)
+           (λ last other. sym (ap (λ x. Err x) told)))
+fault_is_read os l at bytes f (open_verbatim inside is ok told) =
+    fault_read at os l bytes f (cons_some 39 (39 ∷ 39 ∷ inside) bytes is)
+      (ap (front_of at os l) is ∙ quote_front at os l (39 ∷ 39 ∷ inside) ∙ open_verbatim_front at os inside (open_verbatim_is inside ok) ∙ sym (ap (λ x. Err x) told))
+fault_is_read os l at bytes f (open_comment inside is ok told) =
+    fault_read at os l bytes f (cons_some 47 (42 ∷ inside) bytes is)
+      (ap (front_of at os l) is ∙ star_front at os l inside ∙ ap (commented at os l (47 ∷ 42 ∷ inside)) (open_comment_is inside ok) ∙ sym (ap (λ x. Err x) told))
+fault_is_read os l at bytes f (bad_character first others is nothing alone told) =
+    fault_read at os l bytes f (cons_some first others bytes is)
+      (ap (front_of at os l) is ∙ nothing_front at os l first others (subst (BeginsNothing l first) is nothing) alone ∙ sym (ap (λ x. Err x) told))
+
+-- a source in which a fault stands is refused for it
+pub refuses : (source : List ℕ) (f : LexFault) → Refuses source f → reading source ≡ Err f
+refuses source f s = source_is_read (λ os l at. IsFault os l at s.2 f) s.2 (Err f) (λ os l at h. fault_is_read os l at s.2 f h) source s.0 s.1 s.3
+
+token_some : (os : List Open) (l : Line) (at : ℕ) (kind : TokenKind) (w rest : List ℕ) (t : Turn) → TokenFront kind (length w) t (front_of at os l (w ++ rest)) → 0 < length w
+token_some os l at kind w rest t (newline_is ks ts is) =
+    let span : OnFront (Ok (front.Newline (length w))) (w ++ rest) = subst (λ o. OnFront o (w ++ rest)) is (front_span at os l (w ++ rest)) in
+    span.some
+token_some os l at kind w rest t (word_is within is) =
+    let span : OnFront (Ok (front.Word kind (length w) t)) (w ++ rest) = subst (λ o. OnFront o (w ++ rest)) is (front_span at os l (w ++ rest)) in
+    span.some
+
+-- what is left behind a word
+left_of : (source w more : List ℕ) (at : ℕ) → drop at source ≡ w ++ more → drop (at + length w) source ≡ more
+left_of source w more at h = sym (drop-drop (length w) at source) ∙ ap (drop (length w)) h ∙ drop_seam w more
+
+slices_of : (source : List ℕ) (Then : List Open → Line → ℕ → Type 0) (rest : List ℕ) (ps : List Part) (from : ℕ) (os : List Open) (l : Line) (at : ℕ) → from ≤ at → drop at source ≡ bytes_of ps rest → InARow Then rest os l at ps → AreSlices source from (tokens_of at ps)
+slices_of source Then rest [] from os l at le h row = tt
+slices_of source Then rest (skip w next ∷ ps) from os l at le h row =
+    slices_of source Then rest ps from os next (at + length w) (omega (arith, le)) (left_of source w (bytes_of ps rest) at h) row.1
+slices_of source Then rest (token kind w t ∷ ps) from os l at le h row =
+    (le
+    , token_some os l at kind w (bytes_of ps rest) t (word_front os l at kind w (bytes_of ps rest) t row.0)
+    , sym (ap (take (length w)) h ∙ take_seam w (bytes_of ps rest))
+    , slices_of source Then rest ps (at + length w) (turned t os) (behind_token kind) (at + length w) (omega arith) (left_of source w (bytes_of ps rest) at h) row.1)
+
+-- the tokens that a source spells are slices of it
+pub slices : (source : List ℕ) (tokens : List Standing) → Spells source tokens → AreSlices source 0 tokens
+slices source tokens s =
     let ps = s.1 in
-    let n = length mark in
-    let within : n ≤ length source = omega (arith, length-append mark (bytes_of ps), ap length s.2) in
-    let e : 0 + n ≡ n = omega arith in
-    ap (λ i. reading_from i 0 [] line.Front source) (sym s.3)
-    ∙ reading-skip n 0 [] line.Front source within
-    ∙ ap (λ i. reading_from 0 i [] line.Front (drop n source)) e
-    ∙ ap (λ xs. reading_from 0 n [] line.Front (drop n xs)) s.2
-    ∙ ap (reading_from 0 n [] line.Front) (drop_seam mark (bytes_of ps))
-    ∙ row_is_read ps [] line.Front n s.4
-    ∙ sym (ap (λ x. Ok x) s.5)
+    subst (AreSlices source 0) (sym s.3)
+      (slices_of source NoneIsOpen [] ps 0 [] line.Front (length s.0) (omega arith) (ap (drop (length s.0)) s.2.is ∙ drop_seam s.0 (bytes_of ps [])) s.2.row)

@@ -1,5 +1,5 @@
 -- What is read is spelled.
-use Rattle.std.proofs.Common.{◌≡◌, ◌≢◌, ℕ, zero, suc, ◌+◌, ◌^◌, ◌<◌, ◌≤◌, Bool, true, false, cond, not, ◌&&◌, ◌||◌, eqb, nat_lt, nat_le, ◌==◌, List, [], ◌∷◌, ◌++◌, length, take, drop, Option, Some, None, Result, Ok, Err, option_map, is_some, refl, ap, sym, subst, ◌∙◌, append_assoc, arith, inl, inr, length-append}
+use Rattle.std.proofs.Common.{◌≡◌, ◌≢◌, ℕ, zero, suc, ◌+◌, ◌^◌, ◌<◌, ◌≤◌, Bool, true, false, cond, not, ◌&&◌, ◌||◌, eqb, nat_lt, nat_le, ◌==◌, List, [], ◌∷◌, ◌++◌, length, take, drop, Option, Some, None, Result, Ok, Err, option_map, is_some, refl, ap, sym, subst, ◌∙◌, append_assoc, arith, inl, inr, length-append, append-nil}
 use Rattle.std.specs.Char.{is_ascii_digit}
 use Rattle.std.specs.List.{prefix_len, take_while}
 use Rattle.std.proofs.lemmas.Bool.{eqb-true}
@@ -9,6 +9,7 @@ use Rattle.std.proofs.lemmas.List.Folds.{length-prefix_len}
 use Rattle.bicep_lexer.specs.declared.kind.TokenKind.{TokenKind}
 use Rattle.bicep_lexer.specs.declared.kind.TokenKind.TheVariants as k
 use Rattle.bicep_lexer.specs.declared.fault.LexFault.{LexFault}
+use Rattle.bicep_lexer.specs.declared.fault.LexFault.TheVariants as fault
 use Rattle.bicep_lexer.specs.declared.front.Open.{Open}
 use Rattle.bicep_lexer.specs.declared.front.Open.TheVariants as opened
 use Rattle.bicep_lexer.specs.declared.front.Line.{Line}
@@ -27,7 +28,8 @@ use Rattle.bicep_lexer.specs.Texts.{piece_end, further, is_hole, is_break, quote
 use Rattle.bicep_lexer.specs.Fronts.{outermost, innermost, word, number_front, piece, verbatim, text_front, closed, close_front, opens_comment, commented, comment_front, newline_front, directive_front, single, double, mark_front, front_by, front_of}
 use Rattle.bicep_lexer.specs.Reading.{Standing, Outcome, turned, before, ended_by, reading_from, mark_length, reading}
 use Rattle.bicep_lexer.specs.Progress.{OnFront}
-use Rattle.bicep_lexer.specs.Grammar.{Throughout, IsRun, ends_line, IsLine, IsInside, three_quotes, IsLineEnd, makes_double, IsWord, name, number, newline, text, left, middle, right, verbatim as verbatim_word, open_brace, close_brace, lone_brace, double as double_word, single as single_word, IsSkipped, blank, line_comment, comment, directive, folded, Part, skip, token, bytes_of, tokens_of, behind_token, InARow, Spells}
+use Rattle.bicep_lexer.specs.Grammar.{Throughout, IsRun, ends_line, IsLine, IsInside, three_quotes, IsLineEnd, makes_double, IsWord, name, number, newline, text, left, middle, right, verbatim as verbatim_word, open_brace, close_brace, lone_brace, double as double_word, single as single_word, IsSkipped, blank, line_comment, comment, directive, folded, Part, skip, token, bytes_of, tokens_of, behind_token, InARow, StandsBefore, NoneIsOpen, Spells}
+use Rattle.bicep_lexer.specs.Faults.{BeginsPiece, BeginsNothing, IsFault, open_at_end, bad_number, bad_escape, open_at_line, open_at_file, open_verbatim, open_comment, bad_character, Refuses}
 use Rattle.bicep_lexer.proofs.Ends.{if_else}
 use Rattle.bicep_lexer.proofs.Spans.{front_span, quotes_is, quotes_reach}
 use Rattle.bicep_lexer.proofs.Steps.{by_front, read_front, reading-skip}
@@ -35,7 +37,7 @@ use Rattle.bicep_lexer.proofs.Complete.{taken, take_seam, drop_seam, single_fact
 
 -- what may stand at the front
 abbrev OnGood : List Open → Line → ℕ → Result Front LexFault → List ℕ → Type 0
-OnGood os l at (Err f) bytes = Unit {0}
+OnGood os l at (Err f) bytes = IsFault os l at bytes f
 OnGood os l at (Ok (front.Skipped n next)) bytes = IsSkipped l (take n bytes) (drop n bytes) next
 OnGood os l at (Ok (front.Newline n)) bytes = IsWord os l at k.Newline (take n bytes) (drop n bytes) turn.Stays
 OnGood os l at (Ok (front.Word kind n t)) bytes = IsWord os l at kind (take n bytes) (drop n bytes) t × (behind_token kind ≡ line.Within)
@@ -93,27 +95,35 @@ number_good os l at b bs h =
           (number refl refl b (take (prefix_len is_ascii_digit bs) bs) (first_of is_ascii_digit b bs h) (run_good is_ascii_digit (b ∷ bs)) small),
       refl,
     ))
-    (λ n. tt)
+    (λ n.
+        let m = prefix_len is_ascii_digit bs in
+        let r = run_good is_ascii_digit bs in
+        let large : 2 ^ 63 ≤ number_from 0 (digits_of (b ∷ bs)) = grind (arith, nat_tests) in
+        bad_number b (take m bs) (drop m bs) (ap (λ xs. b ∷ xs) (sym (take-append-drop m bs))) ((h, r.0), r.1)
+          (subst (λ x. 2 ^ 63 ≤ number_from 0 x) (first_of is_ascii_digit b bs h) large) refl)
 
 -- how what is inside a piece ends
 abbrev InsideOf : Bool → List ℕ → PieceEnd → Type 0
 InsideOf escaped bs (ends.Quote n) = (w : List ℕ) × (rest : List ℕ) × (bs ≡ w ++ 39 ∷ rest) × (n ≡ length w + 1) × IsInside escaped w (39 ∷ rest)
 InsideOf escaped bs (ends.Hole n) = (w : List ℕ) × (rest : List ℕ) × (bs ≡ w ++ 36 ∷ 123 ∷ rest) × (n ≡ length w + 2) × IsInside escaped w (36 ∷ 123 ∷ rest)
-InsideOf escaped bs ends.Line = Unit {0}
-InsideOf escaped bs ends.File = Unit {0}
-InsideOf escaped bs (ends.BadEscape n) = Unit {0}
+InsideOf escaped bs ends.Line = (w : List ℕ) × (end : ℕ) × (rest : List ℕ) × (bs ≡ w ++ end ∷ rest) × (is_break end ≡ true) × IsInside escaped w (end ∷ rest)
+InsideOf escaped bs ends.File = (escaped ≡ true → 0 < length bs) → IsInside escaped bs []
+InsideOf escaped bs (ends.BadEscape n) = (w : List ℕ) × (rest : List ℕ) × (bs ≡ w ++ 92 ∷ rest) × (n ≡ length w) × (is_escape rest ≡ false) × IsInside escaped w (92 ∷ rest)
 
 -- one byte more inside
-inside_more : (escaped next : Bool) (b : ℕ) (bs : List ℕ) (e : PieceEnd) → ((w tail : List ℕ) → bs ≡ w ++ tail → IsInside next w tail → IsInside escaped (b ∷ w) tail) → InsideOf next bs e → InsideOf escaped (b ∷ bs) (further 1 e)
-inside_more escaped next b bs (ends.Quote n) more h =
+inside_more : (escaped next : Bool) (b : ℕ) (bs : List ℕ) (e : PieceEnd) → ((w tail : List ℕ) → bs ≡ w ++ tail → IsInside next w tail → IsInside escaped (b ∷ w) tail) → (next ≡ true → 0 < length bs) → InsideOf next bs e → InsideOf escaped (b ∷ bs) (further 1 e)
+inside_more escaped next b bs (ends.Quote n) more some h =
     let count : 1 + n ≡ suc (length h.0) + 1 = omega (arith, h.3) in
     (b ∷ h.0, h.1, ap (λ xs. b ∷ xs) h.2, count, more h.0 (39 ∷ h.1) h.2 h.4)
-inside_more escaped next b bs (ends.Hole n) more h =
+inside_more escaped next b bs (ends.Hole n) more some h =
     let count : 1 + n ≡ suc (length h.0) + 2 = omega (arith, h.3) in
     (b ∷ h.0, h.1, ap (λ xs. b ∷ xs) h.2, count, more h.0 (36 ∷ 123 ∷ h.1) h.2 h.4)
-inside_more escaped next b bs ends.Line more h = tt
-inside_more escaped next b bs ends.File more h = tt
-inside_more escaped next b bs (ends.BadEscape n) more h = tt
+inside_more escaped next b bs ends.Line more some h =
+    (b ∷ h.0, h.1, h.2, ap (λ xs. b ∷ xs) h.3, h.4, more h.0 (h.1 ∷ h.2) h.3 h.5)
+inside_more escaped next b bs ends.File more some h = λ _. more bs [] (sym (append-nil bs)) (h some)
+inside_more escaped next b bs (ends.BadEscape n) more some h =
+    let count : 1 + n ≡ suc (length h.0) = omega (arith, h.3) in
+    (b ∷ h.0, h.1, ap (λ xs. b ∷ xs) h.2, count, h.4, more h.0 (92 ∷ h.1) h.2 h.5)
 
 unequal : (a b : ℕ) → eqb a b ≡ false → a ≢ b
 unequal a b h = grind (arith, nat_tests)
@@ -125,23 +135,29 @@ hole_good b (c ∷ bs) h =
     let second : c ≡ 123 = grind (arith, nat_tests) in
     ([], bs, ap (λ x. x ∷ c ∷ bs) first ∙ ap (λ x. 36 ∷ x ∷ bs) second, refl, refl)
 
+escape_some : (bs : List ℕ) → is_escape bs ≡ true → 0 < length bs
+unfolding is_escape
+escape_some [] h = absurd cc
+escape_some (b ∷ bs) h = omega arith
+
 inside_good : (escaped : Bool) (bs : List ℕ) → InsideOf escaped bs (piece_end escaped bs)
-inside_good escaped [] = tt
-inside_good true (b ∷ bs) = inside_more true false b bs (piece_end false bs) (λ w tail is i. i) (inside_good false bs)
+inside_good true [] = λ some. absurd (omega (arith, some refl))
+inside_good false [] = λ some. refl
+inside_good true (b ∷ bs) = inside_more true false b bs (piece_end false bs) (λ w tail is i. i) (λ e. absurd cc) (inside_good false bs)
 inside_good false (b ∷ bs) =
     let P : PieceEnd → Type 0 = InsideOf false (b ∷ bs) in
     if_else P (eqb b 39) _ _ (λ y. ([], bs, ap (λ x. x ∷ bs) (eqb-true b 39 y), refl, refl)) (λ no_quote.
     if_else P (is_hole b bs) _ _ (λ y. hole_good b bs y) (λ no_hole.
-    if_else P (is_break b) _ _ (λ y. tt) (λ no_break.
+    if_else P (is_break b) _ _ (λ y. ([], b, bs, refl, y, refl)) (λ no_break.
     if_else P (eqb b 92) _ _
-    (λ y. if_else P (is_escape bs) _ _
-    (λ right. inside_more false true b bs (piece_end true bs)
-    (λ w tail is i. (unequal b 39 no_quote, subst (λ x. is_hole b x ≡ false) is no_hole, no_break, (λ e. subst (λ x. is_escape x ≡ true) is right), subst (λ t. IsInside t w tail) (sym y) i))
-    (inside_good true bs))
-    (λ n. tt))
-    (λ no_backslash. inside_more false false b bs (piece_end false bs)
-    (λ w tail is i. (unequal b 39 no_quote, subst (λ x. is_hole b x ≡ false) is no_hole, no_break, (λ e. absurd (unequal b 92 no_backslash e)), subst (λ t. IsInside t w tail) (sym no_backslash) i))
-    (inside_good false bs)))))
+      (λ y. if_else P (is_escape bs) _ _
+        (λ right. inside_more false true b bs (piece_end true bs)
+          (λ w tail is i. (unequal b 39 no_quote, subst (λ x. is_hole b x ≡ false) is no_hole, no_break, (λ e. subst (λ x. is_escape x ≡ true) is right), subst (λ t. IsInside t w tail) (sym y) i))
+          (λ e. escape_some bs right) (inside_good true bs))
+        (λ wrong. ([], bs, ap (λ x. x ∷ bs) (eqb-true b 92 y), refl, wrong, refl)))
+      (λ no_backslash. inside_more false false b bs (piece_end false bs)
+          (λ w tail is i. (unequal b 39 no_quote, subst (λ x. is_hole b x ≡ false) is no_hole, no_break, (λ e. absurd (unequal b 92 no_backslash e)), subst (λ t. IsInside t w tail) (sym no_backslash) i))
+          (λ e. absurd cc) (inside_good false bs)))))
 
 -- a piece that begins with b, up to its end
 quote_split : (b n : ℕ) (w rest bs : List ℕ) → bs ≡ w ++ 39 ∷ rest → b ∷ bs ≡ (b ∷ (w ++ 39 ∷ [])) ++ rest
@@ -169,9 +185,11 @@ text_good os l at bs (ends.Hole n) short h =
           (left refl refl h.0 refl h.4 (subst (λ x. quotes 3 x == 3 ≡ false) whole short)),
       refl,
     )
-text_good os l at bs ends.Line short h = tt
-text_good os l at bs ends.File short h = tt
-text_good os l at bs (ends.BadEscape n) short h = tt
+text_good os l at bs ends.Line short h =
+    open_at_line 39 at h.0 h.1 h.2 (inl (refl, refl, short)) (ap (λ xs. 39 ∷ xs) h.3) h.5 h.4 refl
+text_good os l at bs ends.File short h = open_at_file 39 at bs (inl (refl, refl, short)) refl (h (λ e. absurd cc)) refl
+text_good os l at bs (ends.BadEscape n) short h =
+    bad_escape 39 at h.0 h.1 (inl (refl, refl, short)) (ap (λ xs. 39 ∷ xs) h.2) h.5 h.4 (ap (λ i. fault.BadEscape (at + (i + 1))) h.3)
 
 later_good : (os : List Open) (l : Line) (at quote : ℕ) (bs : List ℕ) (e : PieceEnd) → innermost os ≡ Some (opened.Text quote) → InsideOf false bs e → OnGood os l at (piece quote at os (k.RightPiece, turn.Closes) (k.MiddlePiece, turn.Stays) e) (125 ∷ bs)
 later_good os l at quote bs (ends.Quote n) top h = (
@@ -184,17 +202,19 @@ later_good os l at quote bs (ends.Hole n) top h = (
       (middle refl refl quote top h.0 refl h.4),
   refl,
 )
-later_good os l at quote bs ends.Line top h = tt
-later_good os l at quote bs ends.File top h = tt
-later_good os l at quote bs (ends.BadEscape n) top h = tt
+later_good os l at quote bs ends.Line top h =
+    open_at_line 125 quote h.0 h.1 h.2 (inr (refl, top)) (ap (λ xs. 125 ∷ xs) h.3) h.5 h.4 refl
+later_good os l at quote bs ends.File top h = open_at_file 125 quote bs (inr (refl, top)) refl (h (λ e. absurd cc)) refl
+later_good os l at quote bs (ends.BadEscape n) top h =
+    bad_escape 125 quote h.0 h.1 (inr (refl, top)) (ap (λ xs. 125 ∷ xs) h.2) h.5 h.4 (ap (λ i. fault.BadEscape (at + (i + 1))) h.3)
 
 -- how a verbatim text ends
 abbrev VerbatimOf : List ℕ → Option ℕ → Type 0
-VerbatimOf bs None = Unit {0}
+VerbatimOf bs None = Throughout three_quotes false bs []
 VerbatimOf bs (Some n) = (w : List ℕ) × (tail : List ℕ) × (bs ≡ w ++ tail) × Throughout three_quotes false w tail × (nat_le 3 (quotes 5 tail) ≡ true) × (n ≡ length w + quotes 5 tail)
 
 verbatim_more : (b : ℕ) (bs : List ℕ) (o : Option ℕ) → three_quotes (b ∷ bs) ≡ false → VerbatimOf bs o → VerbatimOf (b ∷ bs) (option_map suc o)
-verbatim_more b bs None few h = tt
+verbatim_more b bs None few h = (subst (λ xs. three_quotes (b ∷ xs) ≡ false) (sym (append-nil bs)) few, h)
 verbatim_more b bs (Some n) few h =
     let count : suc n ≡ suc (length h.0) + quotes 5 h.1 = omega (arith, h.5) in
     (b ∷ h.0, h.1, ap (λ xs. b ∷ xs) h.2, (subst (λ xs. three_quotes (b ∷ xs) ≡ false) h.2 few, h.3), h.4, count)
@@ -222,7 +242,7 @@ three_are bytes h = go bytes (sym (quotes_is 3 bytes) ∙ h)
         (bs, ap (λ x. x ∷ c ∷ d ∷ bs) first ∙ ap (λ x. 39 ∷ x ∷ d ∷ bs) second ∙ ap (λ x. 39 ∷ 39 ∷ x ∷ bs) third)
 
 verbatim_is_good : (os : List Open) (l : Line) (at : ℕ) (bs : List ℕ) (o : Option ℕ) → VerbatimOf bs o → OnGood os l at (verbatim at os o) (39 ∷ 39 ∷ 39 ∷ bs)
-verbatim_is_good os l at bs None h = tt
+verbatim_is_good os l at bs None h = open_verbatim bs refl h refl
 verbatim_is_good os l at bs (Some n) h =
     let w = h.0 in
     let tail = h.1 in
@@ -287,11 +307,11 @@ line_comment_good : (os : List Open) (l : Line) (at : ℕ) (others : List ℕ) �
 line_comment_good os l at others = line_comment refl (take (line_length others) others) refl (line_good (47 ∷ 47 ∷ others))
 
 abbrev CommentOf : List ℕ → Option ℕ → Type 0
-CommentOf bs None = Unit {0}
+CommentOf bs None = Throughout closes_comment false bs []
 CommentOf bs (Some n) = (w : List ℕ) × (rest : List ℕ) × (bs ≡ w ++ 42 ∷ 47 ∷ rest) × Throughout closes_comment false w (42 ∷ 47 ∷ rest) × (n ≡ length w + 2)
 
 comment_more : (b : ℕ) (bs : List ℕ) (o : Option ℕ) → closes_comment (b ∷ bs) ≡ false → CommentOf bs o → CommentOf (b ∷ bs) (option_map suc o)
-comment_more b bs None stays h = tt
+comment_more b bs None stays h = (subst (λ xs. closes_comment (b ∷ xs) ≡ false) (sym (append-nil bs)) stays, h)
 comment_more b bs (Some n) stays h =
     let count : suc n ≡ suc (length h.0) + 2 = omega (arith, h.4) in
     (b ∷ h.0, h.1, ap (λ xs. b ∷ xs) h.2, (subst (λ xs. closes_comment (b ∷ xs) ≡ false) h.2 stays, h.3), count)
@@ -309,7 +329,7 @@ comment_good (b ∷ bs) =
     if_else (CommentOf (b ∷ bs)) (closes_comment (b ∷ bs)) _ _ (λ y. closing_are b bs y) (λ n. comment_more b bs (comment_length bs) n (comment_good bs))
 
 comment_is_good : (os : List Open) (l : Line) (at : ℕ) (bs : List ℕ) (o : Option ℕ) → CommentOf bs o → OnGood os l at (commented at os l (47 ∷ 42 ∷ bs) o) (47 ∷ 42 ∷ bs)
-comment_is_good os l at bs None h = tt
+comment_is_good os l at bs None h = open_comment bs refl h refl
 comment_is_good os l at bs (Some n) h =
     let w = h.0 in
     let rest = h.1 in
@@ -351,121 +371,144 @@ directive_line os l at bs place is =
     let seam : take (line_length (35 ∷ bs)) (35 ∷ bs) ++ drop (line_length (35 ∷ bs)) (35 ∷ bs) ≡ 35 ∷ bs = take-append-drop (line_length (35 ∷ bs)) (35 ∷ bs) in
     directive refl place (take (line_length bs) bs) refl (subst (λ xs. is_directive xs ≡ true) (sym seam) is) (line_good (35 ∷ bs))
 
-directive_good : (os : List Open) (l : Line) (at : ℕ) (bs : List ℕ) → OnGood os l at (directive_front at l (35 ∷ bs)) (35 ∷ bs)
-directive_good os line.Within at bs = tt
-directive_good os line.Front at bs = if_else (λ o. OnGood os line.Front at o (35 ∷ bs)) (is_directive (35 ∷ bs)) _ _ (λ y. directive_line os line.Front at bs (λ e. cc) y) (λ n. tt)
-directive_good os line.Folded at bs = if_else (λ o. OnGood os line.Folded at o (35 ∷ bs)) (is_directive (35 ∷ bs)) _ _ (λ y. directive_line os line.Folded at bs (λ e. cc) y) (λ n. tt)
+hash_alone : (bs : List ℕ) → makes_double 35 bs ≡ false
+unfolding double_mark
+hash_alone [] = refl
+hash_alone (c ∷ bs) = refl
 
-single_good : (os : List Open) (l : Line) (at b : ℕ) (bs : List ℕ) (o : Option TokenKind) → single_mark b ≡ o → makes_double b bs ≡ false → opens_comment 47 (b ∷ bs) ≡ false → opens_comment 42 (b ∷ bs) ≡ false → OnGood os l at (single at o) (b ∷ bs)
-single_good os l at b bs None is alone slashes star = tt
-single_good os l at b bs (Some kind) is alone slashes star =
+hash_nothing : (l : Line) (bs : List ℕ) → (l ≢ line.Within → is_directive (35 ∷ bs) ≡ false) → BeginsNothing l 35 (35 ∷ bs)
+unfolding single_mark
+hash_nothing l bs h =
+    record {
+      no_blank = refl; no_letter = refl; no_digit = refl; no_quote = refl; no_line_comment = refl; no_comment = refl;
+      no_line_end = refl; no_directive = λ e. h; no_open_brace = refl; no_close_brace = refl; no_mark = refl;
+    }
+
+no_directive_good : (os : List Open) (l : Line) (at : ℕ) (bs : List ℕ) → (l ≢ line.Within → is_directive (35 ∷ bs) ≡ false) → OnGood os l at (Err (fault.BadCharacter at)) (35 ∷ bs)
+no_directive_good os l at bs h = bad_character 35 bs refl (hash_nothing l bs h) (hash_alone bs) refl
+
+directive_good : (os : List Open) (l : Line) (at : ℕ) (bs : List ℕ) → OnGood os l at (directive_front at l (35 ∷ bs)) (35 ∷ bs)
+directive_good os line.Within at bs = no_directive_good os line.Within at bs (λ ne. absurd (ne refl))
+directive_good os line.Front at bs = if_else (λ o. OnGood os line.Front at o (35 ∷ bs)) (is_directive (35 ∷ bs)) _ _ (λ y. directive_line os line.Front at bs (λ e. cc) y) (λ n. no_directive_good os line.Front at bs (λ ne. n))
+directive_good os line.Folded at bs = if_else (λ o. OnGood os line.Folded at o (35 ∷ bs)) (is_directive (35 ∷ bs)) _ _ (λ y. directive_line os line.Folded at bs (λ e. cc) y) (λ n. no_directive_good os line.Folded at bs (λ ne. n))
+
+-- that nothing else begins here, where no mark does
+abbrev NothingElse : Line → ℕ → List ℕ → Type 0
+NothingElse l b bs = single_mark b ≡ None → BeginsNothing l b (b ∷ bs)
+
+single_good : (os : List Open) (l : Line) (at b : ℕ) (bs : List ℕ) (o : Option TokenKind) → single_mark b ≡ o → makes_double b bs ≡ false → opens_comment 47 (b ∷ bs) ≡ false → opens_comment 42 (b ∷ bs) ≡ false → NothingElse l b bs → OnGood os l at (single at o) (b ∷ bs)
+single_good os l at b bs None is alone slashes star nothing = bad_character b bs refl (nothing is) alone refl
+single_good os l at b bs (Some kind) is alone slashes star nothing =
     let facts : SingleFacts (Some kind) b = subst (λ o. SingleFacts o b) is (single_facts b) in
     (single_word refl b refl is alone slashes star, facts.1)
 
-double_good : (os : List Open) (l : Line) (at a b : ℕ) (bs : List ℕ) (o : Option TokenKind) → double_mark a b ≡ o → opens_comment 47 (a ∷ b ∷ bs) ≡ false → opens_comment 42 (a ∷ b ∷ bs) ≡ false → OnGood os l at (double at a o) (a ∷ b ∷ bs)
-double_good os l at a b bs None is slashes star = single_good os l at a (b ∷ bs) (single_mark a) refl (ap is_some is) slashes star
-double_good os l at a b bs (Some kind) is slashes star =
+double_good : (os : List Open) (l : Line) (at a b : ℕ) (bs : List ℕ) (o : Option TokenKind) → double_mark a b ≡ o → opens_comment 47 (a ∷ b ∷ bs) ≡ false → opens_comment 42 (a ∷ b ∷ bs) ≡ false → NothingElse l a (b ∷ bs) → OnGood os l at (double at a o) (a ∷ b ∷ bs)
+double_good os l at a b bs None is slashes star nothing = single_good os l at a (b ∷ bs) (single_mark a) refl (ap is_some is) slashes star nothing
+double_good os l at a b bs (Some kind) is slashes star nothing =
     let facts : DoubleFacts (Some kind) a = subst (λ o. DoubleFacts o a) is (double_facts a b) in
     (double_word refl a b refl is, facts.2)
 
-mark_good : (os : List Open) (l : Line) (at b : ℕ) (bs : List ℕ) → opens_comment 47 (b ∷ bs) ≡ false → opens_comment 42 (b ∷ bs) ≡ false → OnGood os l at (mark_front at (b ∷ bs)) (b ∷ bs)
+mark_good : (os : List Open) (l : Line) (at b : ℕ) (bs : List ℕ) → opens_comment 47 (b ∷ bs) ≡ false → opens_comment 42 (b ∷ bs) ≡ false → NothingElse l b bs → OnGood os l at (mark_front at (b ∷ bs)) (b ∷ bs)
 unfolding mark_front
-mark_good os l at b [] slashes star = single_good os l at b [] (single_mark b) refl refl slashes star
-mark_good os l at b (c ∷ bs) slashes star = double_good os l at b c bs (double_mark b c) refl slashes star
+mark_good os l at b [] slashes star nothing = single_good os l at b [] (single_mark b) refl refl slashes star nothing
+mark_good os l at b (c ∷ bs) slashes star nothing = double_good os l at b c bs (double_mark b c) refl slashes star nothing
 
 by_good : (os : List Open) (l : Line) (at b : ℕ) (bs : List ℕ) → OnGood os l at (front_by at os l b (b ∷ bs)) (b ∷ bs)
 unfolding close_front
 by_good os l at b bs =
     let P : Result Front LexFault → Type 0 = λ o. OnGood os l at o (b ∷ bs) in
-    if_else P (is_blank b) _ _ (λ y. blank refl b y refl) (λ n.
-    if_else P (is_letter b) _ _ (λ y. name_good os l at b bs y) (λ n.
-    if_else P (is_ascii_digit b) _ _ (λ y. number_good os l at b bs y) (λ n.
-    if_else P (eqb b 39) _ _ (λ y. text_front_good os l at b bs y) (λ n.
+    if_else P (is_blank b) _ _ (λ y. blank refl b y refl) (λ no_blank.
+    if_else P (is_letter b) _ _ (λ y. name_good os l at b bs y) (λ no_letter.
+    if_else P (is_ascii_digit b) _ _ (λ y. number_good os l at b bs y) (λ no_digit.
+    if_else P (eqb b 39) _ _ (λ y. text_front_good os l at b bs y) (λ no_quote.
     if_else P (opens_comment 47 (b ∷ bs)) _ _
     (λ y. let s = slashes_are 47 b bs y in subst (λ xs. OnGood os l at (Ok (front.Skipped (line_length xs) l)) xs) (sym s.1) (line_comment_good os l at s.0)) (λ slashes.
     if_else P (opens_comment 42 (b ∷ bs)) _ _
     (λ y. let s = slashes_are 42 b bs y in subst (λ xs. OnGood os l at (comment_front at os l xs) xs) (sym s.1) (comment_front_good os l at s.0)) (λ star.
     if_else P (not (eqb (newline_length (b ∷ bs)) 0)) _ _
-    (λ y. let s = line_end_are b bs y in newline_good os l at s.0 s.1 (b ∷ bs) (newline_length (b ∷ bs)) s.2 s.3 s.4) (λ n.
-    if_else P (eqb b 35) _ _ (λ y. subst (λ x. OnGood os l at (directive_front at l (x ∷ bs)) (x ∷ bs)) (sym (eqb-true b 35 y)) (directive_good os l at bs)) (λ n.
-    if_else P (eqb b 123) _ _ (λ y. (open_brace refl refl (ap (λ x. x ∷ []) (eqb-true b 123 y)), refl)) (λ n.
-    if_else P (eqb b 125) _ _ (λ y. subst (λ x. OnGood os l at (closed at os (innermost os) (x ∷ bs)) (x ∷ bs)) (sym (eqb-true b 125 y)) (close_good os l at bs (innermost os) refl)) (λ n.
-    mark_good os l at b bs slashes star))))))))))
+    (λ y. let s = line_end_are b bs y in newline_good os l at s.0 s.1 (b ∷ bs) (newline_length (b ∷ bs)) s.2 s.3 s.4) (λ no_line_end.
+    if_else P (eqb b 35) _ _ (λ y. subst (λ x. OnGood os l at (directive_front at l (x ∷ bs)) (x ∷ bs)) (sym (eqb-true b 35 y)) (directive_good os l at bs)) (λ no_hash.
+    if_else P (eqb b 123) _ _ (λ y. (open_brace refl refl (ap (λ x. x ∷ []) (eqb-true b 123 y)), refl)) (λ no_open.
+    if_else P (eqb b 125) _ _ (λ y. subst (λ x. OnGood os l at (closed at os (innermost os) (x ∷ bs)) (x ∷ bs)) (sym (eqb-true b 125 y)) (close_good os l at bs (innermost os) refl)) (λ no_close.
+    mark_good os l at b bs slashes star (λ none.
+      record {
+        no_blank = no_blank; no_letter = no_letter; no_digit = no_digit; no_quote = no_quote; no_line_comment = slashes; no_comment = star;
+        no_line_end = no_line_end; no_directive = λ e _. absurd (unequal b 35 no_hash e); no_open_brace = no_open; no_close_brace = no_close; no_mark = none;
+      })))))))))))
 
-front_good : (os : List Open) (l : Line) (at : ℕ) (bytes : List ℕ) → OnGood os l at (front_of at os l bytes) bytes
+front_good : (os : List Open) (l : Line) (at b : ℕ) (bs : List ℕ) → OnGood os l at (front_of at os l (b ∷ bs)) (b ∷ bs)
 unfolding front_of
-front_good os l at [] = tt
-front_good os l at (b ∷ bs) = by_good os l at b bs
+front_good os l at b bs = by_good os l at b bs
 
--- a token before tokens
-before_ok : (t : Standing) (o : Outcome) (ts : List Standing) → before t o ≡ Ok ts → (more : List Standing) × (o ≡ Ok more) × (ts ≡ t ∷ more)
-before_ok t (Ok more) ts h = (more, refl, sym same)
-  where
-    same : t ∷ more ≡ ts
-    same = cc
-before_ok t (Err f) ts h = absurd cc
+-- parts in a row, and then this
+abbrev RowTo : (List Open → Line → ℕ → Type 0) → List ℕ → List Open → Line → ℕ → List ℕ → List Part → Type 0
+RowTo Then rest os l at bytes ps = (bytes_of ps rest ≡ bytes) × InARow Then rest os l at ps
 
-ended_ok : (o : Option ℕ) (ts : List Standing) → ended_by o ≡ Ok ts → (o ≡ None) × (ts ≡ [])
-ended_ok None ts h = (refl, sym same)
-  where
-    same : [] ≡ ts
-    same = cc
-ended_ok (Some at) ts h = absurd cc
-
--- parts in a row that spell what is left
-abbrev RowOf : List Open → Line → ℕ → List ℕ → List Standing → Type 0
-RowOf os l at bytes ts = (ps : List Part) × (bytes_of ps ≡ bytes) × InARow os l at ps × (ts ≡ tokens_of at ps)
-
-token_row : (os : List Open) (l : Line) (at : ℕ) (bytes : List ℕ) (kind : TokenKind) (n : ℕ) (t : Turn) (ts more : List Standing) → n ≤ length bytes → ts ≡ (kind, at, take n bytes) ∷ more → IsWord os l at kind (take n bytes) (drop n bytes) t → RowOf (turned t os) (behind_token kind) (at + n) (drop n bytes) more → RowOf os l at bytes ts
-token_row os l at bytes kind n t ts more within is word_is r =
-    let ps = r.0 in
+token_row : (Then : List Open → Line → ℕ → Type 0) (rest : List ℕ) (os : List Open) (l : Line) (at : ℕ) (bytes : List ℕ) (kind : TokenKind) (n : ℕ) (t : Turn) (ps : List Part) → n ≤ length bytes → IsWord os l at kind (take n bytes) (drop n bytes) t → RowTo Then rest (turned t os) (behind_token kind) (at + n) (drop n bytes) ps → RowTo Then rest os l at bytes (token kind (take n bytes) t ∷ ps)
+token_row Then rest os l at bytes kind n t ps within is_word r =
     let w = take n bytes in
-    let count : n ≡ length w = sym (length-take-le n bytes within) in (
-      token kind w t ∷ ps,
-      ap (λ xs. w ++ xs) r.1 ∙ take-append-drop n bytes,
-      (subst (λ xs. IsWord os l at kind w xs t) (sym r.1) word_is, subst (λ i. InARow (turned t os) (behind_token kind) (at + i) ps) count r.2),
-      is ∙ ap (λ xs. (kind, at, w) ∷ xs) (r.3 ∙ ap (λ i. tokens_of (at + i) ps) count),
-    )
+    let count : n ≡ length w = sym (length-take-le n bytes within) in
+    (ap (λ xs. w ++ xs) r.0 ∙ take-append-drop n bytes
+    , (subst (λ xs. IsWord os l at kind w xs t) (sym r.0) is_word, subst (λ i. InARow Then rest (turned t os) (behind_token kind) (at + i) ps) count r.1))
 
-skip_row : (os : List Open) (l next : Line) (at : ℕ) (bytes : List ℕ) (n : ℕ) (ts : List Standing) → n ≤ length bytes → IsSkipped l (take n bytes) (drop n bytes) next → RowOf os next (at + n) (drop n bytes) ts → RowOf os l at bytes ts
-skip_row os l next at bytes n ts within skipped r =
-    let ps = r.0 in
+skip_row : (Then : List Open → Line → ℕ → Type 0) (rest : List ℕ) (os : List Open) (l next : Line) (at : ℕ) (bytes : List ℕ) (n : ℕ) (ps : List Part) → n ≤ length bytes → IsSkipped l (take n bytes) (drop n bytes) next → RowTo Then rest os next (at + n) (drop n bytes) ps → RowTo Then rest os l at bytes (skip (take n bytes) next ∷ ps)
+skip_row Then rest os l next at bytes n ps within skipped r =
     let w = take n bytes in
-    let count : n ≡ length w = sym (length-take-le n bytes within) in (
-      skip w next ∷ ps,
-      ap (λ xs. w ++ xs) r.1 ∙ take-append-drop n bytes,
-      (subst (λ xs. IsSkipped l w xs next) (sym r.1) skipped, subst (λ i. InARow os next (at + i) ps) count r.2),
-      r.3 ∙ ap (λ i. tokens_of (at + i) ps) count,
-    )
+    let count : n ≡ length w = sym (length-take-le n bytes within) in
+    (ap (λ xs. w ++ xs) r.0 ∙ take-append-drop n bytes
+    , (subst (λ xs. IsSkipped l w xs next) (sym r.0) skipped, subst (λ i. InARow Then rest os next (at + i) ps) count r.1))
+
+-- what the reading of what is left says of it
+abbrev Told : Outcome → List Open → Line → ℕ → List ℕ → Type 0
+Told (Ok ts) os l at bytes = (ps : List Part) × RowTo NoneIsOpen [] os l at bytes ps × (ts ≡ tokens_of at ps)
+Told (Err f) os l at bytes = (ps : List Part) × (rest : List ℕ) × RowTo (λ os l at. IsFault os l at rest f) rest os l at bytes ps
+
+token_told : (os : List Open) (l : Line) (at : ℕ) (bytes : List ℕ) (kind : TokenKind) (n : ℕ) (t : Turn) (o : Outcome) → n ≤ length bytes → IsWord os l at kind (take n bytes) (drop n bytes) t → Told o (turned t os) (behind_token kind) (at + n) (drop n bytes) → Told (before (kind, at, take n bytes) o) os l at bytes
+token_told os l at bytes kind n t (Ok ts) within is_word r =
+    let w = take n bytes in
+    let count : n ≡ length w = sym (length-take-le n bytes within) in
+    (token kind w t ∷ r.0
+    , token_row NoneIsOpen [] os l at bytes kind n t r.0 within is_word r.1
+    , ap (λ xs. (kind, at, w) ∷ xs) (r.2 ∙ ap (λ i. tokens_of (at + i) r.0) count))
+token_told os l at bytes kind n t (Err f) within is_word r =
+    (token kind (take n bytes) t ∷ r.0, r.1, token_row (λ os l at. IsFault os l at r.1 f) r.1 os l at bytes kind n t r.0 within is_word r.2)
+
+skip_told : (os : List Open) (l next : Line) (at : ℕ) (bytes : List ℕ) (n : ℕ) (o : Outcome) → n ≤ length bytes → IsSkipped l (take n bytes) (drop n bytes) next → Told o os next (at + n) (drop n bytes) → Told o os l at bytes
+skip_told os l next at bytes n (Ok ts) within skipped r =
+    let count : n ≡ length (take n bytes) = sym (length-take-le n bytes within) in
+    (skip (take n bytes) next ∷ r.0
+    , skip_row NoneIsOpen [] os l next at bytes n r.0 within skipped r.1
+    , r.2 ∙ ap (λ i. tokens_of (at + i) r.0) count)
+skip_told os l next at bytes n (Err f) within skipped r =
+    (skip (take n bytes) next ∷ r.0, r.1, skip_row (λ os l at. IsFault os l at r.1 f) r.1 os l next at bytes n r.0 within skipped r.2)
 
 -- the same for all that is shorter
-abbrev RowsBelow : ℕ → Type 0
-RowsBelow m = (os : List Open) (l : Line) (at : ℕ) (bytes : List ℕ) (ts : List Standing) → length bytes ≤ m → reading_from 0 at os l bytes ≡ Ok ts → RowOf os l at bytes ts
+abbrev ToldBelow : ℕ → Type 0
+ToldBelow m = (os : List Open) (l : Line) (at : ℕ) (bytes : List ℕ) → length bytes ≤ m → Told (reading_from 0 at os l bytes) os l at bytes
 
-front_row : (m : ℕ) → RowsBelow m → (os : List Open) (l : Line) (at : ℕ) (bytes : List ℕ) (ts : List Standing) (o : Result Front LexFault) → length bytes ≤ suc m → OnFront o bytes → OnGood os l at o bytes → by_front at os bytes o ≡ Ok ts → RowOf os l at bytes ts
-front_row m rows os l at bytes ts (Err f) most span good h = absurd cc
-front_row m rows os l at bytes ts (Ok (front.Skipped n next)) most span good h =
-    skip_row os l next at bytes n ts span.1 good
-    (rows os next (at + n) (drop n bytes) ts (omega (arith, length-drop n bytes, span.0, most)) h)
-front_row m rows os l at bytes ts (Ok (front.Newline n)) most span good h =
-    let b = before_ok (k.Newline, at, take n bytes) (reading_from 0 (at + n) os line.Folded (drop n bytes)) ts h in
-    token_row os l at bytes k.Newline n turn.Stays ts b.0 span.within b.2 good
-    (rows os line.Folded (at + n) (drop n bytes) b.0 (omega (arith, length-drop n bytes, span.some, most)) b.1)
-front_row m rows os l at bytes ts (Ok (front.Word kind n t)) most span good h =
-    let b = before_ok (kind, at, take n bytes) (reading_from 0 (at + n) (turned t os) line.Within (drop n bytes)) ts h in
-    token_row os l at bytes kind n t ts b.0 span.within b.2 good.0
-    (subst (λ x. RowOf (turned t os) x (at + n) (drop n bytes) b.0) (sym good.1)
-    (rows (turned t os) line.Within (at + n) (drop n bytes) b.0 (omega (arith, length-drop n bytes, span.some, most)) b.1))
+front_told : (m : ℕ) → ToldBelow m → (os : List Open) (l : Line) (at : ℕ) (bytes : List ℕ) (o : Result Front LexFault) → length bytes ≤ suc m → OnFront o bytes → OnGood os l at o bytes → Told (by_front at os bytes o) os l at bytes
+front_told m below os l at bytes (Err f) most span good = ([], bytes, (refl, good))
+front_told m below os l at bytes (Ok (front.Skipped n next)) most span good =
+    skip_told os l next at bytes n (reading_from 0 (at + n) os next (drop n bytes)) span.1 good
+      (below os next (at + n) (drop n bytes) (omega (arith, length-drop n bytes, span.0, most)))
+front_told m below os l at bytes (Ok (front.Newline n)) most span good =
+    token_told os l at bytes k.Newline n turn.Stays (reading_from 0 (at + n) os line.Folded (drop n bytes)) span.within good
+      (below os line.Folded (at + n) (drop n bytes) (omega (arith, length-drop n bytes, span.some, most)))
+front_told m below os l at bytes (Ok (front.Word kind n t)) most span good =
+    token_told os l at bytes kind n t (reading_from 0 (at + n) (turned t os) line.Within (drop n bytes)) span.within good.0
+      (subst (λ x. Told (reading_from 0 (at + n) (turned t os) line.Within (drop n bytes)) (turned t os) x (at + n) (drop n bytes)) (sym good.1)
+        (below (turned t os) line.Within (at + n) (drop n bytes) (omega (arith, length-drop n bytes, span.some, most))))
 
-row_of : (m : ℕ) → RowsBelow m
-row_of m os l at [] ts most h =
-    let e = ended_ok (outermost os) ts h in
-    ([], refl, e.0, e.1)
-row_of zero os l at (b ∷ bs) ts most h = absurd (omega arith)
-row_of (suc m) os l at (b ∷ bs) ts most h =
-    let bytes = b ∷ bs in
-    front_row m (row_of m) os l at bytes ts (front_of at os l bytes) most (front_span at os l bytes) (front_good os l at bytes)
-    (sym (read_front at os l bytes (omega arith)) ∙ h)
+end_told : (os : List Open) (l : Line) (at : ℕ) (o : Option ℕ) → outermost os ≡ o → Told (ended_by o) os l at []
+end_told os l at None top = ([], (refl, top), refl)
+end_told os l at (Some quote) top = ([], [], (refl, open_at_end refl quote top refl))
+
+told : (m : ℕ) → ToldBelow m
+told m os l at [] most = end_told os l at (outermost os) refl
+told zero os l at (b ∷ bs) most = absurd (omega arith)
+told (suc m) os l at (b ∷ bs) most =
+    subst (λ o. Told o os l at (b ∷ bs)) (sym (read_front at os l (b ∷ bs) (omega arith)))
+      (front_told m (told m) os l at (b ∷ bs) (front_of at os l (b ∷ bs)) most (front_span at os l (b ∷ bs)) (front_good os l at b bs))
 
 mark-within : (source : List ℕ) → mark_length source ≤ length source
 unfolding mark_length
@@ -474,21 +517,37 @@ mark-within (b ∷ []) = elim (eqb 239 b) as (λ t. cond (t && false) 3 0 ≤ 1)
 mark-within (b ∷ c ∷ []) = elim (eqb 239 b) as (λ t. cond (t && (eqb 187 c && false)) 3 0 ≤ 2) [ true ↦ (elim (eqb 187 c) as (λ t. cond (true && (t && false)) 3 0 ≤ 2) [ true ↦ omega arith | false ↦ omega arith ]) | false ↦ omega arith ]
 mark-within (b ∷ c ∷ d ∷ source) = if_else (λ n. n ≤ suc (suc (suc (length source)))) (eqb 239 b && (eqb 187 c && (eqb 191 d && true))) 3 0 (λ y. omega arith) (λ n. omega arith)
 
--- a source that is read as tokens spells them
-pub sound : (source : List ℕ) (tokens : List Standing) → reading source ≡ Ok tokens → Spells source tokens
+-- what the reading of a source says of what is below its byte order mark
+below_mark : (source : List ℕ) → Told (reading source) [] line.Front (length (take (mark_length source) source)) (drop (mark_length source) source)
 unfolding reading
-sound source tokens h =
+below_mark source =
     let n = mark_length source in
     let within = mark-within source in
     let e : 0 + n ≡ n = omega arith in
-    let bytes = drop n source in
     let count : n ≡ length (take n source) = sym (length-take-le n source within) in
-    let read : reading_from 0 n [] line.Front bytes ≡ Ok tokens = ap (λ i. reading_from 0 i [] line.Front bytes) (sym e) ∙ sym (reading-skip n 0 [] line.Front source within) ∙ h in
-    let r = row_of (length bytes) [] line.Front n bytes tokens (omega arith) read in (
-      take n source,
-      r.0,
-      sym (ap (λ xs. take n source ++ xs) r.1 ∙ take-append-drop n source),
-      sym count,
-      subst (λ i. InARow [] line.Front i r.0) count r.2,
-      r.3 ∙ ap (λ i. tokens_of i r.0) count,
-    )
+    let read : reading_from 0 n [] line.Front (drop n source) ≡ reading_from n 0 [] line.Front source = sym (reading-skip n 0 [] line.Front source within ∙ ap (λ i. reading_from 0 i [] line.Front (drop n source)) e) in
+    subst (λ i. Told (reading_from n 0 [] line.Front source) [] line.Front i (drop n source)) count
+      (subst (λ o. Told o [] line.Front n (drop n source)) read (told (length (drop n source)) [] line.Front n (drop n source) (omega arith)))
+
+stands : (source rest : List ℕ) (ps : List Part) (Then : List Open → Line → ℕ → Type 0) → RowTo Then rest [] line.Front (length (take (mark_length source) source)) (drop (mark_length source) source) ps → StandsBefore source rest (take (mark_length source) source) ps Then
+stands source rest ps Then r =
+    let n = mark_length source in
+    record {
+      is = sym (ap (λ xs. take n source ++ xs) r.0 ∙ take-append-drop n source);
+      is_mark = length-take-le n source (mark-within source);
+      row = r.1;
+    }
+
+-- a source that is read as tokens spells them
+pub sound : (source : List ℕ) (tokens : List Standing) → reading source ≡ Ok tokens → Spells source tokens
+sound source tokens h =
+    let n = mark_length source in
+    let r : Told (Ok tokens) [] line.Front (length (take n source)) (drop n source) = subst (λ o. Told o [] line.Front (length (take n source)) (drop n source)) h (below_mark source) in
+    (take n source, r.0, stands source [] r.0 NoneIsOpen r.1, r.2)
+
+-- a source that is read as a fault is refused for it
+pub sound_fault : (source : List ℕ) (f : LexFault) → reading source ≡ Err f → Refuses source f
+sound_fault source f h =
+    let n = mark_length source in
+    let r : Told (Err f) [] line.Front (length (take n source)) (drop n source) = subst (λ o. Told o [] line.Front (length (take n source)) (drop n source)) h (below_mark source) in
+    (take n source, r.0, r.1, stands source r.1 r.0 (λ os l at. IsFault os l at r.1 f) r.2)

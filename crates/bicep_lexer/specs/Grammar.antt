@@ -1,5 +1,5 @@
 -- Which sources spell which tokens: a source is words and what is skipped, in a row.
-use Rattle.std.specs.Prelude.{◌≡◌, ◌≢◌, ℕ, ◌+◌, ◌<◌, ◌≤◌, ◌^◌, Bool, true, false, nat_le, not, ◌==◌, List, [], ◌∷◌, ◌++◌, length, Some, None, is_some, ◌⊎◌}
+use Rattle.std.specs.Prelude.{◌≡◌, ◌≢◌, ℕ, ◌+◌, ◌<◌, ◌≤◌, ◌^◌, Bool, true, false, nat_le, not, ◌==◌, List, [], ◌∷◌, ◌++◌, length, Some, None, is_some, ◌⊎◌, take, drop}
 use Rattle.std.specs.Char.{is_ascii_digit}
 use Rattle.bicep_lexer.specs.declared.kind.TokenKind.{TokenKind}
 use Rattle.bicep_lexer.specs.declared.kind.TokenKind.TheVariants as k
@@ -102,11 +102,11 @@ pub data Part : Type 0 where
   skip : List ℕ → Line → Part
   token : TokenKind → List ℕ → Turn → Part
 
--- the bytes of parts in a row
-abbrev pub bytes_of : List Part → List ℕ
-bytes_of [] = []
-bytes_of (skip word l ∷ ps) = word ++ bytes_of ps
-bytes_of (token kind word t ∷ ps) = word ++ bytes_of ps
+-- the bytes of parts in a row, and then the rest
+abbrev pub bytes_of : List Part → List ℕ → List ℕ
+bytes_of [] rest = rest
+bytes_of (skip word l ∷ ps) rest = word ++ bytes_of ps rest
+bytes_of (token kind word t ∷ ps) rest = word ++ bytes_of ps rest
 
 -- the tokens of parts in a row, the first at `at`
 abbrev pub tokens_of : ℕ → List Part → List Standing
@@ -119,17 +119,30 @@ abbrev pub behind_token : TokenKind → Line
 behind_token k.Newline = line.Folded
 behind_token kind = line.Within
 
--- the parts stand in a row, each what it may be in its place, and no text is open at the end
-abbrev pub InARow : List Open → Line → ℕ → List Part → Type 0
-InARow os l at [] = outermost os ≡ None
-InARow os l at (skip word next ∷ ps) = IsSkipped l word (bytes_of ps) next × InARow os next (at + length word) ps
-InARow os l at (token kind word t ∷ ps) = IsWord os l at kind word (bytes_of ps) t × InARow (turned t os) (behind_token kind) (at + length word) ps
+-- The parts stand in a row before the rest, each what it may be in its place, and behind them this holds.
+abbrev pub InARow : (List Open → Line → ℕ → Type 0) → List ℕ → List Open → Line → ℕ → List Part → Type 0
+InARow Then rest os l at [] = Then os l at
+InARow Then rest os l at (skip word next ∷ ps) =
+    IsSkipped l word (bytes_of ps rest) next × InARow Then rest os next (at + length word) ps
+InARow Then rest os l at (token kind word t ∷ ps) =
+    IsWord os l at kind word (bytes_of ps rest) t × InARow Then rest (turned t os) (behind_token kind) (at + length word) ps
 
--- the source, below a byte order mark, is parts in a row with these tokens
+-- The source, below a byte order mark, is parts in a row, the rest, and of the place between them this holds.
+pub record StandsBefore (source rest : List ℕ) (mark : List ℕ) (ps : List Part) (Then : List Open → Line → ℕ → Type 0) : Type 0 where
+  pub is : source ≡ mark ++ bytes_of ps rest
+  pub is_mark : length mark ≡ mark_length source
+  pub row : InARow Then rest [] line.Front (length mark) ps
+
+-- no text is open
+abbrev pub NoneIsOpen : List Open → Line → ℕ → Type 0
+NoneIsOpen os l at = outermost os ≡ None
+
+-- the source is parts in a row with these tokens, and no text is open at its end
 abbrev pub Spells : List ℕ → List Standing → Type 0
 Spells source tokens =
-    (mark : List ℕ) × (ps : List Part)
-    × (source ≡ mark ++ bytes_of ps)
-    × (length mark ≡ mark_length source)
-    × InARow [] line.Front (length mark) ps
-    × (tokens ≡ tokens_of (length mark) ps)
+    (mark : List ℕ) × (ps : List Part) × StandsBefore source [] mark ps NoneIsOpen × (tokens ≡ tokens_of (length mark) ps)
+
+-- each token is the slice of the source at its place, none is empty, and each begins behind the one before
+abbrev pub AreSlices : List ℕ → ℕ → List Standing → Type 0
+AreSlices source from [] = Unit {0}
+AreSlices source from (t ∷ ts) = (from ≤ t.1) × (0 < length t.2) × (t.2 ≡ take (length t.2) (drop t.1 source)) × AreSlices source (t.1 + length t.2) ts

@@ -8,3 +8,4 @@ pub mod Reading
 pub mod Progress
 pub mod Values
 pub mod Grammar
+pub mod Faults

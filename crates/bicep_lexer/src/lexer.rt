@@ -1,8 +1,10 @@
 // From a source to its tokens.
 
 ghost use Rattle.std.specs.Prelude.{◌≡◌, ◌≢◌, ℕ, ◌+◌, ◌-◌, ◌≤◌, ◌<◌, ◌^◌, List, [], ◌∷◌, ◌++◌, length, take, drop, map, slice_index, Ok, Err, OnOk, IfOk, IfErr};
+ghost use Rattle.bicep_lexer.specs.declared.fault.LexFault.{LexFault};
 ghost use Rattle.bicep_lexer.specs.declared.fault.LexFault.TheVariants.{OutOfMemory};
-ghost use Rattle.bicep_lexer.specs.Grammar.{Spells};
+ghost use Rattle.bicep_lexer.specs.Grammar.{Spells, AreSlices};
+ghost use Rattle.bicep_lexer.specs.Faults.{Refuses};
 ghost use Rattle.bicep_lexer.specs.Reading.{Standing, standing, turned, mark_length, ended, reading};
 ghost use Rattle.bicep_lexer.specs.Fronts.{front_of};
 ghost use Rattle.bicep_lexer.specs.Progress.{whole, behind, IsSpan, OnFront};
@@ -156,7 +158,11 @@ fn read<'a>(alloc: Global, text: &'a str) -> Result<Vec<Token<'a>>, LexFault>
 pub fn tokens<'a>(alloc: Global, text: &'a str) -> Result<Vec<Token<'a>>, LexFault>
     ensures spelled { IfOk result (λ found. Spells text.now (map standing found.items)) }
     ensures alone { IfOk result (λ found. (others : List Standing) → Spells text.now others → others ≡ map standing found.items) }
-    ensures refused { IfErr result (λ f. f ≢ OutOfMemory → (any : List Standing) → ¬ Spells text.now any) }
+    ensures sliced { IfOk result (λ found. AreSlices text.now 0 (map standing found.items)) }
+    ensures faultless { IfOk result (λ _. (any : LexFault) → ¬ Refuses text.now any) }
+    ensures refused { IfErr result (λ f. f ≢ OutOfMemory → Refuses text.now f) }
+    ensures refused_alone { IfErr result (λ f. f ≢ OutOfMemory → (other : LexFault) → Refuses text.now other → other ≡ f) }
+    ensures unspelled { IfErr result (λ f. f ≢ OutOfMemory → (any : List Standing) → ¬ Spells text.now any) }
     ensures reading { IfOk result (λ found. reading text.now ≡ Ok (map standing found.items)) }
     ensures fault { IfErr result (λ f. f ≢ OutOfMemory → reading text.now ≡ Err f) }
 {

@@ -551,6 +551,7 @@ break_ends c rest h =
   where
     no_39 : (c : ℕ) → is_break c ≡ true → eqb c 39 ≡ false
     no_39 c h = grind (arith, nat_tests)
+
     no_36 : (c : ℕ) → is_break c ≡ true → eqb c 36 ≡ false
     no_36 c h = grind (arith, nat_tests)
 
@@ -590,8 +591,8 @@ nothing_front at os l b bs h alone =
     ∙ passed (opens_comment 42 (b ∷ bs)) _ _ h.no_comment
     ∙ passed (not (eqb (newline_length (b ∷ bs)) 0)) _ _ h.no_line_end
     ∙ if_else (λ o. o ≡ Err (fault.BadCharacter at)) (eqb b 35) _ _
-        (λ y. no_directive_front at l (b ∷ bs) (h.no_directive (eqb-true b 35 y)))
-        (λ n. passed (eqb b 123) _ _ h.no_open_brace ∙ passed (eqb b 125) _ _ h.no_close_brace ∙ single_mark_front at b bs alone ∙ ap (single at) h.no_mark)
+    (λ y. no_directive_front at l (b ∷ bs) (h.no_directive (eqb-true b 35 y)))
+    (λ n. passed (eqb b 123) _ _ h.no_open_brace ∙ passed (eqb b 125) _ _ h.no_close_brace ∙ single_mark_front at b bs alone ∙ ap (single at) h.no_mark)
 
 fault_read : (at : ℕ) (os : List Open) (l : Line) (bytes : List ℕ) (f : LexFault) → 0 < length bytes → front_of at os l bytes ≡ Err f → reading_from 0 at os l bytes ≡ Err f
 fault_read at os l bytes f some h = read_front at os l bytes some ∙ ap (by_front at os bytes) h
@@ -604,35 +605,35 @@ fault_is_read : (os : List Open) (l : Line) (at : ℕ) (bytes : List ℕ) (f : L
 fault_is_read os l at bytes f (open_at_end is quote top told) = ap (λ xs. reading_from 0 at os l xs) is ∙ ap ended_by top ∙ sym (ap (λ x. Err x) told)
 fault_is_read os l at bytes f (bad_number first others rest is run large told) =
     fault_read at os l bytes f (cons_some first (others ++ rest) bytes is)
-      (ap (front_of at os l) is ∙ too_large at os l first others rest run large ∙ sym (ap (λ x. Err x) told))
+    (ap (front_of at os l) is ∙ too_large at os l first others rest run large ∙ sym (ap (λ x. Err x) told))
 fault_is_read os l at bytes f (bad_escape b quote inside rest opens is ok wrong told) =
     let n : length inside + 0 ≡ length inside = omega arith in
     fault_read at os l bytes f (cons_some b (inside ++ 92 ∷ rest) bytes is)
-      (ap (front_of at os l) is
-       ∙ piece_fault at os l b quote (inside ++ 92 ∷ rest) (further (length inside) (ends.BadEscape 0)) f (subst (λ xs. BeginsPiece os at b xs quote) is opens)
-           (inside_ends false inside (92 ∷ rest) (ends.BadEscape 0) ok (wrong_ends rest wrong))
-           (λ last other. ap (λ i. Err (fault.BadEscape (at + (i + 1)))) n ∙ sym (ap (λ x. Err x) told)))
+    (ap (front_of at os l) is
+    ∙ piece_fault at os l b quote (inside ++ 92 ∷ rest) (further (length inside) (ends.BadEscape 0)) f (subst (λ xs. BeginsPiece os at b xs quote) is opens)
+    (inside_ends false inside (92 ∷ rest) (ends.BadEscape 0) ok (wrong_ends rest wrong))
+    (λ last other. ap (λ i. Err (fault.BadEscape (at + (i + 1)))) n ∙ sym (ap (λ x. Err x) told)))
 fault_is_read os l at bytes f (open_at_line b quote inside end rest opens is ok break told) =
     fault_read at os l bytes f (cons_some b (inside ++ end ∷ rest) bytes is)
-      (ap (front_of at os l) is
-       ∙ piece_fault at os l b quote (inside ++ end ∷ rest) ends.Line f (subst (λ xs. BeginsPiece os at b xs quote) is opens)
-           (inside_ends false inside (end ∷ rest) ends.Line ok (break_ends end rest break))
-           (λ last other. sym (ap (λ x. Err x) told)))
+    (ap (front_of at os l) is
+    ∙ piece_fault at os l b quote (inside ++ end ∷ rest) ends.Line f (subst (λ xs. BeginsPiece os at b xs quote) is opens)
+    (inside_ends false inside (end ∷ rest) ends.Line ok (break_ends end rest break))
+    (λ last other. sym (ap (λ x. Err x) told)))
 fault_is_read os l at bytes f (open_at_file b quote inside opens is ok told) =
     fault_read at os l bytes f (cons_some b inside bytes is)
-      (ap (front_of at os l) is
-       ∙ piece_fault at os l b quote inside ends.File f (subst (λ xs. BeginsPiece os at b xs quote) is opens)
-           (ap (piece_end false) (sym (append-nil inside)) ∙ inside_ends false inside [] ends.File ok refl)
-           (λ last other. sym (ap (λ x. Err x) told)))
+    (ap (front_of at os l) is
+    ∙ piece_fault at os l b quote inside ends.File f (subst (λ xs. BeginsPiece os at b xs quote) is opens)
+    (ap (piece_end false) (sym (append-nil inside)) ∙ inside_ends false inside [] ends.File ok refl)
+    (λ last other. sym (ap (λ x. Err x) told)))
 fault_is_read os l at bytes f (open_verbatim inside is ok told) =
     fault_read at os l bytes f (cons_some 39 (39 ∷ 39 ∷ inside) bytes is)
-      (ap (front_of at os l) is ∙ quote_front at os l (39 ∷ 39 ∷ inside) ∙ open_verbatim_front at os inside (open_verbatim_is inside ok) ∙ sym (ap (λ x. Err x) told))
+    (ap (front_of at os l) is ∙ quote_front at os l (39 ∷ 39 ∷ inside) ∙ open_verbatim_front at os inside (open_verbatim_is inside ok) ∙ sym (ap (λ x. Err x) told))
 fault_is_read os l at bytes f (open_comment inside is ok told) =
     fault_read at os l bytes f (cons_some 47 (42 ∷ inside) bytes is)
-      (ap (front_of at os l) is ∙ star_front at os l inside ∙ ap (commented at os l (47 ∷ 42 ∷ inside)) (open_comment_is inside ok) ∙ sym (ap (λ x. Err x) told))
+    (ap (front_of at os l) is ∙ star_front at os l inside ∙ ap (commented at os l (47 ∷ 42 ∷ inside)) (open_comment_is inside ok) ∙ sym (ap (λ x. Err x) told))
 fault_is_read os l at bytes f (bad_character first others is nothing alone told) =
     fault_read at os l bytes f (cons_some first others bytes is)
-      (ap (front_of at os l) is ∙ nothing_front at os l first others (subst (BeginsNothing l first) is nothing) alone ∙ sym (ap (λ x. Err x) told))
+    (ap (front_of at os l) is ∙ nothing_front at os l first others (subst (BeginsNothing l first) is nothing) alone ∙ sym (ap (λ x. Err x) told))
 
 -- a source in which a fault stands is refused for it
 pub refuses : (source : List ℕ) (f : LexFault) → Refuses source f → reading source ≡ Err f
@@ -654,15 +655,16 @@ slices_of : (source : List ℕ) (Then : List Open → Line → ℕ → Type 0) (
 slices_of source Then rest [] from os l at le h row = tt
 slices_of source Then rest (skip w next ∷ ps) from os l at le h row =
     slices_of source Then rest ps from os next (at + length w) (omega (arith, le)) (left_of source w (bytes_of ps rest) at h) row.1
-slices_of source Then rest (token kind w t ∷ ps) from os l at le h row =
-    (le
-    , token_some os l at kind w (bytes_of ps rest) t (word_front os l at kind w (bytes_of ps rest) t row.0)
-    , sym (ap (take (length w)) h ∙ take_seam w (bytes_of ps rest))
-    , slices_of source Then rest ps (at + length w) (turned t os) (behind_token kind) (at + length w) (omega arith) (left_of source w (bytes_of ps rest) at h) row.1)
+slices_of source Then rest (token kind w t ∷ ps) from os l at le h row = (
+  le,
+  token_some os l at kind w (bytes_of ps rest) t (word_front os l at kind w (bytes_of ps rest) t row.0),
+  sym (ap (take (length w)) h ∙ take_seam w (bytes_of ps rest)),
+  slices_of source Then rest ps (at + length w) (turned t os) (behind_token kind) (at + length w) (omega arith) (left_of source w (bytes_of ps rest) at h) row.1,
+)
 
 -- the tokens that a source spells are slices of it
 pub slices : (source : List ℕ) (tokens : List Standing) → Spells source tokens → AreSlices source 0 tokens
 slices source tokens s =
     let ps = s.1 in
     subst (AreSlices source 0) (sym s.3)
-      (slices_of source NoneIsOpen [] ps 0 [] line.Front (length s.0) (omega arith) (ap (drop (length s.0)) s.2.is ∙ drop_seam s.0 (bytes_of ps [])) s.2.row)
+    (slices_of source NoneIsOpen [] ps 0 [] line.Front (length s.0) (omega arith) (ap (drop (length s.0)) s.2.is ∙ drop_seam s.0 (bytes_of ps [])) s.2.row)

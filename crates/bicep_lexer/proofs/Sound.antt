@@ -29,7 +29,7 @@ use Rattle.bicep_lexer.specs.Fronts.{outermost, innermost, word, number_front, p
 use Rattle.bicep_lexer.specs.Reading.{Standing, Outcome, turned, before, ended_by, reading_from, mark_length, reading}
 use Rattle.bicep_lexer.specs.Progress.{OnFront}
 use Rattle.bicep_lexer.specs.Grammar.{Throughout, IsRun, ends_line, IsLine, IsInside, three_quotes, IsLineEnd, makes_double, IsWord, name, number, newline, text, left, middle, right, verbatim as verbatim_word, open_brace, close_brace, lone_brace, double as double_word, single as single_word, IsSkipped, blank, line_comment, comment, directive, folded, Part, skip, token, bytes_of, tokens_of, behind_token, InARow, StandsBefore, NoneIsOpen, Spells}
-use Rattle.bicep_lexer.specs.Faults.{BeginsPiece, BeginsNothing, IsFault, open_at_end, bad_number, bad_escape, open_at_line, open_at_file, open_verbatim, open_comment, bad_character, Refuses}
+use Rattle.bicep_lexer.specs.Faults.{BeginsNothing, IsFault, open_at_end, bad_number, bad_escape, open_at_line, open_at_file, open_verbatim, open_comment, bad_character, Refuses}
 use Rattle.bicep_lexer.proofs.Ends.{if_else}
 use Rattle.bicep_lexer.proofs.Spans.{front_span, quotes_is, quotes_reach}
 use Rattle.bicep_lexer.proofs.Steps.{by_front, read_front, reading-skip}
@@ -96,11 +96,11 @@ number_good os l at b bs h =
       refl,
     ))
     (λ n.
-        let m = prefix_len is_ascii_digit bs in
-        let r = run_good is_ascii_digit bs in
-        let large : 2 ^ 63 ≤ number_from 0 (digits_of (b ∷ bs)) = grind (arith, nat_tests) in
-        bad_number b (take m bs) (drop m bs) (ap (λ xs. b ∷ xs) (sym (take-append-drop m bs))) ((h, r.0), r.1)
-          (subst (λ x. 2 ^ 63 ≤ number_from 0 x) (first_of is_ascii_digit b bs h) large) refl)
+    let m = prefix_len is_ascii_digit bs in
+    let r = run_good is_ascii_digit bs in
+    let large : 2 ^ 63 ≤ number_from 0 (digits_of (b ∷ bs)) = grind (arith, nat_tests) in
+    bad_number b (take m bs) (drop m bs) (ap (λ xs. b ∷ xs) (sym (take-append-drop m bs))) ((h, r.0), r.1)
+    (subst (λ x. 2 ^ 63 ≤ number_from 0 x) (first_of is_ascii_digit b bs h) large) refl)
 
 -- how what is inside a piece ends
 abbrev InsideOf : Bool → List ℕ → PieceEnd → Type 0
@@ -150,14 +150,14 @@ inside_good false (b ∷ bs) =
     if_else P (is_hole b bs) _ _ (λ y. hole_good b bs y) (λ no_hole.
     if_else P (is_break b) _ _ (λ y. ([], b, bs, refl, y, refl)) (λ no_break.
     if_else P (eqb b 92) _ _
-      (λ y. if_else P (is_escape bs) _ _
-        (λ right. inside_more false true b bs (piece_end true bs)
-          (λ w tail is i. (unequal b 39 no_quote, subst (λ x. is_hole b x ≡ false) is no_hole, no_break, (λ e. subst (λ x. is_escape x ≡ true) is right), subst (λ t. IsInside t w tail) (sym y) i))
-          (λ e. escape_some bs right) (inside_good true bs))
-        (λ wrong. ([], bs, ap (λ x. x ∷ bs) (eqb-true b 92 y), refl, wrong, refl)))
-      (λ no_backslash. inside_more false false b bs (piece_end false bs)
-          (λ w tail is i. (unequal b 39 no_quote, subst (λ x. is_hole b x ≡ false) is no_hole, no_break, (λ e. absurd (unequal b 92 no_backslash e)), subst (λ t. IsInside t w tail) (sym no_backslash) i))
-          (λ e. absurd cc) (inside_good false bs)))))
+    (λ y. if_else P (is_escape bs) _ _
+    (λ right. inside_more false true b bs (piece_end true bs)
+    (λ w tail is i. (unequal b 39 no_quote, subst (λ x. is_hole b x ≡ false) is no_hole, no_break, (λ e. subst (λ x. is_escape x ≡ true) is right), subst (λ t. IsInside t w tail) (sym y) i))
+    (λ e. escape_some bs right) (inside_good true bs))
+    (λ wrong. ([], bs, ap (λ x. x ∷ bs) (eqb-true b 92 y), refl, wrong, refl)))
+    (λ no_backslash. inside_more false false b bs (piece_end false bs)
+    (λ w tail is i. (unequal b 39 no_quote, subst (λ x. is_hole b x ≡ false) is no_hole, no_break, (λ e. absurd (unequal b 92 no_backslash e)), subst (λ t. IsInside t w tail) (sym no_backslash) i))
+    (λ e. absurd cc) (inside_good false bs)))))
 
 -- a piece that begins with b, up to its end
 quote_split : (b n : ℕ) (w rest bs : List ℕ) → bs ≡ w ++ 39 ∷ rest → b ∷ bs ≡ (b ∷ (w ++ 39 ∷ [])) ++ rest
@@ -380,8 +380,17 @@ hash_nothing : (l : Line) (bs : List ℕ) → (l ≢ line.Within → is_directiv
 unfolding single_mark
 hash_nothing l bs h =
     record {
-      no_blank = refl; no_letter = refl; no_digit = refl; no_quote = refl; no_line_comment = refl; no_comment = refl;
-      no_line_end = refl; no_directive = λ e. h; no_open_brace = refl; no_close_brace = refl; no_mark = refl;
+      no_blank = refl;
+      no_letter = refl;
+      no_digit = refl;
+      no_quote = refl;
+      no_line_comment = refl;
+      no_comment = refl;
+      no_line_end = refl;
+      no_directive = λ e. h;
+      no_open_brace = refl;
+      no_close_brace = refl;
+      no_mark = refl;
     }
 
 no_directive_good : (os : List Open) (l : Line) (at : ℕ) (bs : List ℕ) → (l ≢ line.Within → is_directive (35 ∷ bs) ≡ false) → OnGood os l at (Err (fault.BadCharacter at)) (35 ∷ bs)
@@ -431,10 +440,19 @@ by_good os l at b bs =
     if_else P (eqb b 123) _ _ (λ y. (open_brace refl refl (ap (λ x. x ∷ []) (eqb-true b 123 y)), refl)) (λ no_open.
     if_else P (eqb b 125) _ _ (λ y. subst (λ x. OnGood os l at (closed at os (innermost os) (x ∷ bs)) (x ∷ bs)) (sym (eqb-true b 125 y)) (close_good os l at bs (innermost os) refl)) (λ no_close.
     mark_good os l at b bs slashes star (λ none.
-      record {
-        no_blank = no_blank; no_letter = no_letter; no_digit = no_digit; no_quote = no_quote; no_line_comment = slashes; no_comment = star;
-        no_line_end = no_line_end; no_directive = λ e _. absurd (unequal b 35 no_hash e); no_open_brace = no_open; no_close_brace = no_close; no_mark = none;
-      })))))))))))
+    record {
+      no_blank = no_blank;
+      no_letter = no_letter;
+      no_digit = no_digit;
+      no_quote = no_quote;
+      no_line_comment = slashes;
+      no_comment = star;
+      no_line_end = no_line_end;
+      no_directive = λ e _. absurd (unequal b 35 no_hash e);
+      no_open_brace = no_open;
+      no_close_brace = no_close;
+      no_mark = none;
+    })))))))))))
 
 front_good : (os : List Open) (l : Line) (at b : ℕ) (bs : List ℕ) → OnGood os l at (front_of at os l (b ∷ bs)) (b ∷ bs)
 unfolding front_of
@@ -447,16 +465,18 @@ RowTo Then rest os l at bytes ps = (bytes_of ps rest ≡ bytes) × InARow Then r
 token_row : (Then : List Open → Line → ℕ → Type 0) (rest : List ℕ) (os : List Open) (l : Line) (at : ℕ) (bytes : List ℕ) (kind : TokenKind) (n : ℕ) (t : Turn) (ps : List Part) → n ≤ length bytes → IsWord os l at kind (take n bytes) (drop n bytes) t → RowTo Then rest (turned t os) (behind_token kind) (at + n) (drop n bytes) ps → RowTo Then rest os l at bytes (token kind (take n bytes) t ∷ ps)
 token_row Then rest os l at bytes kind n t ps within is_word r =
     let w = take n bytes in
-    let count : n ≡ length w = sym (length-take-le n bytes within) in
-    (ap (λ xs. w ++ xs) r.0 ∙ take-append-drop n bytes
-    , (subst (λ xs. IsWord os l at kind w xs t) (sym r.0) is_word, subst (λ i. InARow Then rest (turned t os) (behind_token kind) (at + i) ps) count r.1))
+    let count : n ≡ length w = sym (length-take-le n bytes within) in (
+      ap (λ xs. w ++ xs) r.0 ∙ take-append-drop n bytes,
+      (subst (λ xs. IsWord os l at kind w xs t) (sym r.0) is_word, subst (λ i. InARow Then rest (turned t os) (behind_token kind) (at + i) ps) count r.1),
+    )
 
 skip_row : (Then : List Open → Line → ℕ → Type 0) (rest : List ℕ) (os : List Open) (l next : Line) (at : ℕ) (bytes : List ℕ) (n : ℕ) (ps : List Part) → n ≤ length bytes → IsSkipped l (take n bytes) (drop n bytes) next → RowTo Then rest os next (at + n) (drop n bytes) ps → RowTo Then rest os l at bytes (skip (take n bytes) next ∷ ps)
 skip_row Then rest os l next at bytes n ps within skipped r =
     let w = take n bytes in
-    let count : n ≡ length w = sym (length-take-le n bytes within) in
-    (ap (λ xs. w ++ xs) r.0 ∙ take-append-drop n bytes
-    , (subst (λ xs. IsSkipped l w xs next) (sym r.0) skipped, subst (λ i. InARow Then rest os next (at + i) ps) count r.1))
+    let count : n ≡ length w = sym (length-take-le n bytes within) in (
+      ap (λ xs. w ++ xs) r.0 ∙ take-append-drop n bytes,
+      (subst (λ xs. IsSkipped l w xs next) (sym r.0) skipped, subst (λ i. InARow Then rest os next (at + i) ps) count r.1),
+    )
 
 -- what the reading of what is left says of it
 abbrev Told : Outcome → List Open → Line → ℕ → List ℕ → Type 0
@@ -466,19 +486,21 @@ Told (Err f) os l at bytes = (ps : List Part) × (rest : List ℕ) × RowTo (λ 
 token_told : (os : List Open) (l : Line) (at : ℕ) (bytes : List ℕ) (kind : TokenKind) (n : ℕ) (t : Turn) (o : Outcome) → n ≤ length bytes → IsWord os l at kind (take n bytes) (drop n bytes) t → Told o (turned t os) (behind_token kind) (at + n) (drop n bytes) → Told (before (kind, at, take n bytes) o) os l at bytes
 token_told os l at bytes kind n t (Ok ts) within is_word r =
     let w = take n bytes in
-    let count : n ≡ length w = sym (length-take-le n bytes within) in
-    (token kind w t ∷ r.0
-    , token_row NoneIsOpen [] os l at bytes kind n t r.0 within is_word r.1
-    , ap (λ xs. (kind, at, w) ∷ xs) (r.2 ∙ ap (λ i. tokens_of (at + i) r.0) count))
+    let count : n ≡ length w = sym (length-take-le n bytes within) in (
+      token kind w t ∷ r.0,
+      token_row NoneIsOpen [] os l at bytes kind n t r.0 within is_word r.1,
+      ap (λ xs. (kind, at, w) ∷ xs) (r.2 ∙ ap (λ i. tokens_of (at + i) r.0) count),
+    )
 token_told os l at bytes kind n t (Err f) within is_word r =
     (token kind (take n bytes) t ∷ r.0, r.1, token_row (λ os l at. IsFault os l at r.1 f) r.1 os l at bytes kind n t r.0 within is_word r.2)
 
 skip_told : (os : List Open) (l next : Line) (at : ℕ) (bytes : List ℕ) (n : ℕ) (o : Outcome) → n ≤ length bytes → IsSkipped l (take n bytes) (drop n bytes) next → Told o os next (at + n) (drop n bytes) → Told o os l at bytes
 skip_told os l next at bytes n (Ok ts) within skipped r =
-    let count : n ≡ length (take n bytes) = sym (length-take-le n bytes within) in
-    (skip (take n bytes) next ∷ r.0
-    , skip_row NoneIsOpen [] os l next at bytes n r.0 within skipped r.1
-    , r.2 ∙ ap (λ i. tokens_of (at + i) r.0) count)
+    let count : n ≡ length (take n bytes) = sym (length-take-le n bytes within) in (
+      skip (take n bytes) next ∷ r.0,
+      skip_row NoneIsOpen [] os l next at bytes n r.0 within skipped r.1,
+      r.2 ∙ ap (λ i. tokens_of (at + i) r.0) count,
+    )
 skip_told os l next at bytes n (Err f) within skipped r =
     (skip (take n bytes) next ∷ r.0, r.1, skip_row (λ os l at. IsFault os l at r.1 f) r.1 os l next at bytes n r.0 within skipped r.2)
 
@@ -490,14 +512,14 @@ front_told : (m : ℕ) → ToldBelow m → (os : List Open) (l : Line) (at : ℕ
 front_told m below os l at bytes (Err f) most span good = ([], bytes, (refl, good))
 front_told m below os l at bytes (Ok (front.Skipped n next)) most span good =
     skip_told os l next at bytes n (reading_from 0 (at + n) os next (drop n bytes)) span.1 good
-      (below os next (at + n) (drop n bytes) (omega (arith, length-drop n bytes, span.0, most)))
+    (below os next (at + n) (drop n bytes) (omega (arith, length-drop n bytes, span.0, most)))
 front_told m below os l at bytes (Ok (front.Newline n)) most span good =
     token_told os l at bytes k.Newline n turn.Stays (reading_from 0 (at + n) os line.Folded (drop n bytes)) span.within good
-      (below os line.Folded (at + n) (drop n bytes) (omega (arith, length-drop n bytes, span.some, most)))
+    (below os line.Folded (at + n) (drop n bytes) (omega (arith, length-drop n bytes, span.some, most)))
 front_told m below os l at bytes (Ok (front.Word kind n t)) most span good =
     token_told os l at bytes kind n t (reading_from 0 (at + n) (turned t os) line.Within (drop n bytes)) span.within good.0
-      (subst (λ x. Told (reading_from 0 (at + n) (turned t os) line.Within (drop n bytes)) (turned t os) x (at + n) (drop n bytes)) (sym good.1)
-        (below (turned t os) line.Within (at + n) (drop n bytes) (omega (arith, length-drop n bytes, span.some, most))))
+    (subst (λ x. Told (reading_from 0 (at + n) (turned t os) line.Within (drop n bytes)) (turned t os) x (at + n) (drop n bytes)) (sym good.1)
+    (below (turned t os) line.Within (at + n) (drop n bytes) (omega (arith, length-drop n bytes, span.some, most))))
 
 end_told : (os : List Open) (l : Line) (at : ℕ) (o : Option ℕ) → outermost os ≡ o → Told (ended_by o) os l at []
 end_told os l at None top = ([], (refl, top), refl)
@@ -508,7 +530,7 @@ told m os l at [] most = end_told os l at (outermost os) refl
 told zero os l at (b ∷ bs) most = absurd (omega arith)
 told (suc m) os l at (b ∷ bs) most =
     subst (λ o. Told o os l at (b ∷ bs)) (sym (read_front at os l (b ∷ bs) (omega arith)))
-      (front_told m (told m) os l at (b ∷ bs) (front_of at os l (b ∷ bs)) most (front_span at os l (b ∷ bs)) (front_good os l at b bs))
+    (front_told m (told m) os l at (b ∷ bs) (front_of at os l (b ∷ bs)) most (front_span at os l (b ∷ bs)) (front_good os l at b bs))
 
 mark-within : (source : List ℕ) → mark_length source ≤ length source
 unfolding mark_length
@@ -527,7 +549,7 @@ below_mark source =
     let count : n ≡ length (take n source) = sym (length-take-le n source within) in
     let read : reading_from 0 n [] line.Front (drop n source) ≡ reading_from n 0 [] line.Front source = sym (reading-skip n 0 [] line.Front source within ∙ ap (λ i. reading_from 0 i [] line.Front (drop n source)) e) in
     subst (λ i. Told (reading_from n 0 [] line.Front source) [] line.Front i (drop n source)) count
-      (subst (λ o. Told o [] line.Front n (drop n source)) read (told (length (drop n source)) [] line.Front n (drop n source) (omega arith)))
+    (subst (λ o. Told o [] line.Front n (drop n source)) read (told (length (drop n source)) [] line.Front n (drop n source) (omega arith)))
 
 stands : (source rest : List ℕ) (ps : List Part) (Then : List Open → Line → ℕ → Type 0) → RowTo Then rest [] line.Front (length (take (mark_length source) source)) (drop (mark_length source) source) ps → StandsBefore source rest (take (mark_length source) source) ps Then
 stands source rest ps Then r =

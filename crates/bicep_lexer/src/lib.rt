@@ -1,8 +1,9 @@
-//! The lexer of Bicep files: which tokens a text is.
+//! The lexer of Bicep files: which tokens a source is.
 //!
-//! `tokens` answers the reading of a text, which `specs/Reading.antt` defines from the front of the
-//! text on: its tokens, each with the slice of the source that it is, or the first fault and its place.
-//! What a token of a text means is `value`. Nothing here recurses on what a file holds.
+//! A caller may rely on what `tokens` ensures: the tokens are those that the source spells, and no
+//! others (`specs/Grammar`), each the slice of the source at its place; a source that it refuses has the
+//! fault that it names, and no other (`specs/Faults`). What a token means is `Token::value`
+//! (`specs/Values`). Nothing here recurses on what a file holds.
 #![tactic(auto)]
 
 mod bytes;

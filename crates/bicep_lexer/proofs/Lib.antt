@@ -6,3 +6,4 @@ pub mod Characters
 pub mod Complete
 pub mod Sound
 pub mod Laws
+pub mod Meaning

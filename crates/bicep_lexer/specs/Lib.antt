@@ -9,3 +9,4 @@ pub mod Progress
 pub mod Values
 pub mod Grammar
 pub mod Faults
+pub mod Signs

@@ -4,6 +4,7 @@ ghost use Rattle.std.specs.Prelude.{◌≡◌, ℕ, ◌+◌, ◌++◌, ◌∷◌
 ghost use Rattle.std.specs.Str.{chars};
 ghost use Rattle.bicep_lexer.specs.Escapes.{hexadecimal, simple_escape};
 ghost use Rattle.bicep_lexer.specs.Skipped.{newline_length};
+ghost use Rattle.bicep_lexer.specs.Signs.{Sign, AreSigns, IsBetween, written, meant};
 ghost use Rattle.bicep_lexer.specs.Values.{with_digit, character_of, unescaped_from, unescaped, inside, below_newline, value_of};
 
 use crate::escapes::hexadecimal;
@@ -157,7 +158,8 @@ impl Token<'_> {
     /// right behind the opening; of any other token its own characters. Memory that is refused is
     /// `OutOfMemory`.
     pub fn value(&self, alloc: Global) -> Result<Text, OutOfMemory>
-        ensures { IfOk result (λ text. text ≡ value_of self.now.kind (chars self.now.text.now)) }
+        ensures value { IfOk result (λ text. text ≡ value_of self.now.kind (chars self.now.text.now)) }
+        ensures meant { IfOk result (λ text. (signs : List Sign) → AreSigns signs → IsBetween self.now.kind (chars self.now.text.now) (written signs) → text ≡ meant signs) }
     {
         let characters = characters_of(alloc, self.text)?;
         let value = value_of(alloc, self.kind, &characters)?;

@@ -79,7 +79,7 @@ IsName-push : (w : List ℕ) (c : ℕ) → IsName w → goes_on_name (kind_of c)
 IsName-push [] c h is = absurd h
 IsName-push (x ∷ w) c h is = (h.0, GoOnName-push w c h.1 is)
 
-AreDigits-push : (w : List ℕ) (c : ℕ) → AreDigits w → is_digit (kind_of c) ≡ true → AreDigits (w ++ c ∷ [])
+pub AreDigits-push : (w : List ℕ) (c : ℕ) → AreDigits w → is_digit (kind_of c) ≡ true → AreDigits (w ++ c ∷ [])
 AreDigits-push [] c h is = (is, tt)
 AreDigits-push (x ∷ w) c h is = (h.0, AreDigits-push w c h.1 is)
 

@@ -2,9 +2,10 @@ mod Words
 mod Parsing
 mod Keeping
 mod Lexing
-mod LexingSound
+pub mod LexingSound
 mod Spelling
 pub mod Reading
 pub mod BracketLemmas
 pub mod ViewLemmas
 pub mod LexerLemmas
+pub mod PrintLemmas

@@ -1,9 +1,16 @@
 -- Reading a text as the grammar spells it.
-use Rattle.std.proofs.Common.{◌≡◌, ℕ, List, [], ◌∷◌, ◌++◌, Option, Some, None, option_map, option_and_then, cond, refl, ap, sym, ◌∙◌, subst, ◌<◌, ◌≤◌, ◌≢◌, ◌↔◌, ◌⊎◌, inl, inr, IsTrue, Bool, true, false}
+use Rattle.std.proofs.Common.{◌≡◌, ℕ, List, [], ◌∷◌, ◌++◌, Option, Some, None, option_map, option_and_then, cond, refl, ap, sym, ◌∙◌, subst, ◌<◌, ◌≤◌, ◌≢◌, ◌↔◌, ◌⊎◌, inl, inr, IsTrue, Bool, true, false, Result, Ok, Err, length, arith, nat_le}
+use Rattle.std.proofs.lemmas.Bool.Decides.{nat_tests}
+use Rattle.arm_expr.specs.declared.expr.Expr.{Expr}
+use Rattle.arm_expr.specs.declared.fault.ExprFault.{ExprFault}
+use Rattle.arm_expr.specs.declared.fault.ExprFault.TheVariants.{TooLong, NotAnExpression, TooDeep, OutOfMemory}
+use Rattle.arm_expr.specs.Answers.{Reads, IsReadAs}
+use Rattle.arm_expr.specs.View.{tree_of}
 use Rattle.std.proofs.lemmas.Bool.{cases_lt}
-use Rattle.arm_expr.specs.Tree.{Tree, nesting}
+use Rattle.arm_expr.specs.Tree.{Tree, text, int, call, member, index, Trees, none, more, nesting}
+use Rattle.arm_expr.specs.Print.{HasNames, HaveNames}
 use Rattle.arm_expr.specs.Tokens.{Token}
-use Rattle.arm_expr.specs.Grammar.{Spells}
+use Rattle.arm_expr.specs.Grammar.{Spells, expression, arguments, further}
 use Rattle.arm_expr.specs.Lexer.{lex, between}
 use Rattle.arm_expr.specs.Machine.{parsed, as_tree, kept}
 use Rattle.arm_expr.specs.Stack.{kept_parsed, kept_reading}
@@ -30,13 +37,13 @@ front_same (a ∷ cs) (b ∷ bs) x h =
     cc
 
 -- what is spelled stands in brackets, and has the tokens of the expression
-record Bracketed (e : Tree) (text : List ℕ) : Type 0 where
+record Bracketed (e : Tree) (t : List ℕ) : Type 0 where
   inner : List ℕ
-  text_is : text ≡ in_brackets inner
+  is : t ≡ in_brackets inner
   lexed : lex between inner ≡ Some (spelled e [])
 
-bracketed : (e : Tree) (text : List ℕ) → Spells e text → Bracketed e text
-bracketed e text s =
+bracketed : (e : Tree) (t : List ℕ) → Spells e t → Bracketed e t
+bracketed e t s =
     let last = s.2.2.2 in
     let bs = last.1 in
     let behind : Ended s.2.2.0 (93 ∷ []) (Some []) = record {
@@ -44,16 +51,16 @@ bracketed e text s =
       ends = blank_ends bs.0 bs.1;
     } in
     let c = cut_blanks s.0 s.2.0 (93 ∷ []) (Some (spelled e [])) s.2.1 (cut_expression e s.2.0 s.2.2.0 (93 ∷ []) (Some []) s.2.2.1 behind) in
-    record { inner = c.front; text_is = s.1 ∙ ap (λ x. 91 ∷ x) c.is; lexed = c.lexed }
+    record { inner = c.front; is = s.1 ∙ ap (λ x. 91 ∷ x) c.is; lexed = c.lexed }
 
-inner_same : (text a b : List ℕ) → text ≡ in_brackets a → text ≡ in_brackets b → a ≡ b
-inner_same text a b h k = let e : a ++ 93 ∷ [] ≡ b ++ 93 ∷ [] = cc in front_same a b 93 e
+inner_same : (t a b : List ℕ) → t ≡ in_brackets a → t ≡ in_brackets b → a ≡ b
+inner_same t a b h k = let e : a ++ 93 ∷ [] ≡ b ++ 93 ∷ [] = cc in front_same a b 93 e
 
 -- what stands in the brackets has the tokens of the expression
 lexed_inside : (e : Tree) (inner : List ℕ) → Spells e (in_brackets inner) → lex between inner ≡ Some (spelled e [])
 lexed_inside e inner s =
     let b = bracketed e (in_brackets inner) s in
-    ap (lex between) (inner_same (in_brackets inner) inner b.inner refl b.text_is) ∙ b.lexed
+    ap (lex between) (inner_same (in_brackets inner) inner b.inner refl b.is) ∙ b.lexed
 
 -- what is read is spelled
 read_spells : (e : Tree) (inner : List ℕ) (ts : List Token) → lex between inner ≡ Some ts → parsed Tree (List Tree) as_tree ts ≡ Some e → Spells e (in_brackets inner)
@@ -67,7 +74,7 @@ pub spelled_once : (t : List ℕ) (e f : Tree) → Spells e t → Spells f t →
 spelled_once t e f s r =
     let b = bracketed e t s in
     let c = bracketed f t r in
-    let same : Some (spelled e []) ≡ Some (spelled f []) = sym b.lexed ∙ ap (lex between) (inner_same t b.inner c.inner b.text_is c.text_is) ∙ c.lexed in
+    let same : Some (spelled e []) ≡ Some (spelled f []) = sym b.lexed ∙ ap (lex between) (inner_same t b.inner c.inner b.is c.is) ∙ c.lexed in
     let tokens : spelled e [] ≡ spelled f [] = cc in
     let trees : Some e ≡ Some f = sym (spelled_is_parsed e) ∙ ap (parsed Tree (List Tree) as_tree) tokens ∙ spelled_is_parsed f in
     cc
@@ -101,7 +108,7 @@ pub answered : (t inner : List ℕ) (o : Option (Option Tree)) → t ≡ in_brac
 answered t inner o is h = subst (Found o) (sym is) (subst (λ x. Found x (in_brackets inner)) h (found inner))
 
 pub unbracketed : (t : List ℕ) → ((inner : List ℕ) → t ≢ in_brackets inner) → (e : Tree) → Spells e t → ⊥
-unbracketed t none e s = let b = bracketed e t s in none b.inner b.text_is
+unbracketed t never e s = let b = bracketed e t s in never b.inner b.is
 
 pub short : (b : Bool) (n limit : ℕ) → (IsTrue b ↔ (limit < n)) → b ≡ false → n ≤ limit
 short b n limit h is = by (cases_lt limit n)
@@ -109,3 +116,36 @@ short b n limit h is = by (cases_lt limit n)
     by : (limit < n) ⊎ (n ≤ limit) → n ≤ limit
     by (inl y) = let t : true ≡ false = sym (h.1 y) ∙ is in cc
     by (inr y) = y
+
+-- an answer to a text that spells the expression within the limits is the expression
+pub read_as : (t : List ℕ) (r : Result Expr ExprFault) (e : Tree) (long deep : ℕ) → Reads long deep t r → Spells e t → length t ≤ long → nesting e ≤ deep → IsReadAs e r
+read_as t (Ok f) e long deep h s l d = spelled_once t (tree_of f) e h.1 s
+read_as t (Err TooLong) e long deep h s l d = absurd (omega arith)
+read_as t (Err NotAnExpression) e long deep h s l d = h.1 e s
+read_as t (Err TooDeep) e long deep h s l d =
+    let same : nesting h.1.0 ≡ nesting e = ap nesting (spelled_once t h.1.0 e h.1.1 s) in
+    absurd (omega (arith, h.1.2))
+read_as t (Err OutOfMemory) e long deep h s l d = tt
+
+pub within : (m n : ℕ) → true ≡ nat_le m n → m ≤ n
+within m n h = grind (arith, nat_tests)
+
+-- what is spelled has names of the grammar
+mutual
+  names_in : (e : Tree) (t k : List ℕ) → expression e t k → HasNames e
+  names_in (text s) t k h = tt
+  names_in (int z) t k h = tt
+  names_in (call name es) t k h = (h.1.0, names_in_arguments es h.2.2.0 h.2.2.2.0 h.2.2.2.1)
+  names_in (member x name) t k h = (names_in x t h.0 h.1, h.2.2.2.2.0)
+  names_in (index x i) t k h = (names_in x t h.0 h.1, names_in i h.2.2.2.0 h.2.2.2.2.0 h.2.2.2.2.1)
+
+  names_in_arguments : (es : Trees) (t k : List ℕ) → arguments es t k → HaveNames es
+  names_in_arguments none t k h = tt
+  names_in_arguments (more e es) t k h = (names_in e h.0 h.2.0 h.2.1, names_in_further es h.2.0 k h.2.2)
+
+  names_in_further : (es : Trees) (t k : List ℕ) → further es t k → HaveNames es
+  names_in_further none t k h = tt
+  names_in_further (more e es) t k h = (names_in e h.2.2.0 h.2.2.2.0 h.2.2.2.1, names_in_further es h.2.2.2.0 k h.2.2.2.2)
+
+pub spelled_has_names : (t : List ℕ) (e : Tree) → Spells e t → HasNames e
+spelled_has_names t e s = names_in e s.2.0 s.2.2.0 s.2.2.1

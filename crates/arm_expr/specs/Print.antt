@@ -1,5 +1,5 @@
 -- The text that is written for an expression.
-use Rattle.std.specs.Prelude.{ℕ, ◌+◌, ◌<◌, ◌^◌, ℤ, pos, negsuc, List, [], ◌∷◌, ◌++◌, Bool, true, false}
+use Rattle.std.specs.Prelude.{ℕ, ◌+◌, length, ◌<◌, ◌^◌, ℤ, pos, negsuc, List, [], ◌∷◌, ◌++◌, Bool, true, false}
 use Rattle.std.specs.Fmt.{signed_decimal}
 use Rattle.arm_expr.specs.Tree.{Tree, text, int, call, member, index, Trees, none, more}
 use Rattle.arm_expr.specs.Grammar.{doubled, IsName}
@@ -59,3 +59,17 @@ abbrev mutual
 abbrev pub left_onto : Bool → Trees → List ℕ → List ℕ
 left_onto true es k = arguments_onto es k
 left_onto false es k = further_onto es k
+
+-- how many characters are written for an expression
+abbrev mutual
+  pub size : Tree → ℕ
+  size (text s) = 2 + length (doubled s)
+  size (int z) = length (signed_decimal z)
+  size (call name es) = length name + 1 + arguments_size 0 es
+  size (member e name) = size e + 1 + length name
+  size (index e i) = 2 + size e + size i
+
+  -- for arguments and the `)` behind them, with n characters before the first and `, ` before each other
+  pub arguments_size : ℕ → Trees → ℕ
+  arguments_size n none = 1
+  arguments_size n (more e es) = n + size e + arguments_size 2 es

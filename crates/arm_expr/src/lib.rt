@@ -6,16 +6,23 @@
 //! tree an expression stands for.
 #![tactic(auto)]
 
+mod characters;
 pub mod expr;
 pub mod fault;
 pub mod laws;
 mod lexer;
 mod nesting;
 mod parser;
+mod printer;
 mod reader;
 mod stop;
+mod room;
 mod token;
 
 pub use expr::{Expr, Exprs, MOST_CHARACTERS, MOST_NESTING};
 pub use fault::ExprFault;
+pub use printer::print;
 pub use reader::read;
+
+#[cfg(test)]
+mod tests;

@@ -1,22 +1,21 @@
 // Reads the text of an expression.
 
-ghost use Rattle.std.specs.Prelude.{◌≡◌, ◌≢◌, ◌<◌, ◌↔◌, ℕ, List, [], ◌∷◌, ◌++◌, chars, length, MatchOption, IsTrue};
-ghost use Rattle.arm_expr.specs.Answers.{Reads};
+ghost use Rattle.std.specs.Prelude.{◌≡◌, ◌≢◌, ◌≤◌, ℕ, List, [], ◌∷◌, ◌++◌, chars, length, MatchOption, IfOk};
+ghost use Rattle.arm_expr.specs.Answers.{Reads, IsReadAs};
+ghost use Rattle.arm_expr.specs.Tree.{Tree, nesting};
+ghost use Rattle.arm_expr.specs.Grammar.{Spells};
+ghost use Rattle.arm_expr.specs.Print.{HasNames};
+ghost use Rattle.arm_expr.specs.View.{tree_of};
 ghost use Rattle.arm_expr.specs.Pending.{Gives};
 ghost use Rattle.arm_expr.specs.Stack.{kept_of, kept_reading};
 
+use crate::characters::characters;
 use crate::expr::{Expr, MOST_CHARACTERS, MOST_NESTING};
 use crate::fault::ExprFault;
 use crate::lexer::tokens;
 use crate::parser::parse;
 use crate::stop::Stop;
 use std::alloc::Global;
-
-fn is_too_long(text: &str) -> bool
-    ensures { IsTrue result ↔ (MOST_CHARACTERS < length (chars text.now)) }
-{
-    text.chars().count() > MOST_CHARACTERS
-}
 
 // What stands between the brackets of a text.
 fn inside(text: &str) -> Option<&str>
@@ -49,9 +48,14 @@ fn read_inside(alloc: Global, inner: &str) -> Result<Option<Expr>, Stop>
 /// that spells no expression, then `TooDeep` where the expression nests above 64. It takes time and
 /// memory in proportion to the text, and it builds nothing that nests above 64.
 pub fn read(alloc: Global, text: &str) -> Result<Expr, ExprFault>
-    ensures { Reads MOST_CHARACTERS MOST_NESTING (chars text.now) result }
+    ensures answer { Reads MOST_CHARACTERS MOST_NESTING (chars text.now) result }
+
+    // What is spelled within the limits is read, unless memory runs out.
+    ensures spelled { (e : Tree) → Spells e (chars text.now) → length (chars text.now) ≤ MOST_CHARACTERS
+        → nesting e ≤ MOST_NESTING → IsReadAs e result }
+    ensures names { IfOk result (λ e. HasNames (tree_of e)) }
 {
-    if is_too_long(text) {
+    if characters(text) > MOST_CHARACTERS {
         return Err(ExprFault::TooLong);
     }
     match inside(text) {

@@ -1,0 +1,9 @@
+pub mod JsonLemmas
+pub mod DataLemmas
+pub mod ReadLemmas
+pub mod WriteLemmas
+pub mod TextLemmas
+pub mod SameLemmas
+pub mod SetLemmas
+pub mod PointerLemmas
+pub mod GatherLemmas

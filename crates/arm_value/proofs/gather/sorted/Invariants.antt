@@ -1,0 +1,7 @@
+use Rattle.std.proofs.Common.{◌≡◌, map, []}
+use Rattle.arm_value.specs.Json.{put_each}
+use Rattle.arm_value.specs.View.{member, entry}
+use Rattle.arm_value.proofs.gather.sorted.Given as goal
+
+abbrev pub invariant-loop-field : goal.invariant-loop-field
+invariant-loop-field l = map entry l.sorted.entries ≡ put_each [] (map member l.yielded)

@@ -1,0 +1,10 @@
+pub mod Json
+pub mod JsonCode
+pub mod View
+pub mod Falls
+pub mod Reading
+pub mod Fault
+pub mod Look
+pub mod Same
+pub mod Place
+pub mod Pointer

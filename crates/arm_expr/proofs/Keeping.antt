@@ -89,8 +89,8 @@ module _ {A B C D : Type 0} (m : Makes A B) (n : Makes C D) (f : A → C) (g : B
   run_to (t ∷ ts) s S =
       ap (λ o. option_and_then (λ p. run C D n p.0 p.1 ts) o) (step_to s S t)
       ∙ elim (step A B m s S t) as (λ o. option_and_then (λ p. run C D n p.0 p.1 ts) (next_to o) ≡ option_map f (option_and_then (λ p. run A B m p.0 p.1 ts) o)) [
-        None ↦ refl
-      | Some p ↦ run_to ts p.0 p.1
+        | None ↦ refl
+        | Some p ↦ run_to ts p.0 p.1
       ]
 
   pub parsed_to : (ts : List Token) → parsed C D n ts ≡ option_map f (parsed A B m ts)
@@ -117,6 +117,7 @@ if_else m n P f g = elim (nat_le m n) as (λ b. nat_le m n ≡ b → P b) [ true
   where
     le_of : nat_le m n ≡ true → m ≤ n
     le_of y = grind (arith, nat_tests)
+
     lt_of : nat_le m n ≡ false → n < m
     lt_of y = grind (arith, nat_tests)
 
@@ -129,7 +130,7 @@ index_kept : (limit : ℕ) (b e : Tree) → option_and_then (λ x. option_and_th
 index_kept limit b e =
     if_else (nesting b) limit (λ v. option_and_then (λ x. option_and_then (λ y. kept limit (index x y)) (kept limit e)) (cond v (Some b) None) ≡ kept limit (index b e))
     (λ y. if_else (nesting e) limit (λ v. option_and_then (λ y. kept limit (index b y)) (cond v (Some e) None) ≡ kept limit (index b e))
-      (λ y. refl) (λ n. sym (too_deep limit (index b e) (omega arith))))
+    (λ y. refl) (λ n. sym (too_deep limit (index b e) (omega arith))))
     (λ n. sym (too_deep limit (index b e) (omega arith)))
 
 deepest-push : (es : List Tree) (e : Tree) → deepest (trees (es ++ e ∷ [])) ≡ max (deepest (trees es)) (nesting e)
@@ -140,8 +141,8 @@ with_kept : (limit : ℕ) (es : List Tree) (e : Tree) → option_and_then (λ xs
 with_kept limit es e =
     if_else (deepest (trees es)) limit (λ v. option_and_then (λ xs. option_map (λ x. xs ++ x ∷ []) (kept limit e)) (cond v (Some es) None) ≡ all_kept limit (es ++ e ∷ []))
     (λ y. if_else (nesting e) limit (λ v. option_map (λ x. es ++ x ∷ []) (cond v (Some e) None) ≡ all_kept limit (es ++ e ∷ []))
-      (λ z. sym (all_shallow limit (es ++ e ∷ []) (omega (arith, deepest-push es e))))
-      (λ n. sym (too_deep_some limit (es ++ e ∷ []) (omega (arith, deepest-push es e)))))
+    (λ z. sym (all_shallow limit (es ++ e ∷ []) (omega (arith, deepest-push es e))))
+    (λ n. sym (too_deep_some limit (es ++ e ∷ []) (omega (arith, deepest-push es e)))))
     (λ n. sym (too_deep_some limit (es ++ e ∷ []) (omega (arith, deepest-push es e))))
 
 call_kept : (limit : ℕ) (name : List ℕ) (es : List Tree) → option_and_then (λ xs. kept limit (call name (trees xs))) (all_kept limit es) ≡ kept limit (call name (trees es))

@@ -39,8 +39,8 @@ pub ruleset lexer_views = (onto-after, onto-none, tokens-push, append-nil, chars
 pub turn_gives : (old new : List Token) (p q : Pending) (c : ℕ) (cs : List ℕ) → onto old (turn p c) ≡ next new q → option_map (λ ts. new ++ ts) (lex q cs) ≡ option_map (λ ts. old ++ ts) (lex p (c ∷ cs))
 turn_gives old new p q c cs h =
     elim (turn p c) as (λ o. onto old o ≡ next new q → option_map (λ ts. new ++ ts) (lex q cs) ≡ option_map (λ ts. old ++ ts) (option_and_then (λ r. option_map (λ ts. r.0 ++ ts) (lex r.1 cs)) o)) [
-      None ↦ λ e. cc
-    | Some r ↦ λ e. turned old new q r cs e
+      | None ↦ λ e. cc
+      | Some r ↦ λ e. turned old new q r cs e
     ] h
   where
     turned : (old new : List Token) (q : Pending) (r : List Token × Pending) (cs : List ℕ) → next (old ++ r.0) r.1 ≡ next new q → option_map (λ ts. new ++ ts) (lex q cs) ≡ option_map (λ ts. old ++ ts) (option_map (λ ts. r.0 ++ ts) (lex r.1 cs))
@@ -48,15 +48,15 @@ turn_gives old new p q c cs h =
         let pair : ◌≡◌ {A = List Token × Pending} (old ++ r.0, r.1) (new, q) = cc in
         subst (λ (x : List Token × Pending). option_map (λ ts. x.0 ++ ts) (lex x.1 cs) ≡ option_map (λ ts. old ++ ts) (option_map (λ ts. r.0 ++ ts) (lex r.1 cs))) pair
         (elim (lex r.1 cs) as (λ o. option_map (λ ts. (old ++ r.0) ++ ts) o ≡ option_map (λ ts. old ++ ts) (option_map (λ ts. r.0 ++ ts) o)) [
-          None ↦ refl
-        | Some ts ↦ ap (λ x. Some x) (append_assoc old r.0 ts)
+          | None ↦ refl
+          | Some ts ↦ ap (λ x. Some x) (append_assoc old r.0 ts)
         ])
 
 pub turn_refuses : (old : List Token) (p : Pending) (c : ℕ) (cs : List ℕ) → onto old (turn p c) ≡ None → lex p (c ∷ cs) ≡ None
 turn_refuses old p c cs h =
     elim (turn p c) as (λ o. onto old o ≡ None → option_and_then (λ r. option_map (λ ts. r.0 ++ ts) (lex r.1 cs)) o ≡ None) [
-      None ↦ λ e. refl
-    | Some r ↦ λ e. cc
+      | None ↦ λ e. refl
+      | Some r ↦ λ e. cc
     ] h
 
 pub cons_at : (all : List ℕ) (n c : ℕ) → (n < length all) × (c ≡ get_or all n c) → drop n all ≡ c ∷ drop (n + 1) all

@@ -229,26 +229,26 @@ mutual
   cut_expression (call name es) t k u o h e =
       along t u _ _ (joined (λ ts. a_name name ∷ ts) (λ ts. open_paren ∷ arguments_spelled es ts) (spelled (call name es)) (λ ts. refl) o)
       (cut_name name t h.0 u _ h.1
-        (ended_blanks h.0 h.2.0 u _ h.2.1
-          (ended_along h.2.0 u _ _ (joined (λ ts. open_paren ∷ ts) (arguments_spelled es) (λ ts. open_paren ∷ arguments_spelled es ts) (λ ts. refl) o)
-            (open_paren_ended h.2.0 h.2.2.0 u _ h.2.2.1 (cut_arguments es h.2.2.0 k u o h.2.2.2 e.cut)))))
+      (ended_blanks h.0 h.2.0 u _ h.2.1
+      (ended_along h.2.0 u _ _ (joined (λ ts. open_paren ∷ ts) (arguments_spelled es) (λ ts. open_paren ∷ arguments_spelled es ts) (λ ts. refl) o)
+      (open_paren_ended h.2.0 h.2.2.0 u _ h.2.2.1 (cut_arguments es h.2.2.0 k u o h.2.2.2 e.cut)))))
   cut_expression (member x name) t k u o h e =
       along t u _ _ (joined (spelled x) (λ ts. dot ∷ a_name name ∷ ts) (spelled (member x name)) (λ ts. refl) o)
       (cut_expression x t h.0 u _ h.1
-        (ended_blanks h.0 h.2.0 u _ h.2.1
-          (ended_along h.2.0 u _ _ (joined (λ ts. dot ∷ ts) (λ ts. a_name name ∷ ts) (λ ts. dot ∷ a_name name ∷ ts) (λ ts. refl) o)
-            (dot_ended h.2.0 h.2.2.0 u _ h.2.2.1 (cut_blanks h.2.2.0 h.2.2.2.0 u _ h.2.2.2.1 (cut_name name h.2.2.2.0 k u o h.2.2.2.2 e))))))
+      (ended_blanks h.0 h.2.0 u _ h.2.1
+      (ended_along h.2.0 u _ _ (joined (λ ts. dot ∷ ts) (λ ts. a_name name ∷ ts) (λ ts. dot ∷ a_name name ∷ ts) (λ ts. refl) o)
+      (dot_ended h.2.0 h.2.2.0 u _ h.2.2.1 (cut_blanks h.2.2.0 h.2.2.2.0 u _ h.2.2.2.1 (cut_name name h.2.2.2.0 k u o h.2.2.2.2 e))))))
   cut_expression (index x i) t k u o h e =
       along t u _ _ (joined (spelled x) (λ ts. open_bracket ∷ spelled i (close_bracket ∷ ts)) (spelled (index x i)) (λ ts. refl) o)
       (cut_expression x t h.0 u _ h.1
-        (ended_blanks h.0 h.2.0 u _ h.2.1
-          (ended_along h.2.0 u _ _ (joined (λ ts. open_bracket ∷ ts) (λ ts. spelled i (close_bracket ∷ ts)) (λ ts. open_bracket ∷ spelled i (close_bracket ∷ ts)) (λ ts. refl) o)
-            (open_bracket_ended h.2.0 h.2.2.0 u _ h.2.2.1
-              (along h.2.2.0 u _ _ (joined (spelled i) (λ ts. close_bracket ∷ ts) (λ ts. spelled i (close_bracket ∷ ts)) (λ ts. refl) o)
-                (cut_blanks h.2.2.0 h.2.2.2.0 u _ h.2.2.2.1
-                  (cut_expression i h.2.2.2.0 h.2.2.2.2.0 u _ h.2.2.2.2.1
-                    (ended_blanks h.2.2.2.2.0 h.2.2.2.2.2.0 u _ h.2.2.2.2.2.1
-                      (close_bracket_ended h.2.2.2.2.2.0 k u o h.2.2.2.2.2.2 e.cut)))))))))
+      (ended_blanks h.0 h.2.0 u _ h.2.1
+      (ended_along h.2.0 u _ _ (joined (λ ts. open_bracket ∷ ts) (λ ts. spelled i (close_bracket ∷ ts)) (λ ts. open_bracket ∷ spelled i (close_bracket ∷ ts)) (λ ts. refl) o)
+      (open_bracket_ended h.2.0 h.2.2.0 u _ h.2.2.1
+      (along h.2.2.0 u _ _ (joined (spelled i) (λ ts. close_bracket ∷ ts) (λ ts. spelled i (close_bracket ∷ ts)) (λ ts. refl) o)
+      (cut_blanks h.2.2.0 h.2.2.2.0 u _ h.2.2.2.1
+      (cut_expression i h.2.2.2.0 h.2.2.2.2.0 u _ h.2.2.2.2.1
+      (ended_blanks h.2.2.2.2.0 h.2.2.2.2.2.0 u _ h.2.2.2.2.2.1
+      (close_bracket_ended h.2.2.2.2.2.0 k u o h.2.2.2.2.2.2 e.cut)))))))))
 
   cut_arguments : (es : Trees) (t k u : List ℕ) (o : Option (List Token)) → (arguments es ▹ mark 41) t k → Cut k u o → Cut t u (option_map (arguments_spelled es) o)
   cut_arguments none t k u o h c = cut_blanks t h.0 u _ h.1 (close_paren_ended h.0 k u o h.2 c).cut
@@ -263,6 +263,6 @@ mutual
       let a = h.1 in
       ended_along t u _ _ (joined (λ ts. comma ∷ ts) (λ ts. spelled e (further_spelled es ts)) (further_spelled (more e es)) (λ ts. refl) o)
       (ended_blanks t a.0 u _ a.1
-        (comma_ended a.0 a.2.0 u _ a.2.1
-          (along a.2.0 u _ _ (joined (spelled e) (further_spelled es) (λ ts. spelled e (further_spelled es ts)) (λ ts. refl) o)
-            (cut_blanks a.2.0 a.2.2.0 u _ a.2.2.1 (cut_expression e a.2.2.0 a.2.2.2.0 u _ a.2.2.2.1 (ended_further es a.2.2.2.0 k u o (h.0, a.2.2.2.2, h.2) c))))))
+      (comma_ended a.0 a.2.0 u _ a.2.1
+      (along a.2.0 u _ _ (joined (spelled e) (further_spelled es) (λ ts. spelled e (further_spelled es ts)) (λ ts. refl) o)
+      (cut_blanks a.2.0 a.2.2.0 u _ a.2.2.1 (cut_expression e a.2.2.0 a.2.2.2.0 u _ a.2.2.2.1 (ended_further es a.2.2.2.0 k u o (h.0, a.2.2.2.2, h.2) c))))))

@@ -99,8 +99,8 @@ doubled-push : (s : List ℕ) (c : ℕ) → doubled (s ++ c ∷ []) ≡ doubled 
 doubled-push [] c = refl
 doubled-push (x ∷ s) c =
     elim (eqb x 39) as (λ b. cond b (39 ∷ 39 ∷ doubled (s ++ c ∷ [])) (x ∷ doubled (s ++ c ∷ [])) ≡ cond b (39 ∷ 39 ∷ doubled s) (x ∷ doubled s) ++ twice c) [
-      true ↦ ap (λ y. 39 ∷ 39 ∷ y) (doubled-push s c)
-    | false ↦ ap (λ y. x ∷ y) (doubled-push s c)
+      | true ↦ ap (λ y. 39 ∷ 39 ∷ y) (doubled-push s c)
+      | false ↦ ap (λ y. x ∷ y) (doubled-push s c)
     ]
 
 doubled-plain : (s : List ℕ) (c : ℕ) (cs : List ℕ) → eqb c 39 ≡ false → doubled (s ++ c ∷ []) ++ cs ≡ doubled s ++ c ∷ cs
@@ -125,8 +125,8 @@ turn_keeps (counting s ds) c cs h =
     if_else (λ o. OnTurn o cs (with_sign s ds ++ c ∷ cs)) (is_digit (kind_of c)) _ _
     (λ y. (IsPending-push s ds c h y, λ more m. subst (Writes more) (with_sign-push s ds c cs) m))
     (λ n. if_else (λ o. OnTurn (option_and_then (λ t. after_token t (start c)) o) cs (with_sign s ds ++ c ∷ cs)) (fits s (value_from 0 ds)) _ _
-      (λ f. ends_keeps (an_int (signed s (value_from 0 ds))) (with_sign s ds) c cs (start c) (numeral s ds h f) (start_keeps c cs))
-      (λ f. tt))
+    (λ f. ends_keeps (an_int (signed s (value_from 0 ds))) (with_sign s ds) c cs (start c) (numeral s ds h f) (start_keeps c cs))
+    (λ f. tt))
 turn_keeps (quoting s) c cs h =
     if_else (λ o. OnTurn o cs (39 ∷ (doubled s ++ c ∷ cs))) (eqb c 39) _ _
     (λ y. (tt, λ more m. subst (λ x. Writes more (39 ∷ (doubled s ++ x ∷ cs))) (sym (eqb-true c 39 y)) m))
@@ -135,7 +135,7 @@ turn_keeps (quoted s) c cs h =
     if_else (λ o. OnTurn o cs (39 ∷ (doubled s ++ 39 ∷ c ∷ cs))) (eqb c 39) _ _
     (λ y. (tt, λ more m. subst (λ x. Writes more (39 ∷ (doubled s ++ 39 ∷ x ∷ cs))) (sym (eqb-true c 39 y)) (subst (λ x. Writes more (39 ∷ x)) (doubled-quote s cs) m)))
     (λ n. subst (λ x. OnTurn (after_token (a_text s) (start c)) cs (39 ∷ x)) (append_assoc (doubled s) (39 ∷ []) (c ∷ cs))
-        (ends_keeps (a_text s) (39 ∷ (doubled s ++ 39 ∷ [])) c cs (start c) refl (start_keeps c cs)))
+    (ends_keeps (a_text s) (39 ∷ (doubled s ++ 39 ∷ [])) c cs (start c) refl (start_keeps c cs)))
 
 abbrev OnEnd : Option (List Token) → List ℕ → Type 0
 OnEnd None before = Unit {0}
@@ -158,12 +158,12 @@ sound : (text : List ℕ) (p : Pending) → IsPending p → OnEnd (lex p text) (
 sound [] p h = ended_keeps p h
 sound (c ∷ cs) p h =
     elim (turn p c) as (λ o. OnTurn o cs (pending_text p (c ∷ cs)) → OnEnd (option_and_then (λ q. option_map (λ ts. q.0 ++ ts) (lex q.1 cs)) o) (pending_text p (c ∷ cs))) [
-      None ↦ λ k. tt
-    | Some q ↦ λ k.
-        elim (lex q.1 cs) as (λ r. OnEnd r (pending_text q.1 cs) → OnEnd (option_map (λ ts. q.0 ++ ts) r) (pending_text p (c ∷ cs))) [
-          None ↦ λ w. tt
-        | Some more ↦ λ w. k.1 more w
-        ] (sound cs q.1 k.0)
+      | None ↦ λ k. tt
+      | Some q ↦ λ k.
+          elim (lex q.1 cs) as (λ r. OnEnd r (pending_text q.1 cs) → OnEnd (option_map (λ ts. q.0 ++ ts) r) (pending_text p (c ∷ cs))) [
+            | None ↦ λ w. tt
+            | Some more ↦ λ w. k.1 more w
+          ] (sound cs q.1 k.0)
     ] (turn_keeps p c cs h)
 
 pub lexed_is_written : (text : List ℕ) (ts : List Token) → lex between text ≡ Some ts → Writes ts text

@@ -9,3 +9,4 @@ pub mod BracketLemmas
 pub mod ViewLemmas
 pub mod LexerLemmas
 pub mod PrintLemmas
+pub mod NameLemmas

@@ -146,7 +146,7 @@ sound : (ts : List Token) (s : State Tree) (S : Frames) (r : Tree) → run s S t
 sound [] s S r h = finished_read s S r h
 sound (t ∷ ts) s S r h =
     elim (step s S t) as (λ n. Keeps n ts (frames_read S (state_read s (t ∷ ts))) → option_and_then (λ p. run p.0 p.1 ts) n ≡ Some r → frames_read S (state_read s (t ∷ ts)) ≡ spelled r []) [
-      None ↦ λ k none. cc
+      | None ↦ λ k none. cc
       | Some p ↦ λ k some. sym k ∙ sound ts p.0 p.1 r some
     ] (step_keeps s S t ts) h
 

@@ -99,21 +99,36 @@ mutual
   expression_printed : (e : Tree) (k : List ℕ) → HasNames e → HasInts e → expression e (printed_onto e k) k
   expression_printed (text s) k n z = refl
   expression_printed (int i) k n z = (signed_decimal i, numeral_of i z, refl)
-  expression_printed (call name es) k n z =
-      (40 ∷ arguments_onto es k, (n.0, refl),
-        (40 ∷ arguments_onto es k, no_blank (40 ∷ arguments_onto es k),
-          (arguments_onto es k, refl, arguments_printed es k n.1 z)))
+  expression_printed (call name es) k n z = (
+    40 ∷ arguments_onto es k,
+    (n.0, refl),
+    (
+      40 ∷ arguments_onto es k,
+      no_blank (40 ∷ arguments_onto es k),
+      (arguments_onto es k, refl, arguments_printed es k n.1 z),
+    ),
+  )
   expression_printed (member e name) k n z =
-      let back : List ℕ = 46 ∷ (name ++ k) in
-      (back, expression_printed e back n.0 z,
-        (back, no_blank back, (name ++ k, refl, (name ++ k, no_blank (name ++ k), (n.1, refl)))))
+      let back : List ℕ = 46 ∷ (name ++ k) in (
+        back,
+        expression_printed e back n.0 z,
+        (back, no_blank back, (name ++ k, refl, (name ++ k, no_blank (name ++ k), (n.1, refl)))),
+      )
   expression_printed (index e i) k n z =
       let end : List ℕ = 93 ∷ k in
-      let back : List ℕ = 91 ∷ printed_onto i end in
-      (back, expression_printed e back n.0 z.0,
-        (back, no_blank back,
-          (printed_onto i end, refl,
-            (printed_onto i end, no_blank (printed_onto i end), (end, expression_printed i end n.1 z.1, (end, no_blank end, refl))))))
+      let back : List ℕ = 91 ∷ printed_onto i end in (
+        back,
+        expression_printed e back n.0 z.0,
+        (
+          back,
+          no_blank back,
+          (
+            printed_onto i end,
+            refl,
+            (printed_onto i end, no_blank (printed_onto i end), (end, expression_printed i end n.1 z.1, (end, no_blank end, refl))),
+          ),
+        ),
+      )
 
   arguments_printed : (es : Trees) (k : List ℕ) → HaveNames es → HaveInts es → (arguments es ▹ mark 41) (arguments_onto es k) k
   arguments_printed none k n z = (41 ∷ k, no_blank (41 ∷ k), refl)
@@ -127,11 +142,15 @@ mutual
   further_printed (more e es) k n z =
       let y = further_printed es k n.1 z.1 in
       let back : List ℕ = further_onto es k in
-      let here : List ℕ = printed_onto e back in
-      (y.0,
-        (44 ∷ 32 ∷ here, no_blank (44 ∷ 32 ∷ here),
-          (32 ∷ here, refl, (here, (32 ∷ [], (refl, tt), refl), (back, expression_printed e back n.0 z.0, y.1)))),
-        y.2)
+      let here : List ℕ = printed_onto e back in (
+        y.0,
+        (
+          44 ∷ 32 ∷ here,
+          no_blank (44 ∷ 32 ∷ here),
+          (32 ∷ here, refl, (here, (32 ∷ [], (refl, tt), refl), (back, expression_printed e back n.0 z.0, y.1))),
+        ),
+        y.2,
+      )
 
 -- what is printed spells the expression
 pub printed_spells : (e : Tree) → HasNames e → HasInts e → Spells e (printed e)

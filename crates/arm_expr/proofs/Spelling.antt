@@ -37,10 +37,19 @@ mutual
       let a = spelt_arguments es ts o.0 back o.2 in
       record {
         rest = a.rest;
-        spells = (f.word ++ (w.0 ++ back), first_blanks (a_name name) w.0 chars back f,
-          (w.0 ++ back, (f.is_word.0, ap (λ x. x ++ (w.0 ++ back)) f.is_word.1),
-            (p.word ++ (o.0 ++ back), first_blanks open_paren o.0 w.0 back p,
-              (o.0 ++ back, mark_is 40 p.word (o.0 ++ back) p.is_word, a.spells))));
+        spells = (
+          f.word ++ (w.0 ++ back),
+          first_blanks (a_name name) w.0 chars back f,
+          (
+            w.0 ++ back,
+            (f.is_word.0, ap (λ x. x ++ (w.0 ++ back)) f.is_word.1),
+            (
+              p.word ++ (o.0 ++ back),
+              first_blanks open_paren o.0 w.0 back p,
+              (o.0 ++ back, mark_is 40 p.word (o.0 ++ back) p.is_word, a.spells),
+            ),
+          ),
+        );
         writes = a.writes;
       }
   spelt (member e name) ts chars back w =
@@ -51,12 +60,27 @@ mutual
       let q = n.1 in
       record {
         rest = n.0;
-        spells = (x.spells.0, x.spells.1,
-          (x.rest ++ back, x.spells.2,
-            (p.word ++ (d.0 ++ back), first_blanks dot d.0 x.rest back p,
-              (d.0 ++ back, mark_is 46 p.word (d.0 ++ back) p.is_word,
-                (q.word ++ (n.0 ++ back), first_blanks (a_name name) n.0 d.0 back q,
-                  (q.is_word.0, ap (λ y. y ++ (n.0 ++ back)) q.is_word.1))))));
+        spells = (
+          x.spells.0,
+          x.spells.1,
+          (
+            x.rest ++ back,
+            x.spells.2,
+            (
+              p.word ++ (d.0 ++ back),
+              first_blanks dot d.0 x.rest back p,
+              (
+                d.0 ++ back,
+                mark_is 46 p.word (d.0 ++ back) p.is_word,
+                (
+                  q.word ++ (n.0 ++ back),
+                  first_blanks (a_name name) n.0 d.0 back q,
+                  (q.is_word.0, ap (λ y. y ++ (n.0 ++ back)) q.is_word.1),
+                ),
+              ),
+            ),
+          ),
+        );
         writes = n.2;
       }
   spelt (index e i) ts chars back w =
@@ -68,13 +92,31 @@ mutual
       let q = n.1 in
       record {
         rest = n.0;
-        spells = (x.spells.0, x.spells.1,
-          (x.rest ++ back, x.spells.2,
-            (p.word ++ (d.0 ++ back), first_blanks open_bracket d.0 x.rest back p,
-              (d.0 ++ back, mark_is 91 p.word (d.0 ++ back) p.is_word,
-                (y.spells.0, y.spells.1,
-                  (y.rest ++ back, y.spells.2,
-                    (q.word ++ (n.0 ++ back), first_blanks close_bracket n.0 y.rest back q, mark_is 93 q.word (n.0 ++ back) q.is_word)))))));
+        spells = (
+          x.spells.0,
+          x.spells.1,
+          (
+            x.rest ++ back,
+            x.spells.2,
+            (
+              p.word ++ (d.0 ++ back),
+              first_blanks open_bracket d.0 x.rest back p,
+              (
+                d.0 ++ back,
+                mark_is 91 p.word (d.0 ++ back) p.is_word,
+                (
+                  y.spells.0,
+                  y.spells.1,
+                  (
+                    y.rest ++ back,
+                    y.spells.2,
+                    (q.word ++ (n.0 ++ back), first_blanks close_bracket n.0 y.rest back q, mark_is 93 q.word (n.0 ++ back) q.is_word),
+                  ),
+                ),
+              ),
+            ),
+          ),
+        );
         writes = n.2;
       }
 
@@ -101,11 +143,19 @@ mutual
       let y = spelt_further es ts x.rest back x.writes in
       record {
         rest = y.rest;
-        spells = (y.spells.0,
-          (p.word ++ (w.0 ++ back), first_blanks comma w.0 chars back p,
-            (w.0 ++ back, mark_is 44 p.word (w.0 ++ back) p.is_word,
-              (x.spells.0, x.spells.1, (x.rest ++ back, x.spells.2, y.spells.1)))),
-          y.spells.2);
+        spells = (
+          y.spells.0,
+          (
+            p.word ++ (w.0 ++ back),
+            first_blanks comma w.0 chars back p,
+            (
+              w.0 ++ back,
+              mark_is 44 p.word (w.0 ++ back) p.is_word,
+              (x.spells.0, x.spells.1, (x.rest ++ back, x.spells.2, y.spells.1)),
+            ),
+          ),
+          y.spells.2,
+        );
         writes = y.writes;
       }
 

@@ -85,7 +85,6 @@ abbrev pub Form : Type 1
 Form = List ℕ → List ℕ → Type 0
 
 infixr 4 ◌▹◌
-
 -- one form, and then another
 abbrev pub ◌▹◌ : Form → Form → Form
 ◌▹◌ f g t k = (m : List ℕ) × f t m × g m k

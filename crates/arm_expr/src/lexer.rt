@@ -9,8 +9,8 @@ ghost use Rattle.arm_expr.specs.View.{text_of};
 
 use crate::stop::Stop;
 use crate::token::Token;
-use arm_value::Text;
-use std::alloc::{AllocError, Global};
+use arm_value::{OutOfMemory, Text};
+use std::alloc::Global;
 
 /// What a character can be outside quotes.
 #[derive(Clone, Copy)]
@@ -71,7 +71,7 @@ fn may_count(c: char) -> bool
     }
 }
 
-fn longer(word: String, c: char) -> Result<String, AllocError>
+fn longer(word: String, c: char) -> Result<String, OutOfMemory>
     ensures { IfOk result (λ w. text_of w ≡ text_of word ++ c ∷ []) }
 {
     let mut word = word;
@@ -81,7 +81,8 @@ fn longer(word: String, c: char) -> Result<String, AllocError>
 
 // The number that digits write, where it is below 2 ^ 64.
 fn magnitude(digits: &[char]) -> Option<u64>
-    ensures { MatchOption result (2 ^ 64 ≤ value_from 0 digits.now) (λ n. n ≡ value_from 0 digits.now) }
+    ensures { MatchOption result (2 ^ 64 ≤ value_from 0 digits.now)
+        (λ n. n ≡ value_from 0 digits.now) }
 {
     let mut n: u64 = 0;
     for d in digits {
@@ -111,7 +112,11 @@ fn number_of(negative: bool, digits: &[char]) -> Option<Token>
         None => None,
         Some(n) => {
             if negative {
-                if n <= 0x8000_0000_0000_0000 { Some(Token::Int(negated(n))) } else { None }
+                if n <= 0x8000_0000_0000_0000 {
+                    Some(Token::Int(negated(n)))
+                } else {
+                    None
+                }
             } else if n < 0x8000_0000_0000_0000 {
                 Some(Token::Int(n as i64))
             } else {
@@ -121,7 +126,7 @@ fn number_of(negative: bool, digits: &[char]) -> Option<Token>
     }
 }
 
-fn put(tokens: &mut Vec<Token>, token: Token) -> Result<(), AllocError>
+fn put(tokens: &mut Vec<Token>, token: Token) -> Result<(), OutOfMemory>
     ensures { OnOk result (map token_of tokens.new.items ≡ map token_of tokens.old.items ++ token_of token ∷ []) }
 {
     tokens.push(token)?;
@@ -130,7 +135,8 @@ fn put(tokens: &mut Vec<Token>, token: Token) -> Result<(), AllocError>
 
 #[tactic(auto, using(crate::proofs::LexerLemmas::lexer_views))]
 fn marked(tokens: &mut Vec<Token>, token: Token) -> Result<Pending, Stop>
-    ensures { Gives (λ p. (map token_of tokens.new.items, pending_of p)) result (onto (map token_of tokens.old.items) (next (token_of token ∷ []) between)) }
+    ensures { Gives (λ p. (map token_of tokens.new.items, pending_of p)) result
+        (onto (map token_of tokens.old.items) (next (token_of token ∷ []) between)) }
 {
     put(tokens, token)?;
     Ok(Pending::Between)
@@ -138,7 +144,8 @@ fn marked(tokens: &mut Vec<Token>, token: Token) -> Result<Pending, Stop>
 
 #[tactic(auto, using(crate::proofs::LexerLemmas::lexer_views))]
 fn begin_sign(alloc: Global, tokens: &mut Vec<Token>, c: char) -> Result<Pending, Stop>
-    ensures { Gives (λ p. (map token_of tokens.new.items, pending_of p)) result (onto (map token_of tokens.old.items) (start_sign c)) }
+    ensures { Gives (λ p. (map token_of tokens.new.items, pending_of p)) result
+        (onto (map token_of tokens.old.items) (start_sign c)) }
 {
     match c {
         '-' => Ok(Pending::Signing),
@@ -155,7 +162,8 @@ fn begin_sign(alloc: Global, tokens: &mut Vec<Token>, c: char) -> Result<Pending
 
 #[tactic(auto, using(crate::proofs::LexerLemmas::lexer_views))]
 fn begin(alloc: Global, tokens: &mut Vec<Token>, c: char) -> Result<Pending, Stop>
-    ensures { Gives (λ p. (map token_of tokens.new.items, pending_of p)) result (onto (map token_of tokens.old.items) (start c)) }
+    ensures { Gives (λ p. (map token_of tokens.new.items, pending_of p)) result
+        (onto (map token_of tokens.old.items) (start c)) }
 {
     match char_kind(c) {
         Kind::Blank => Ok(Pending::Between),
@@ -167,8 +175,14 @@ fn begin(alloc: Global, tokens: &mut Vec<Token>, c: char) -> Result<Pending, Sto
 
 // A token ends at a character, which begins what follows.
 #[tactic(auto, using(crate::proofs::LexerLemmas::lexer_views))]
-fn begin_after(alloc: Global, tokens: &mut Vec<Token>, token: Token, c: char) -> Result<Pending, Stop>
-    ensures { Gives (λ p. (map token_of tokens.new.items, pending_of p)) result (onto (map token_of tokens.old.items) (after_token (token_of token) (start c))) }
+fn begin_after(
+    alloc: Global,
+    tokens: &mut Vec<Token>,
+    token: Token,
+    c: char,
+) -> Result<Pending, Stop>
+    ensures { Gives (λ p. (map token_of tokens.new.items, pending_of p)) result
+        (onto (map token_of tokens.old.items) (after_token (token_of token) (start c))) }
 {
     put(tokens, token)?;
     begin(alloc, tokens, c)
@@ -176,7 +190,8 @@ fn begin_after(alloc: Global, tokens: &mut Vec<Token>, token: Token, c: char) ->
 
 #[tactic(auto, using(crate::proofs::LexerLemmas::lexer_views))]
 fn go_on(alloc: Global, tokens: &mut Vec<Token>, pending: Pending, c: char) -> Result<Pending, Stop>
-    ensures { Gives (λ p. (map token_of tokens.new.items, pending_of p)) result (onto (map token_of tokens.old.items) (turn (pending_of pending) c)) }
+    ensures { Gives (λ p. (map token_of tokens.new.items, pending_of p)) result
+        (onto (map token_of tokens.old.items) (turn (pending_of pending) c)) }
 {
     match pending {
         Pending::Between => begin(alloc, tokens, c),
@@ -224,7 +239,8 @@ fn go_on(alloc: Global, tokens: &mut Vec<Token>, pending: Pending, c: char) -> R
 
 #[tactic(auto, using(crate::proofs::LexerLemmas::lexer_views))]
 fn end(tokens: &mut Vec<Token>, pending: Pending) -> Result<(), Stop>
-    ensures { Gives (λ _. map token_of tokens.new.items) result (option_map (λ ts. map token_of tokens.old.items ++ ts) (ended (pending_of pending))) }
+    ensures { Gives (λ _. map token_of tokens.new.items) result
+        (option_map (λ ts. map token_of tokens.old.items ++ ts) (ended (pending_of pending))) }
 {
     match pending {
         Pending::Between => Ok(()),

@@ -15,8 +15,8 @@ mod nesting;
 mod parser;
 mod printer;
 mod reader;
-mod stop;
 mod room;
+mod stop;
 mod token;
 
 pub use expr::{Expr, Exprs, MOST_CHARACTERS, MOST_NESTING};

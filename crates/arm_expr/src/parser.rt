@@ -13,8 +13,8 @@ use crate::expr::{Expr, Exprs, MOST_NESTING};
 use crate::nesting::{are_within, is_within};
 use crate::stop::Stop;
 use crate::token::Token;
-use arm_value::Text;
-use std::alloc::{AllocError, Global};
+use arm_value::{OutOfMemory, Text};
+use std::alloc::Global;
 
 /// What is open.
 #[derive(Drop)]
@@ -40,7 +40,7 @@ pub enum State {
 }
 
 #[tactic(auto, using(crate::proofs::ViewLemmas::views))]
-fn open(stack: &mut Vec<Frame>, frame: Frame) -> Result<(), AllocError>
+fn open(stack: &mut Vec<Frame>, frame: Frame) -> Result<(), OutOfMemory>
     ensures { OnOk result (frames_of stack.new.items ≡ frame_of frame ∷ frames_of stack.old.items) }
 {
     stack.push(frame)?;
@@ -48,14 +48,16 @@ fn open(stack: &mut Vec<Frame>, frame: Frame) -> Result<(), AllocError>
 }
 
 fn close(stack: &mut Vec<Frame>) -> Option<Frame>
-    ensures { MatchOption result (frames_of stack.old.items ≡ []) (λ f. frames_of stack.old.items ≡ frame_of f ∷ frames_of stack.new.items) }
+    ensures { MatchOption result (frames_of stack.old.items ≡ [])
+        (λ f. frames_of stack.old.items ≡ frame_of f ∷ frames_of stack.new.items) }
 {
     stack.pop()
 }
 
 #[tactic(auto, using(crate::proofs::ViewLemmas::views))]
-fn with_argument(arguments: Option<Exprs>, e: Option<Expr>) -> Result<Option<Exprs>, AllocError>
-    ensures { IfOk result (λ r. arguments_of r ≡ (as_kept 64).with_argument (arguments_of arguments) (kept_of e)) }
+fn with_argument(arguments: Option<Exprs>, e: Option<Expr>) -> Result<Option<Exprs>, OutOfMemory>
+    ensures { IfOk result (λ r. arguments_of r ≡ (as_kept 64).with_argument (arguments_of arguments)
+        (kept_of e)) }
 {
     match arguments {
         None => Ok(None),
@@ -86,7 +88,7 @@ fn call_of(name: Text, arguments: Option<Exprs>) -> Option<Expr>
 }
 
 #[tactic(auto, using(crate::proofs::ViewLemmas::views))]
-fn member_of(alloc: Global, e: Option<Expr>, name: Text) -> Result<Option<Expr>, AllocError>
+fn member_of(alloc: Global, e: Option<Expr>, name: Text) -> Result<Option<Expr>, OutOfMemory>
     ensures { IfOk result (λ r. kept_of r ≡ (as_kept 64).of_member (kept_of e) name) }
 {
     match e {
@@ -102,7 +104,11 @@ fn member_of(alloc: Global, e: Option<Expr>, name: Text) -> Result<Option<Expr>,
 }
 
 #[tactic(auto, using(crate::proofs::ViewLemmas::views))]
-fn index_of(alloc: Global, base: Option<Expr>, index: Option<Expr>) -> Result<Option<Expr>, AllocError>
+fn index_of(
+    alloc: Global,
+    base: Option<Expr>,
+    index: Option<Expr>,
+) -> Result<Option<Expr>, OutOfMemory>
     ensures { IfOk result (λ r. kept_of r ≡ (as_kept 64).of_index (kept_of base) (kept_of index)) }
 {
     match base {
@@ -124,7 +130,8 @@ fn index_of(alloc: Global, base: Option<Expr>, index: Option<Expr>) -> Result<Op
 
 #[tactic(auto, using(crate::proofs::ViewLemmas::views))]
 fn close_call(e: Option<Expr>, stack: &mut Vec<Frame>) -> Result<State, Stop>
-    ensures { Gives (λ s. (state_of s, frames_of stack.new.items)) result (kept_closed (kept_of e) (frames_of stack.old.items)) }
+    ensures { Gives (λ s. (state_of s, frames_of stack.new.items)) result
+        (kept_closed (kept_of e) (frames_of stack.old.items)) }
 {
     match close(stack) {
         Some(Frame::Calling(name, arguments)) => {
@@ -136,7 +143,8 @@ fn close_call(e: Option<Expr>, stack: &mut Vec<Frame>) -> Result<State, Stop>
 
 #[tactic(auto, using(crate::proofs::ViewLemmas::views))]
 fn separate(e: Option<Expr>, stack: &mut Vec<Frame>) -> Result<State, Stop>
-    ensures { Gives (λ s. (state_of s, frames_of stack.new.items)) result (kept_separated (kept_of e) (frames_of stack.old.items)) }
+    ensures { Gives (λ s. (state_of s, frames_of stack.new.items)) result
+        (kept_separated (kept_of e) (frames_of stack.old.items)) }
 {
     match close(stack) {
         Some(Frame::Calling(name, arguments)) => {
@@ -149,7 +157,8 @@ fn separate(e: Option<Expr>, stack: &mut Vec<Frame>) -> Result<State, Stop>
 
 #[tactic(auto, using(crate::proofs::ViewLemmas::views))]
 fn close_index(alloc: Global, e: Option<Expr>, stack: &mut Vec<Frame>) -> Result<State, Stop>
-    ensures { Gives (λ s. (state_of s, frames_of stack.new.items)) result (kept_indexed (kept_of e) (frames_of stack.old.items)) }
+    ensures { Gives (λ s. (state_of s, frames_of stack.new.items)) result
+        (kept_indexed (kept_of e) (frames_of stack.old.items)) }
 {
     match close(stack) {
         Some(Frame::Indexing(base)) => Ok(State::Done(index_of(alloc, base, e)?)),
@@ -160,7 +169,8 @@ fn close_index(alloc: Global, e: Option<Expr>, stack: &mut Vec<Frame>) -> Result
 // An expression begins.
 #[tactic(auto, using(crate::proofs::ViewLemmas::views))]
 fn begin(stack: &mut Vec<Frame>, token: Token) -> Result<State, Stop>
-    ensures { Gives (λ s. (state_of s, frames_of stack.new.items)) result (kept_begun (frames_of stack.old.items) (token_of token)) }
+    ensures { Gives (λ s. (state_of s, frames_of stack.new.items)) result
+        (kept_begun (frames_of stack.old.items) (token_of token)) }
 {
     match token {
         Token::Text(s) => Ok(State::Done(Some(Expr::Text(s)))),
@@ -172,8 +182,14 @@ fn begin(stack: &mut Vec<Frame>, token: Token) -> Result<State, Stop>
 
 // The first argument of a call begins, or there is none.
 #[tactic(auto, using(crate::proofs::ViewLemmas::views))]
-fn begin_arguments(alloc: Global, name: Text, stack: &mut Vec<Frame>, token: Token) -> Result<State, Stop>
-    ensures { Gives (λ s. (state_of s, frames_of stack.new.items)) result (kept_first_begun name (frames_of stack.old.items) (token_of token)) }
+fn begin_arguments(
+    alloc: Global,
+    name: Text,
+    stack: &mut Vec<Frame>,
+    token: Token,
+) -> Result<State, Stop>
+    ensures { Gives (λ s. (state_of s, frames_of stack.new.items)) result
+        (kept_first_begun name (frames_of stack.old.items) (token_of token)) }
 {
     let none = Some(Vec::new(alloc));
     match token {
@@ -187,8 +203,14 @@ fn begin_arguments(alloc: Global, name: Text, stack: &mut Vec<Frame>, token: Tok
 
 // An expression goes on or ends.
 #[tactic(auto, using(crate::proofs::ViewLemmas::views))]
-fn go_on(alloc: Global, e: Option<Expr>, stack: &mut Vec<Frame>, token: Token) -> Result<State, Stop>
-    ensures { Gives (λ s. (state_of s, frames_of stack.new.items)) result (kept_gone_on (kept_of e) (frames_of stack.old.items) (token_of token)) }
+fn go_on(
+    alloc: Global,
+    e: Option<Expr>,
+    stack: &mut Vec<Frame>,
+    token: Token,
+) -> Result<State, Stop>
+    ensures { Gives (λ s. (state_of s, frames_of stack.new.items)) result
+        (kept_gone_on (kept_of e) (frames_of stack.old.items) (token_of token)) }
 {
     match token {
         Token::Dot => Ok(State::Dotted(e)),
@@ -206,7 +228,8 @@ fn go_on(alloc: Global, e: Option<Expr>, stack: &mut Vec<Frame>, token: Token) -
 // One token.
 #[tactic(auto, using(crate::proofs::ViewLemmas::views))]
 fn turn(alloc: Global, state: State, stack: &mut Vec<Frame>, token: Token) -> Result<State, Stop>
-    ensures { Gives (λ s. (state_of s, frames_of stack.new.items)) result (kept_step (state_of state) (frames_of stack.old.items) (token_of token)) }
+    ensures { Gives (λ s. (state_of s, frames_of stack.new.items)) result
+        (kept_step (state_of state) (frames_of stack.old.items) (token_of token)) }
 {
     match state {
         State::Wanted => begin(stack, token),

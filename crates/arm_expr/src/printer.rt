@@ -157,8 +157,6 @@ pub fn print(alloc: Global, e: &Expr) -> Result<Text, ExprFault>
     if !is_within(e, MOST_NESTING) {
         return Err(ExprFault::TooDeep);
     }
-    match text_in_brackets(alloc, e) {
-        Ok(text) => Ok(text),
-        Err(_) => Err(ExprFault::OutOfMemory),
-    }
+    let text = text_in_brackets(alloc, e)?;
+    Ok(text)
 }

@@ -8,5 +8,5 @@ use Rattle.arm_expr.proofs.printer.+printing.Given as goal
 abbrev pub invariant-put_arguments-loop-argument : goal.invariant-put_arguments-loop-argument
 invariant-put_arguments-loop-argument l =
     ((k : List ℕ) → text_of l.out ++ left_onto l.first (trees (map tree_of (drop l.argument-index l.arguments))) k
-      ≡ text_of l.fn.out ++ arguments_onto (trees (map tree_of l.arguments)) k)
+    ≡ text_of l.fn.out ++ arguments_onto (trees (map tree_of l.arguments)) k)
     × (HaveInts (trees (map tree_of (drop l.argument-index l.arguments))) → HaveInts (trees (map tree_of l.arguments)))

@@ -16,4 +16,4 @@ pub returns-in-Some-strip_suffix : goal.returns-in-Some-strip_suffix
 returns-in-Some-strip_suffix c =
     in_characters c.args.text.now c.in-Some-strip_suffix.inner.now (search rules)
     (strip_prefix_char 91 c.args.text.now (Some c.in-Some.rest) c.in-Some.ensures.cases (lit< tt)
-      ∙ ap (λ x. 91 ∷ x) (strip_suffix_char 93 c.in-Some.rest.now (Some c.in-Some-strip_suffix.inner) c.in-Some-strip_suffix.ensures.cases (lit< tt)))
+    ∙ ap (λ x. 91 ∷ x) (strip_suffix_char 93 c.in-Some.rest.now (Some c.in-Some-strip_suffix.inner) c.in-Some-strip_suffix.ensures.cases (lit< tt)))

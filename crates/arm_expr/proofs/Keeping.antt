@@ -1,7 +1,7 @@
 -- The machine that keeps only trees within the limit answers as the one that keeps all.
-use Rattle.std.proofs.Common.{◌≡◌, zero, suc, ℕ, ℤ, ◌+◌, ◌<◌, ◌≤◌, max, nat_le, List, [], ◌∷◌, ◌++◌, map, Option, Some, None, option_map, option_and_then, Bool, true, false, cond, refl, ap, sym, ◌∙◌, arith}
+use Rattle.std.proofs.Common.{◌≡◌, ℕ, ℤ, ◌<◌, ◌≤◌, max, nat_le, List, [], ◌∷◌, ◌++◌, map, Option, Some, None, option_map, option_and_then, Bool, true, false, cond, refl, ap, sym, ◌∙◌, arith}
 use Rattle.std.proofs.lemmas.Bool.Decides.{nat_tests}
-use Rattle.arm_expr.specs.Tree.{Tree, text, int, call, member, index, Trees, none, more, trees, nesting, deepest}
+use Rattle.arm_expr.specs.Tree.{Tree, text, int, call, member, index, trees, nesting, deepest}
 use Rattle.arm_expr.specs.Tokens.{Token, a_text, an_int, a_name, open_paren, close_paren, open_bracket, close_bracket, comma, dot}
 use Rattle.arm_expr.specs.Machine.{Makes, Frame, calling, indexing, State, wanted, named, opened, done, dotted, closed, separated, indexed, begun, first_begun, gone_on, step, finished, run, parsed, as_tree, kept, all_kept, as_kept}
 

@@ -1,11 +1,11 @@
 -- The lexer gives the tokens of what the grammar spells.
-use Rattle.std.proofs.Common.{◌≡◌, ℕ, ℤ, ◌+◌, ◌-◌, ◌*◌, Bool, true, false, eqb, cond, List, [], ◌∷◌, ◌++◌, Option, Some, None, option_map, option_and_then, refl, ap, sym, subst, ◌∙◌, append_assoc, append-nil, arith}
+use Rattle.std.proofs.Common.{◌≡◌, ℕ, ℤ, Bool, true, false, eqb, cond, List, [], ◌∷◌, ◌++◌, Option, Some, None, option_map, option_and_then, refl, ap, sym, ◌∙◌, append_assoc, append-nil}
 use Rattle.std.proofs.lemmas.Bool.{eqb-true}
 use Rattle.arm_expr.specs.Tree.{Tree, text, int, call, member, index, Trees, none, more}
 use Rattle.arm_expr.specs.Tokens.{Token, a_text, an_int, a_name, open_paren, close_paren, open_bracket, close_bracket, comma, dot}
 use Rattle.arm_expr.specs.Grammar.{Kind, letter, digit, blank, sign, kind_of, goes_on_name, is_digit, AreBlank, GoOnName, IsName, AreDigits, value_from, fits, signed, with_sign, doubled, IsNumeral, ◌▹◌, blanks, mark, named, expression, arguments, further}
 use Rattle.arm_expr.specs.Grammar as grammar
-use Rattle.arm_expr.specs.Lexer.{Pending, between, naming, signing, counting, quoting, quoted, Turn, start_by, start, after_token, number, turn, ended, lex}
+use Rattle.arm_expr.specs.Lexer.{Pending, between, naming, signing, counting, quoting, quoted, Turn, start_by, start, after_token, number, lex}
 use Rattle.arm_expr.proofs.Words.{spelled, arguments_spelled, further_spelled}
 
 abbrev follow : Turn → List ℕ → Option (List Token)

@@ -1,10 +1,10 @@
 -- What the lexer gives is written.
-use Rattle.std.proofs.Common.{◌≡◌, ℕ, ℤ, Bool, true, false, eqb, cond, List, [], ◌∷◌, ◌++◌, Option, Some, None, option_map, option_and_then, refl, ap, sym, subst, ◌∙◌, append_assoc, append-nil, arith}
+use Rattle.std.proofs.Common.{◌≡◌, ℕ, Bool, true, false, eqb, cond, List, [], ◌∷◌, ◌++◌, Option, Some, None, option_map, option_and_then, refl, ap, sym, subst, ◌∙◌, append_assoc, append-nil}
 use Rattle.std.proofs.lemmas.Bool.{eqb-true}
 use Rattle.arm_expr.specs.Tokens.{Token, a_text, an_int, a_name, open_paren, close_paren, open_bracket, close_bracket, comma, dot}
 use Rattle.arm_expr.specs.Grammar.{Kind, letter, digit, blank, sign, kind_of, goes_on_name, is_digit, GoOnName, IsName, AreDigits, value_from, fits, signed, with_sign, doubled, IsNumeral}
-use Rattle.arm_expr.specs.Lexer.{Pending, between, naming, signing, counting, quoting, quoted, Turn, marked, mark_of, start_sign, start_by, start, after_token, turn, ended, lex}
-use Rattle.arm_expr.proofs.Words.{IsWord, First, Writes}
+use Rattle.arm_expr.specs.Lexer.{Pending, between, naming, signing, counting, quoting, quoted, Turn, marked, start_sign, start_by, start, after_token, turn, ended, lex}
+use Rattle.arm_expr.proofs.Words.{IsWord, Writes}
 
 if_else : {A : Type 0} (P : A → Type 0) (b : Bool) (x y : A) → (b ≡ true → P x) → (b ≡ false → P y) → P (cond b x y)
 if_else P true x y f g = f refl

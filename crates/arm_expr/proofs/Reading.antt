@@ -16,7 +16,7 @@ use Rattle.arm_expr.specs.Machine.{parsed, as_tree, kept}
 use Rattle.arm_expr.specs.Stack.{kept_parsed, kept_reading}
 use Rattle.arm_expr.proofs.Words.{spelled, Writes}
 use Rattle.arm_expr.proofs.Keeping.{parsed_kept, if_else}
-use Rattle.arm_expr.proofs.Lexing.{Cut, Ended, lex-blank, blank_ends, cut_expression, cut_blanks}
+use Rattle.arm_expr.proofs.Lexing.{Ended, lex-blank, blank_ends, cut_expression, cut_blanks}
 use Rattle.arm_expr.proofs.LexingSound.{lexed_is_written}
 use Rattle.arm_expr.proofs.Parsing.{spelled_is_parsed, parsed_is_spelled}
 use Rattle.arm_expr.proofs.Spelling.{spelt_whole}

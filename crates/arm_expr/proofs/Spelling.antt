@@ -1,5 +1,5 @@
 -- A text whose tokens are those of an expression spells it, whatever stands behind the text.
-use Rattle.std.proofs.Common.{◌≡◌, ℕ, ℤ, List, [], ◌∷◌, ◌++◌, refl, ap, sym, ◌∙◌, append_assoc}
+use Rattle.std.proofs.Common.{◌≡◌, ℕ, List, [], ◌∷◌, ◌++◌, refl, ap, ◌∙◌, append_assoc}
 use Rattle.arm_expr.specs.Tree.{Tree, text, int, call, member, index, Trees, none, more}
 use Rattle.arm_expr.specs.Tokens.{Token, a_text, an_int, a_name, open_paren, close_paren, open_bracket, close_bracket, comma, dot}
 use Rattle.arm_expr.specs.Grammar.{doubled, ◌▹◌, blanks, mark, expression, arguments, further}

@@ -1,5 +1,5 @@
 -- What the values of the lexer stand for.
-use Rattle.std.specs.Prelude.{ℕ, Bool, List, [], ◌∷◌, ◌++◌, Option, Some, None, option_map, Result, Ok, Err, ◌≡◌}
+use Rattle.std.specs.Prelude.{List, ◌++◌, Option, Some, None, option_map, Result, Ok, Err, ◌≡◌}
 use Rattle.arm_expr.specs.declared.lexer.Kind as kinds
 use Rattle.arm_expr.specs.declared.lexer.Kind.TheVariants as kind
 use Rattle.arm_expr.specs.declared.lexer.Pending as pendings

@@ -1,5 +1,5 @@
 -- The text that is written for an expression.
-use Rattle.std.specs.Prelude.{ℕ, ◌+◌, length, ◌<◌, ◌^◌, ℤ, pos, negsuc, List, [], ◌∷◌, ◌++◌, Bool, true, false}
+use Rattle.std.specs.Prelude.{◌≡◌, ℕ, ◌+◌, length, ◌<◌, ◌^◌, ℤ, pos, negsuc, List, [], ◌∷◌, ◌++◌, Bool, true, false}
 use Rattle.std.specs.Fmt.{signed_decimal}
 use Rattle.arm_expr.specs.Tree.{Tree, text, int, call, member, index, Trees, none, more}
 use Rattle.arm_expr.specs.Grammar.{doubled, IsName}
@@ -54,6 +54,10 @@ abbrev mutual
   pub HaveInts : Trees → Type 0
   HaveInts none = Unit {0}
   HaveInts (more e es) = HasInts e × HaveInts es
+
+-- the text before, with f of whatever follows behind it
+abbrev pub Adds : List ℕ → List ℕ → (List ℕ → List ℕ) → Type 0
+Adds before after f = (k : List ℕ) → after ++ k ≡ before ++ f k
 
 -- the arguments that are left to write, where the first of all is (`true`) or is not among them
 abbrev pub left_onto : Bool → Trees → List ℕ → List ℕ

@@ -1,6 +1,5 @@
 -- The tokens of a text.
-use Rattle.std.specs.Prelude.{ℕ, ℤ, List, [], ◌∷◌}
-use Rattle.arm_expr.specs.Tree.{Tree, text, int, call, member, index, Trees, none, more}
+use Rattle.std.specs.Prelude.{ℕ, ℤ, List}
 use Rattle.arm_expr.specs.declared.token.Token as tokens
 use Rattle.arm_expr.specs.declared.token.Token.TheVariants as token
 

@@ -1,5 +1,5 @@
 -- The tree that an expression of the code stands for.
-use Rattle.std.specs.Prelude.{ℕ, List, map, chars, string_bytes}
+use Rattle.std.specs.Prelude.{ℕ, List, chars, string_bytes}
 use Rattle.std.specs.declared.string.String.{String}
 use Rattle.std.specs.declared.alloc.Global.{Global}
 use Rattle.arm_expr.specs.declared.expr.Expr.{Expr, fold-Expr}

@@ -127,7 +127,8 @@ fn number_of(negative: bool, digits: &[char]) -> Option<Token>
 }
 
 fn put(tokens: &mut Vec<Token>, token: Token) -> Result<(), OutOfMemory>
-    ensures { OnOk result (map token_of tokens.new.items ≡ map token_of tokens.old.items ++ token_of token ∷ []) }
+    ensures { OnOk result
+        (map token_of tokens.new.items ≡ map token_of tokens.old.items ++ token_of token ∷ []) }
 {
     tokens.push(token)?;
     Ok(())

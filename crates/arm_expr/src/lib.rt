@@ -1,4 +1,4 @@
-//! Expression texts of templates, such as `[concat('a', parameters('b'))]`: reading and writing them.
+//! Expression texts of templates, such as `[concat('a', parameters('b'))]`, read and written.
 //!
 //! A caller may rely on `read` giving an expression exactly where the grammar has one within the
 //! limits, and on `print` writing a text that is read as the same expression. The grammar is

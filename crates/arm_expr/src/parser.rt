@@ -41,7 +41,8 @@ pub enum State {
 
 #[tactic(auto, using(crate::proofs::ViewLemmas::views))]
 fn open(stack: &mut Vec<Frame>, frame: Frame) -> Result<(), OutOfMemory>
-    ensures { OnOk result (frames_of stack.new.items ≡ frame_of frame ∷ frames_of stack.old.items) }
+    ensures { OnOk result
+        (frames_of stack.new.items ≡ frame_of frame ∷ frames_of stack.old.items) }
 {
     stack.push(frame)?;
     Ok(())
@@ -56,8 +57,8 @@ fn close(stack: &mut Vec<Frame>) -> Option<Frame>
 
 #[tactic(auto, using(crate::proofs::ViewLemmas::views))]
 fn with_argument(arguments: Option<Exprs>, e: Option<Expr>) -> Result<Option<Exprs>, OutOfMemory>
-    ensures { IfOk result (λ r. arguments_of r ≡ (as_kept 64).with_argument (arguments_of arguments)
-        (kept_of e)) }
+    ensures { IfOk result (λ r. arguments_of r
+        ≡ (as_kept 64).with_argument (arguments_of arguments) (kept_of e)) }
 {
     match arguments {
         None => Ok(None),
@@ -109,7 +110,8 @@ fn index_of(
     base: Option<Expr>,
     index: Option<Expr>,
 ) -> Result<Option<Expr>, OutOfMemory>
-    ensures { IfOk result (λ r. kept_of r ≡ (as_kept 64).of_index (kept_of base) (kept_of index)) }
+    ensures { IfOk result (λ r. kept_of r
+        ≡ (as_kept 64).of_index (kept_of base) (kept_of index)) }
 {
     match base {
         None => Ok(None),

@@ -6,7 +6,7 @@ ghost use Rattle.arm_expr.specs.declared.expr.Expr.{Expr};
 ghost use Rattle.arm_expr.specs.declared.fault.ExprFault.{ExprFault};
 ghost use Rattle.arm_expr.specs.Tree.{nesting, trees};
 ghost use Rattle.arm_expr.specs.Grammar.{doubled, Spells};
-ghost use Rattle.arm_expr.specs.Print.{printed, printed_onto, arguments_onto, HasNames, HasInts, HaveInts, IsWhole};
+ghost use Rattle.arm_expr.specs.Print.{printed, Adds, printed_onto, arguments_onto, HasNames, HasInts, HaveInts, IsWhole};
 ghost use Rattle.arm_expr.specs.Answers.{Reads, IsReadAs};
 ghost use Rattle.arm_expr.specs.View.{tree_of, text_of};
 
@@ -62,7 +62,8 @@ fn put_doubled(out: &mut String, text: &str) -> Result<(), OutOfMemory>
 #[cycle(printing)]
 #[tactic(auto, using(crate::proofs::PrintLemmas::print_views))]
 fn put_expr(out: &mut String, e: &Expr) -> Result<(), OutOfMemory>
-    ensures written { OnOk result ((k : List ℕ) → text_of out.new ++ k ≡ text_of out.old ++ printed_onto (tree_of e.now) k) }
+    ensures written { OnOk result
+        (Adds (text_of out.old) (text_of out.new) (printed_onto (tree_of e.now))) }
     ensures ints { OnOk result (HasInts (tree_of e.now)) }
 {
     match e {
@@ -75,8 +76,7 @@ fn put_expr(out: &mut String, e: &Expr) -> Result<(), OutOfMemory>
         Expr::Call(name, arguments) => {
             put_text(out, name.as_str())?;
             put(out, '(')?;
-            put_arguments(out, arguments)?;
-            put(out, ')')
+            put_arguments(out, arguments)
         }
         Expr::Member(inner, name) => {
             put_expr(out, inner)?;
@@ -92,10 +92,12 @@ fn put_expr(out: &mut String, e: &Expr) -> Result<(), OutOfMemory>
     }
 }
 
+// The arguments of a call and the `)` behind them.
 #[cycle(printing)]
 #[tactic(auto, using(crate::proofs::PrintLemmas::print_views))]
 fn put_arguments(out: &mut String, arguments: &[Expr]) -> Result<(), OutOfMemory>
-    ensures written { OnOk result ((k : List ℕ) → text_of out.new ++ 41 ∷ k ≡ text_of out.old ++ arguments_onto (trees (map tree_of arguments.now)) k) }
+    ensures written { OnOk result
+        (Adds (text_of out.old) (text_of out.new) (arguments_onto (trees (map tree_of arguments.now)))) }
     ensures ints { OnOk result (HaveInts (trees (map tree_of arguments.now))) }
 {
     let mut first = true;
@@ -107,7 +109,7 @@ fn put_arguments(out: &mut String, arguments: &[Expr]) -> Result<(), OutOfMemory
         put_expr(out, argument)?;
         first = false;
     }
-    Ok(())
+    put(out, ')')
 }
 
 // The text of an expression, however long or deep.
@@ -143,7 +145,8 @@ pub fn print(alloc: Global, e: &Expr) -> Result<Text, ExprFault>
     ensures too_long { IsErrOf result ExprFault.TooLong
         ↔ (MOST_CHARACTERS < length (printed (tree_of e.now))) }
     ensures too_deep { IsErrOf result ExprFault.TooDeep
-        ↔ ((length (printed (tree_of e.now)) ≤ MOST_CHARACTERS) × (MOST_NESTING < nesting (tree_of e.now))) }
+        ↔ ((length (printed (tree_of e.now)) ≤ MOST_CHARACTERS)
+        × (MOST_NESTING < nesting (tree_of e.now))) }
     ensures expression { IsErrOf result ExprFault.NotAnExpression → ⊥ }
 
     // The text spells the expression, and any answer of `read` to it is the expression.

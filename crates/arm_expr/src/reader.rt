@@ -51,8 +51,10 @@ pub fn read(alloc: Global, text: &str) -> Result<Expr, ExprFault>
     ensures answer { Reads MOST_CHARACTERS MOST_NESTING (chars text.now) result }
 
     // What is spelled within the limits is read, unless memory runs out.
-    ensures spelled { (e : Tree) → Spells e (chars text.now) → length (chars text.now) ≤ MOST_CHARACTERS
-        → nesting e ≤ MOST_NESTING → IsReadAs e result }
+    ensures spelled { (e : Tree) → Spells e (chars text.now)
+        → length (chars text.now) ≤ MOST_CHARACTERS → nesting e ≤ MOST_NESTING → IsReadAs e result }
+
+    // What is read may be printed.
     ensures names { IfOk result (λ e. HasNames (tree_of e)) }
 {
     if characters(text) > MOST_CHARACTERS {

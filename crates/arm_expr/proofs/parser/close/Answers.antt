@@ -1,4 +1,3 @@
-use Rattle.std.proofs.Common.{arith}
 use Rattle.arm_expr.proofs.ViewLemmas.{popped}
 use Rattle.arm_expr.proofs.parser.close.Goals as goal
 

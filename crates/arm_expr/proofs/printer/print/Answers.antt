@@ -1,4 +1,4 @@
-use Rattle.std.proofs.Common.{sym, subst, ap, ◌∙◌, length, ◌≤◌, arith, rules, tests}
+use Rattle.std.proofs.Common.{sym, subst, length, ◌≤◌}
 use Rattle.arm_expr.specs.Grammar.{Spells}
 use Rattle.arm_expr.specs.View.{tree_of}
 use Rattle.arm_expr.proofs.PrintLemmas.{printed_spells}

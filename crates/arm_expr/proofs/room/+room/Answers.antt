@@ -1,4 +1,4 @@
-use Rattle.std.proofs.Common.{arith, map, drop, ◌+◌, length}
+use Rattle.std.proofs.Common.{arith, map, drop, ◌+◌}
 use Rattle.arm_expr.specs.Tree.{trees}
 use Rattle.arm_expr.specs.View.{tree_of}
 use Rattle.arm_expr.proofs.PrintLemmas.{one_at_least, next_argument}

@@ -60,7 +60,7 @@ signed false n = pos n
 signed true zero = pos 0
 signed true (suc n) = negsuc n
 
--- digits, where `true` behind a `-`
+-- digits, where `true` behind a `-` (45)
 abbrev pub with_sign : Bool → List ℕ → List ℕ
 with_sign false ds = ds
 with_sign true ds = 45 ∷ ds
@@ -75,7 +75,7 @@ pub record IsNumeral (word : List ℕ) (z : ℤ) : Type 0 where
   pub word_is : word ≡ with_sign negative (first ∷ digits)
   pub value_is : z ≡ signed negative (value_from 0 (first ∷ digits))
 
--- the characters of a string, each quote in it twice
+-- the characters of a string, each quote in it (39) twice
 abbrev pub doubled : List ℕ → List ℕ
 doubled [] = []
 doubled (c ∷ cs) = if c == 39 then 39 ∷ 39 ∷ doubled cs else c ∷ doubled cs
@@ -93,7 +93,7 @@ abbrev pub ◌▹◌ : Form → Form → Form
 abbrev pub blanks : Form
 blanks t k = (bs : List ℕ) × AreBlank bs × (t ≡ bs ++ k)
 
--- one character
+-- one character, by its code: 40 and 41 are `(` and `)`, 44 is `,`, 46 is `.`, 91 and 93 are `[` and `]`
 abbrev pub mark : ℕ → Form
 mark c t k = t ≡ c ∷ k
 

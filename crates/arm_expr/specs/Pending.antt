@@ -32,12 +32,12 @@ onto ts o = option_map (λ q. (ts ++ q.0, q.1)) o
 abbrev pub next : List Token → Pending → Turn
 next ts p = Some (ts, p)
 
--- why a reader stopped where another has gone on as o says
+-- why a part is not read: the definition has no answer o either, or memory ran out
 abbrev pub Stops : {A : Type 0} → Stop → Option A → Type 0
 Stops stop.NotAnExpression o = o ≡ None
 Stops stop.OutOfMemory o = Unit {0}
 
--- the answer is o, unless memory ran out
+-- what is answered is o, unless memory ran out
 abbrev pub Gives : {X A : Type 0} → (X → A) → Result X Stop → Option A → Type 0
 Gives view (Ok x) o = o ≡ Some (view x)
 Gives view (Err e) o = Stops e o

@@ -44,7 +44,7 @@ kept_new n h = record {
   counted = λ u. get_or-replicate n u 0 ∙ sym (ap (λ ws. length (undone (replicate n false) ws)) (get_or-replicate n u []));
 }
 
-length-filter_cons : (p : ℕ → Bool) (w : ℕ) (ws : List ℕ) → length (filter p (w ∷ ws)) ≡ cond (p w) 1 0 + length (filter p ws)
+pub length-filter_cons : (p : ℕ → Bool) (w : ℕ) (ws : List ℕ) → length (filter p (w ∷ ws)) ≡ cond (p w) 1 0 + length (filter p ws)
 length-filter_cons p w ws = by (p w)
   where
     by : (b : Bool) → length (cond b (w ∷ filter p ws) (filter p ws)) ≡ cond b 1 0 + length (filter p ws)
@@ -118,10 +118,10 @@ look_set xs i y u h = by (cases_eq u i)
     by (inl e) = inl (e, get_or-set_at xs i u y [] e h)
     by (inr n) = inr (n, get_or-set_other xs i u y [] n)
 
-same_test : (a b : ℕ) → b ≡ a → (a == b) ≡ true
+pub same_test : (a b : ℕ) → b ≡ a → (a == b) ≡ true
 same_test a b e = grind (arith, nat_tests)
 
-other_test : (a b : ℕ) → (b ≡ a → ⊥) → (a == b) ≡ false
+pub other_test : (a b : ℕ) → (b ≡ a → ⊥) → (a == b) ≡ false
 other_test a b n = grind (arith, nat_tests)
 
 -- how often v stands among the needs of u, once a node needs another besides
@@ -223,7 +223,7 @@ length-insert_key : (ws : List ℕ) (v : ℕ) → times ws v ≡ 0 → length (i
 length-insert_key [] v none = omega arith
 length-insert_key (w ∷ ws) v none = length-insert_key_by (nat_cmp v w) w v ws refl none (length-insert_key ws v (omega arith))
 
-stands_there : (ks : List ℕ) (k d : ℕ) → k < length ks → 1 ≤ times ks (get_or ks k d)
+pub stands_there : (ks : List ℕ) (k d : ℕ) → k < length ks → 1 ≤ times ks (get_or ks k d)
 stands_there [] k d h = absurd (omega arith)
 stands_there (w ∷ ws) zero d h = is_there w (times ws w)
 stands_there (w ∷ ws) (suc k) d h = omega (arith, stands_there ws k d (omega arith))

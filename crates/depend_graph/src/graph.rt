@@ -14,10 +14,10 @@ use std::marker::Model;
 /// Nodes are the numbers from 0 below their count. Contracts see a graph as its `Shape`.
 #[derive(Drop)]
 pub struct Graph {
-    needs: Vec<BTreeSet<u32>>,
-    dependents: Vec<Vec<u32>>,
-    done: Vec<bool>,
-    unmet: Vec<u32>,
+    pub(crate) needs: Vec<BTreeSet<u32>>,
+    pub(crate) dependents: Vec<Vec<u32>>,
+    pub(crate) done: Vec<bool>,
+    pub(crate) unmet: Vec<u32>,
 }
 
 impl Model for Graph {

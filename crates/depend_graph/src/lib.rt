@@ -5,6 +5,7 @@
 //! undone needs for each node, and who needs it) is this crate's own affair.
 #![tactic(auto)]
 
+mod circle;
 mod graph;
 mod standing;
 

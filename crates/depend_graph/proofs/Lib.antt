@@ -2,3 +2,4 @@ pub mod Lists
 pub mod Counts
 pub mod Keeping
 pub mod Peeling
+pub mod Walking

@@ -1,14 +1,14 @@
 -- Nodes that are marked as done one after another: what a search that does so has come to.
-use Rattle.std.proofs.Common.{◌≡◌, ◌≢◌, ◌<◌, ◌≤◌, ◌+◌, ◌^◌, ◌==◌, ◌&&◌, ◌⊎◌, inl, inr, ℕ, zero, suc, Bool, true, false, true≢false, not, List, [], ◌∷◌, ◌++◌, length, get_or, refl, sym, ap, ap₂, ◌∙◌, arith, cond, subst, length-append}
+use Rattle.std.proofs.Common.{◌≡◌, ◌<◌, ◌≤◌, ◌+◌, ◌==◌, ◌&&◌, ◌⊎◌, inl, inr, ℕ, zero, suc, Bool, true, false, true≢false, not, List, [], ◌∷◌, ◌++◌, length, get_or, refl, sym, ap, ◌∙◌, arith, cond, subst, length-append, ◌↔◌}
 use Rattle.std.proofs.Math.ListN.{set}
 use Rattle.std.specs.Prelude.{filter}
 use Rattle.std.proofs.lemmas.Bool.{cases_eq}
 use Rattle.std.proofs.lemmas.Bool.Decides.{nat_tests}
-use Rattle.std.proofs.lemmas.List.{get_or-set_same, get_or-set_other, length-set}
+use Rattle.std.proofs.lemmas.List.{get_or-set_other}
 use Rattle.std.proofs.lemmas.Grind.{get_or-set_at}
 use Rattle.depend_graph.specs.Shape.{Shape, times, undone, needs_of, is_done, Needs, Chain, IsCircle}
 use Rattle.depend_graph.specs.Kept.{IsKept}
-use Rattle.depend_graph.specs.Circles.{can_start, HasCome, KeepsCircles, IsBlocked, work}
+use Rattle.depend_graph.specs.Circles.{can_start, HasCome, KeepsCircles, work}
 use Rattle.depend_graph.proofs.Counts.{times-append, is_there}
 use Rattle.depend_graph.proofs.Keeping.{kept_done, length-filter_cons, same_test, other_test, undone_less}
 
@@ -30,7 +30,7 @@ undone_some : (done : List Bool) (ws : List ℕ) (v : ℕ) → 1 ≤ times ws v 
 undone_some done [] v h f = absurd (omega arith)
 undone_some done (w ∷ ws) v h f = undone_some_by done w v ws (cases_eq w v) h f (λ m. undone_some done ws v m f)
 
-chain_head : (g : Shape) (n : ℕ) (rest : List ℕ) (end : ℕ) → Chain g (n ∷ rest) end → is_done g n ≡ false
+pub chain_head : (g : Shape) (n : ℕ) (rest : List ℕ) (end : ℕ) → Chain g (n ∷ rest) end → is_done g n ≡ false
 chain_head g n [] end c = c.0
 chain_head g n (m ∷ rest) end c = c.0
 
@@ -110,6 +110,7 @@ lists_more_by true done unmet ready node e l = record {
       where
         below : (u : ℕ) → u < node + 1 → (u ≡ node → ⊥) → u < node
         below u h other = omega (arith, other)
+
     from : (u : ℕ) → 1 ≤ times ready u + (cond (node == u) 1 0 + 0) → (u < node + 1) × (get_or unmet u 0 ≡ 0)
     from u some = by (cases_eq node u)
       where
@@ -140,6 +141,7 @@ begun g dependents unmet ready k l = record {
   unmet_size = k.unmet_size;
   counted = k.counted;
   circles = λ xs c. c;
+  later = λ u e. e;
   listed = l.listed;
   startable = l.startable;
 }
@@ -151,6 +153,7 @@ passed g done unmet ready left node h popped is = record {
   unmet_size = h.unmet_size;
   counted = h.counted;
   circles = h.circles;
+  later = h.later;
   listed = λ u within can. still u (cases_eq node u) can (subst (λ r. 1 ≤ times r u) popped (h.listed u within can));
   startable = λ u some. h.startable u (subst (λ r. 1 ≤ times r u) (sym popped) (omega (arith, times-append left (node ∷ []) u, some)));
 }
@@ -192,13 +195,20 @@ filter_passes p (x ∷ xs) u some = by (p x) refl some (filter_passes p xs u)
         among (inr more) = rest more
     by false is there rest = rest there
 
-has_needs : (needs : List (List ℕ)) (u v : ℕ) → 1 ≤ times (get_or needs u []) v → u < length needs
+pub has_needs : (needs : List (List ℕ)) (u v : ℕ) → 1 ≤ times (get_or needs u []) v → u < length needs
 has_needs [] u v some = absurd (omega arith)
 has_needs (ws ∷ needs) zero v some = omega arith
 has_needs (ws ∷ needs) (suc u) v some = omega (arith, has_needs needs u v some)
 
 can_start_from : (done : List Bool) (unmet : List ℕ) (u : ℕ) → get_or done u false ≡ false → get_or unmet u 0 ≡ 0 → can_start done unmet u ≡ true
 can_start_from done unmet u f z = rw (f, z) refl
+
+done_still : (done : List Bool) (node u : ℕ) → node < length done → get_or done u false ≡ true → get_or (set done node true) u false ≡ true
+done_still done node u h e = by (cases_eq u node)
+  where
+    by : (u ≡ node) ⊎ (u ≡ node → ⊥) → get_or (set done node true) u false ≡ true
+    by (inl same) = get_or-set_at done node u true false same h
+    by (inr other) = get_or-set_other done node u true false other ∙ e
 
 -- a node is marked: those that need it are counted down, and listed where they have no undone need left
 pub marked_next : (g : Shape) (dependents : List (List ℕ)) (first : List ℕ) (done : List Bool) (unmet fewer ready left new : List ℕ) (node : ℕ)
@@ -209,7 +219,14 @@ pub marked_next : (g : Shape) (dependents : List (List ℕ)) (first : List ℕ) 
 marked_next g dependents first done unmet fewer ready left new node k h popped free size counts n =
     let here = top g done unmet ready left node h popped in
     let now : IsKept g.needs dependents done unmet = record {
-      listed_size = k.listed_size; done_size = h.done_size; unmet_size = h.unmet_size; few = k.few; rising = k.rising; below = k.below; listed = k.listed; counted = h.counted;
+      listed_size = k.listed_size;
+      done_size = h.done_size;
+      unmet_size = h.unmet_size;
+      few = k.few;
+      rising = k.rising;
+      below = k.below;
+      listed = k.listed;
+      counted = h.counted;
     } in
     let then = kept_done g.needs dependents done unmet fewer node now free here.0 size counts in
     record {
@@ -217,12 +234,14 @@ marked_next g dependents first done unmet fewer ready left new node k h popped f
       unmet_size = then.unmet_size;
       counted = then.counted;
       circles = keeps_circles g done node h.circles (sym (h.counted node) ∙ here.1);
+      later = λ u e. done_still done node u (omega (arith, h.done_size, here.0)) (h.later u e);
       listed = λ u within can. subst (λ r. 1 ≤ times r u) (sym n) (either u within can (get_or unmet u 0) refl);
       startable = λ u some. from u (subst (λ r. 1 ≤ times r u) n some);
     }
   where
     starts : List ℕ
     starts = filter (can_start (set done node true) fewer) (get_or dependents node [])
+
     still_free : (u : ℕ) → can_start (set done node true) fewer u ≡ true → (node ≡ u → ⊥) × (get_or done u false ≡ false)
     still_free u can = by (cases_eq node u)
       where
@@ -232,9 +251,11 @@ marked_next g dependents first done unmet fewer ready left new node k h popped f
             negated : (b : Bool) → not b ≡ true → b ≡ false
             negated true e = absurd (true≢false (sym e))
             negated false e = refl
+
         by : (node ≡ u) ⊎ (node ≡ u → ⊥) → (node ≡ u → ⊥) × (get_or done u false ≡ false)
         by (inl same) = absurd (true≢false (sym (get_or-set_at done node u true false (sym same) (omega (arith, h.done_size, (top g done unmet ready left node h popped).0))) ∙ undone_now))
         by (inr other) = (other, sym (get_or-set_other done node u true false (λ e. other (sym e))) ∙ undone_now)
+
     either : (u : ℕ) → u < length g.needs → can_start (set done node true) fewer u ≡ true → (m : ℕ) → get_or unmet u 0 ≡ m → 1 ≤ times (left ++ starts) u
     either u within can zero e =
         let free_now = still_free u can in
@@ -243,6 +264,7 @@ marked_next g dependents first done unmet fewer ready left new node k h popped f
     either u within can (suc m) e =
         let none = no_need fewer (set done node true) u can in
         omega (arith, times-append left starts u, times-filter (can_start (set done node true) fewer) (get_or dependents node []) u can, counts u, none, e)
+
     from : (u : ℕ) → 1 ≤ times (left ++ starts) u → (u < length g.needs) × (get_or fewer u 0 ≡ 0)
     from u some = by (times left u) refl
       where
@@ -287,3 +309,18 @@ pub less_to_do : (done : List Bool) (dependents : List (List ℕ)) (p : ℕ → 
     → work (set done node true) dependents + length new < work done dependents + length ready
 less_to_do done dependents p ready left new node h g f popped n =
     omega (arith, work-set done dependents node h g f, ap length popped, ap length n, length-append left (node ∷ []), length-append left (filter p (get_or dependents node [])), length-filter-le p (get_or dependents node []))
+
+all_done_empty : (done : List Bool) (ws : List ℕ) → ((v : ℕ) → 1 ≤ times ws v → get_or done v false ≡ true) → length (undone done ws) ≡ 0
+all_done_empty done [] all = refl
+all_done_empty done (w ∷ ws) all =
+    let here : not (get_or done w false) ≡ false = ap not (all w (is_there w (times ws w))) in
+    omega (arith, undone_cons done w ws, ap {B = ℕ} (λ (b : Bool). cond b 1 0) here, all_done_empty done ws (λ v some. all v (omega (arith, some))))
+
+empty_all_done : (done : List Bool) (ws : List ℕ) (v : ℕ) (b : Bool) → get_or done v false ≡ b → length (undone done ws) ≡ 0 → 1 ≤ times ws v → get_or done v false ≡ true
+empty_all_done done ws v true e none some = e
+empty_all_done done ws v false e none some = absurd (omega (arith, undone_some done ws v some e))
+
+-- a node has no undone need exactly where each of its needs is done
+pub none_undone : (ready : Bool) (done : List Bool) (ws : List ℕ) → (ready ≡ true → length (undone done ws) ≡ 0) → (length (undone done ws) ≡ 0 → ready ≡ true)
+    → (ready ≡ true) ↔ ((v : ℕ) → 1 ≤ times ws v → get_or done v false ≡ true)
+none_undone ready done ws f g = (λ r v some. empty_all_done done ws v _ refl (f r) some, λ all. g (all_done_empty done ws all))

@@ -1,6 +1,6 @@
 -- What a search for circles goes by.
 use Rattle.std.specs.Prelude.{◌≡◌, ◌≢◌, ◌<◌, ◌≤◌, ◌+◌, ◌==◌, ◌&&◌, ℕ, Bool, true, false, not, List, [], ◌∷◌, length, slice_index_or, if◌then◌else◌}
-use Rattle.depend_graph.specs.Shape.{Shape, times, undone, IsCircle}
+use Rattle.depend_graph.specs.Shape.{Shape, times, undone, is_done, IsCircle, Chain}
 
 -- whether a node is undone and has no undone need
 abbrev pub can_start : List Bool → List ℕ → ℕ → Bool
@@ -32,6 +32,12 @@ pub record HasCome (g : Shape) (done : List Bool) (unmet ready : List ℕ) : Typ
   pub unmet_size : length unmet ≡ length g.needs
   pub counted : (u : ℕ) → slice_index_or unmet u 0 ≡ length (undone done (slice_index_or g.needs u []))
   pub circles : KeepsCircles g done
+  pub later : (u : ℕ) → is_done g u ≡ true → slice_index_or done u false ≡ true
   -- what may be marked next is listed, and all that is listed has no undone need
   pub listed : (u : ℕ) → u < length g.needs → can_start done unmet u ≡ true → 1 ≤ times ready u
   pub startable : (u : ℕ) → 1 ≤ times ready u → (u < length g.needs) × (slice_index_or unmet u 0 ≡ 0)
+
+-- a path: each node on it is undone and needs the next, and the last needs the node that comes next
+abbrev pub Leads : Shape → List ℕ → ℕ → Type 0
+Leads g [] node = Unit {0}
+Leads g (x ∷ xs) node = Chain g (x ∷ xs) node

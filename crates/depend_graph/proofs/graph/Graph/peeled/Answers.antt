@@ -1,4 +1,4 @@
-use Rattle.std.proofs.Common.{◌≡◌, ◌∙◌, ◌++◌, ◌<◌, ◌≤◌, ℕ, [], ◌∷◌, length, get_or, true, false, sym, ap, subst, arith, Vec, Global}
+use Rattle.std.proofs.Common.{◌≡◌, ◌∙◌, ◌++◌, ◌≤◌, ℕ, [], length, get_or, true, false, sym, ap, subst, arith, Vec, Global}
 use Rattle.std.specs.Option.{option_to_list}
 use Rattle.std.specs.Prelude.{filter}
 use Rattle.std.proofs.lemmas.List.{length-map, length-set}
@@ -6,7 +6,7 @@ use Rattle.std.proofs.lemmas.List.Elements.{same_from_all_zip}
 use Rattle.depend_graph.specs.Shape.{Shape, times}
 use Rattle.depend_graph.specs.Kept.{IsKept}
 use Rattle.depend_graph.specs.Sets.{items_of_each}
-use Rattle.depend_graph.specs.Circles.{HasCome, can_start}
+use Rattle.depend_graph.specs.Circles.{can_start}
 use Rattle.depend_graph.proofs.Lists.{get_map, get_any}
 use Rattle.depend_graph.proofs.Keeping.{written_back}
 use Rattle.depend_graph.proofs.Peeling.{Lists, lists_more, begun, passed, top, marked_next, counts_down, dependents_are_nodes, less_to_do}

@@ -1,6 +1,5 @@
-use Rattle.std.proofs.Common.{◌≡◌, ◌≤◌, ◌<◌, ◌+◌, ℕ, length, true, get_or}
-use Rattle.depend_graph.specs.Shape.{times}
-use Rattle.depend_graph.specs.Circles.{can_start, HasCome, work}
+use Rattle.std.proofs.Common.{◌+◌, length}
+use Rattle.depend_graph.specs.Circles.{HasCome, work}
 use Rattle.depend_graph.specs.Sets.{items_of_each}
 use Rattle.depend_graph.proofs.Peeling.{Lists}
 use Rattle.depend_graph.proofs.graph.Graph.peeled.Given as goal

@@ -1,0 +1,10 @@
+pub mod Tree
+pub mod Grammar
+pub mod Print
+pub mod View
+pub mod Answers
+pub mod Tokens
+pub mod Lexer
+pub mod Machine
+pub mod Pending
+pub mod Stack

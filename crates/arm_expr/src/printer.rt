@@ -1,0 +1,165 @@
+// Writes an expression.
+
+ghost use Rattle.std.specs.Prelude.{◌≡◌, ◌<◌, ◌≤◌, ◌↔◌, ℕ, List, [], ◌∷◌, ◌++◌, chars, length, map, IfOk, OnOk, IsErrOf, IsTrue, Result};
+ghost use Rattle.std.specs.Fmt.{signed_decimal};
+ghost use Rattle.arm_expr.specs.declared.expr.Expr.{Expr};
+ghost use Rattle.arm_expr.specs.declared.fault.ExprFault.{ExprFault};
+ghost use Rattle.arm_expr.specs.Tree.{nesting, trees};
+ghost use Rattle.arm_expr.specs.Grammar.{doubled, Spells};
+ghost use Rattle.arm_expr.specs.Print.{printed, Adds, printed_onto, arguments_onto, HasNames, HasInts, HaveInts, IsWhole};
+ghost use Rattle.arm_expr.specs.Answers.{Reads, IsReadAs};
+ghost use Rattle.arm_expr.specs.View.{tree_of, text_of};
+
+use crate::expr::{Expr, MOST_CHARACTERS, MOST_NESTING};
+use crate::fault::ExprFault;
+use crate::nesting::is_within;
+use crate::room::behind;
+use arm_value::{OutOfMemory, Text};
+use std::alloc::Global;
+
+fn put(out: &mut String, c: char) -> Result<(), OutOfMemory>
+    ensures { OnOk result (text_of out.new ≡ text_of out.old ++ c ∷ []) }
+{
+    out.push(c)?;
+    Ok(())
+}
+
+fn put_text(out: &mut String, text: &str) -> Result<(), OutOfMemory>
+    ensures { OnOk result (text_of out.new ≡ text_of out.old ++ chars text.now) }
+{
+    out.push_str(text)?;
+    Ok(())
+}
+
+fn put_int(out: &mut String, z: i64) -> Result<(), OutOfMemory>
+    ensures written { OnOk result (text_of out.new ≡ text_of out.old ++ signed_decimal z) }
+    ensures whole { IsWhole z }
+{
+    write!(out, "{z}")?;
+    Ok(())
+}
+
+// Writes a character within quotes.
+fn put_within_quotes(out: &mut String, c: char) -> Result<(), OutOfMemory>
+    ensures { OnOk result (text_of out.new ≡ text_of out.old ++ doubled (c ∷ [])) }
+{
+    put(out, c)?;
+    if c == '\'' {
+        put(out, c)?;
+    }
+    Ok(())
+}
+
+fn put_doubled(out: &mut String, text: &str) -> Result<(), OutOfMemory>
+    ensures { OnOk result (text_of out.new ≡ text_of out.old ++ doubled (chars text.now)) }
+{
+    for c in text.chars() {
+        put_within_quotes(out, c)?;
+    }
+    Ok(())
+}
+
+#[cycle(printing)]
+#[tactic(auto, using(crate::proofs::PrintLemmas::print_views))]
+fn put_expr(out: &mut String, e: &Expr) -> Result<(), OutOfMemory>
+    ensures written { OnOk result
+        (Adds (text_of out.old) (text_of out.new) (printed_onto (tree_of e.now))) }
+    ensures ints { OnOk result (HasInts (tree_of e.now)) }
+{
+    match e {
+        Expr::Text(s) => {
+            put(out, '\'')?;
+            put_doubled(out, s.as_str())?;
+            put(out, '\'')
+        }
+        Expr::Int(z) => put_int(out, *z),
+        Expr::Call(name, arguments) => {
+            put_text(out, name.as_str())?;
+            put(out, '(')?;
+            put_arguments(out, arguments)
+        }
+        Expr::Member(inner, name) => {
+            put_expr(out, inner)?;
+            put(out, '.')?;
+            put_text(out, name.as_str())
+        }
+        Expr::Index(base, index) => {
+            put_expr(out, base)?;
+            put(out, '[')?;
+            put_expr(out, index)?;
+            put(out, ']')
+        }
+    }
+}
+
+// The arguments of a call and the `)` behind them.
+#[cycle(printing)]
+#[tactic(auto, using(crate::proofs::PrintLemmas::print_views))]
+fn put_arguments(out: &mut String, arguments: &[Expr]) -> Result<(), OutOfMemory>
+    ensures written { OnOk result
+        (Adds (text_of out.old) (text_of out.new) (arguments_onto (trees (map tree_of arguments.now)))) }
+    ensures ints { OnOk result (HaveInts (trees (map tree_of arguments.now))) }
+{
+    let mut first = true;
+    for argument in arguments {
+        if !first {
+            put(out, ',')?;
+            put(out, ' ')?;
+        }
+        put_expr(out, argument)?;
+        first = false;
+    }
+    put(out, ')')
+}
+
+// The text of an expression, however long or deep.
+#[tactic(auto, using(crate::proofs::PrintLemmas::print_views))]
+fn text_in_brackets(alloc: Global, e: &Expr) -> Result<Text, OutOfMemory>
+    ensures text { IfOk result (λ t. t ≡ printed (tree_of e.now)) }
+    ensures ints { OnOk result (HasInts (tree_of e.now)) }
+{
+    let mut out = String::new(alloc);
+    put(&mut out, '[')?;
+    put_expr(&mut out, e)?;
+    put(&mut out, ']')?;
+    Ok(Text::from_string(out))
+}
+
+fn is_too_long(e: &Expr) -> bool
+    ensures { IsTrue result ↔ (MOST_CHARACTERS < length (printed (tree_of e.now))) }
+{
+    match behind(e, MOST_CHARACTERS - 2) {
+        None => true,
+        Some(_) => false,
+    }
+}
+
+/// Writes an expression in brackets, with `, ` between arguments, each quote in a string twice, and
+/// no other blank.
+///
+/// `TooLong` is answered where the text has more than 24,576 characters, then `TooDeep` where the
+/// expression nests above 64. What is written is read as the expression.
+pub fn print(alloc: Global, e: &Expr) -> Result<Text, ExprFault>
+    requires { HasNames (tree_of e.now) }
+    ensures text { IfOk result (λ t. t ≡ printed (tree_of e.now)) }
+    ensures too_long { IsErrOf result ExprFault.TooLong
+        ↔ (MOST_CHARACTERS < length (printed (tree_of e.now))) }
+    ensures too_deep { IsErrOf result ExprFault.TooDeep
+        ↔ ((length (printed (tree_of e.now)) ≤ MOST_CHARACTERS)
+        × (MOST_NESTING < nesting (tree_of e.now))) }
+    ensures expression { IsErrOf result ExprFault.NotAnExpression → ⊥ }
+
+    // The text spells the expression, and any answer of `read` to it is the expression.
+    ensures spells { IfOk result (λ t. Spells (tree_of e.now) t) }
+    ensures reads_back { IfOk result (λ t. (r : Result Expr ExprFault)
+        → Reads MOST_CHARACTERS MOST_NESTING t r → IsReadAs (tree_of e.now) r) }
+{
+    if is_too_long(e) {
+        return Err(ExprFault::TooLong);
+    }
+    if !is_within(e, MOST_NESTING) {
+        return Err(ExprFault::TooDeep);
+    }
+    let text = text_in_brackets(alloc, e)?;
+    Ok(text)
+}

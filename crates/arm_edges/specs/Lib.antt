@@ -1,1 +1,6 @@
 pub mod Faults
+pub mod Calls
+pub mod Flow
+pub mod Files
+pub mod Inside
+pub mod Disk

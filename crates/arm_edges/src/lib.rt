@@ -6,6 +6,7 @@
 
 mod calls;
 mod disk;
+mod edit;
 mod faults;
 mod inside;
 mod lent_disk;
@@ -14,6 +15,7 @@ mod mem_link;
 mod mem_sink;
 mod mem_source;
 mod mem_tree;
+mod ram_disk;
 mod real_disk;
 mod real_link;
 mod real_out;
@@ -30,6 +32,7 @@ pub use mem_link::MemLink;
 pub use mem_sink::MemSink;
 pub use mem_source::MemSource;
 pub use mem_tree::{MemFile, MemTree};
+pub use ram_disk::RamDisk;
 pub use real_disk::RealDisk;
 pub use real_link::RealLink;
 pub use real_out::RealOut;

@@ -5,12 +5,14 @@
 #![tactic(auto)]
 
 mod calls;
+mod change;
 mod disk;
 mod edit;
 mod faults;
 mod inside;
 mod lent_disk;
 mod link;
+mod log;
 mod mem_link;
 mod mem_sink;
 mod mem_source;

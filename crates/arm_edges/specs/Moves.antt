@@ -1,0 +1,61 @@
+-- What one file may hold after a crash: the moves since the disk was made, one after the other.
+use Rattle.std.specs.Prelude.{◌≡◌, ℕ, List, [], ◌∷◌, length, take}
+use Rattle.arm_edges.specs.Disk.{Parts, resized, overwritten, Torn, Cut}
+use Rattle.arm_edges.specs.declared.disk.Part.{Part}
+use Rattle.arm_edges.specs.declared.disk.Part.TheVariants.{A, B}
+
+-- a write of bytes at a place and one that failed, a cut to a length and one that failed, a sync
+pub data Move : Type 0 where
+  wrote : ℕ → List ℕ → Move
+  tore : ℕ → List ℕ → Move
+  shortened : ℕ → Move
+  tore_off : ℕ → Move
+  synced : Move
+
+-- a move of a part of the disk
+abbrev pub Step : Type 0
+Step = Part × Move
+
+-- the move, before the moves that follow, where the first part is the second
+abbrev pub if_same : Part → Part → Move → List Move → List Move
+if_same A A move moves = move ∷ moves
+if_same A B move moves = moves
+if_same B A move moves = moves
+if_same B B move moves = move ∷ moves
+
+-- the moves of a part
+abbrev pub moves_on : Part → List Step → List Move
+moves_on part [] = []
+moves_on part (step ∷ steps) = if_same part step.0 step.1 (moves_on part steps)
+
+-- what a read gives after a move; a call that failed changes no read
+abbrev pub read_after : Move → List ℕ → List ℕ
+read_after (wrote at bytes) file = overwritten at bytes file
+read_after (tore at bytes) file = file
+read_after (shortened n) file = resized n file
+read_after (tore_off n) file = file
+read_after synced file = file
+
+abbrev pub reads_after : List Move → List ℕ → List ℕ
+reads_after [] file = file
+reads_after (move ∷ moves) file = reads_after moves (read_after move file)
+
+-- what a crash may leave after a move: now is what a read gives then, and set is what a crash might have left before
+abbrev pub image_after : Move → List ℕ → (List ℕ → Type 0) → List ℕ → Type 0
+image_after (wrote at bytes) now set image = (before : List ℕ) × set before × Torn at (length bytes) before image
+image_after (tore at bytes) now set image = (before : List ℕ) × set before × Torn at (length bytes) before image
+image_after (shortened n) now set image = (before : List ℕ) × set before × Cut n before image
+image_after (tore_off n) now set image = (before : List ℕ) × set before × Cut n before image
+image_after synced now set image = set image × (image ≡ now)
+
+abbrev pub images_after : List Move → List ℕ → (List ℕ → Type 0) → List ℕ → Type 0
+images_after [] now set image = set image
+images_after (move ∷ moves) now set image = images_after moves (read_after move now) (image_after move (read_after move now) set) image
+
+-- what a crash may leave of a file that began so
+abbrev pub left_after : List ℕ → List Move → List ℕ → Type 0
+left_after first moves image = images_after moves first (λ (file : List ℕ). file ≡ first) image
+
+-- what a crash at the moment after so many of the steps may leave of a disk that began so
+abbrev pub left_at : Parts → List Step → ℕ → Parts → Type 0
+left_at first steps moment image = left_after first.a (moves_on A (take moment steps)) image.a × left_after first.b (moves_on B (take moment steps)) image.b

@@ -5,4 +5,7 @@ pub mod Files
 pub mod Inside
 pub mod Disk
 pub mod Moves
+pub mod ReadImages
 pub mod Log
+pub mod Contents
+pub mod Begun

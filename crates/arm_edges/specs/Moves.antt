@@ -1,5 +1,5 @@
 -- What one file may hold after a crash: the moves since the disk was made, one after the other.
-use Rattle.std.specs.Prelude.{◌≡◌, ℕ, List, [], ◌∷◌, length, take}
+use Rattle.std.specs.Prelude.{◌≡◌, ◌⊎◌, ℕ, List, [], ◌∷◌, ◌++◌, length, take}
 use Rattle.arm_edges.specs.Disk.{Parts, resized, overwritten, Torn, Cut}
 use Rattle.arm_edges.specs.declared.disk.Part.{Part}
 use Rattle.arm_edges.specs.declared.disk.Part.TheVariants.{A, B}
@@ -40,6 +40,18 @@ abbrev pub reads_after : List Move → List ℕ → List ℕ
 reads_after [] file = file
 reads_after (move ∷ moves) file = reads_after moves (read_after move file)
 
+-- what a read of both parts gives after these steps
+abbrev pub parts_after : List Step → Parts → Parts
+parts_after steps first = record { a = reads_after (moves_on A steps) first.a; b = reads_after (moves_on B steps) first.b }
+
+-- what a crash may leave of a file after a move, where it might have left this before it and a read gave now
+abbrev pub Leaves : Move → List ℕ → List ℕ → List ℕ → Type 0
+Leaves (wrote at bytes) now before after = Torn at (length bytes) before after
+Leaves (tore at bytes) now before after = Torn at (length bytes) before after
+Leaves (shortened n) now before after = Cut n before after
+Leaves (tore_off n) now before after = Cut n before after
+Leaves synced now before after = after ≡ now
+
 -- what a crash may leave after a move: now is what a read gives then, and set is what a crash might have left before
 abbrev pub image_after : Move → List ℕ → (List ℕ → Type 0) → List ℕ → Type 0
 image_after (wrote at bytes) now set image = (before : List ℕ) × set before × Torn at (length bytes) before image
@@ -59,3 +71,7 @@ left_after first moves image = images_after moves first (λ (file : List ℕ). f
 -- what a crash at the moment after so many of the steps may leave of a disk that began so
 abbrev pub left_at : Parts → List Step → ℕ → Parts → Type 0
 left_at first steps moment image = left_after first.a (moves_on A (take moment steps)) image.a × left_after first.b (moves_on B (take moment steps)) image.b
+
+-- one step more, or none
+abbrev pub IsOneMore : List Step → Step → List Step → Type 0
+IsOneMore steps step more = (more ≡ steps ++ step ∷ []) ⊎ (more ≡ steps)

@@ -7,7 +7,6 @@ use std::alloc::AllocError;
 
 // Puts these bytes at that place. Where there is room for them it takes no memory and succeeds.
 pub(crate) fn overwrite(file: &mut Vec<u8>, at: usize, bytes: &[u8]) -> Result<(), AllocError>
-    requires { at + length bytes.now < 2 ^ 64 }
     ensures ok { OnOk result (file.new.items ≡ overwritten at bytes.now file.old.items) }
     ensures capacity { vec_capacity file.old ≤ vec_capacity file.new }
     ensures full { OnErr result (vec_capacity file.old < max (length file.old.items) (at + length bytes.now)) }
@@ -15,7 +14,9 @@ pub(crate) fn overwrite(file: &mut Vec<u8>, at: usize, bytes: &[u8]) -> Result<(
     if bytes.is_empty() {
         return Ok(());
     }
-    let end = at + bytes.len();
+    let Some(end) = at.checked_add(bytes.len()) else {
+        return Err(AllocError);
+    };
     if end <= file.len() {
         file[at..end].copy_from_slice(bytes);
         return Ok(());

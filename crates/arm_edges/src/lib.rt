@@ -4,8 +4,11 @@
 //! What a count, a file or a disk means is said in `specs/`.
 #![tactic(auto)]
 
+mod begun;
 mod calls;
 mod change;
+mod contents;
+mod crash;
 mod disk;
 mod edit;
 mod faults;
@@ -13,6 +16,7 @@ mod inside;
 mod lent_disk;
 mod link;
 mod log;
+mod mem_disk;
 mod mem_link;
 mod mem_sink;
 mod mem_source;
@@ -27,9 +31,11 @@ mod source;
 mod tree;
 
 pub use calls::Calls;
+pub use contents::{Contents, Room};
 pub use disk::{Disk, Part};
 pub use faults::{Failed, TreeFault};
 pub use link::Link;
+pub use mem_disk::MemDisk;
 pub use mem_link::MemLink;
 pub use mem_sink::MemSink;
 pub use mem_source::MemSource;

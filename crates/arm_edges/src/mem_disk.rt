@@ -1,0 +1,171 @@
+ghost use Rattle.std.specs.Prelude.{◌≡◌, ◌<◌, ◌≤◌, ◌+◌, ◌-◌, ◌^◌, ◌++◌, ◌⊎◌, [], ◌∷◌, true, length, IfOk, OnOk, OnErr};
+ghost use Rattle.std.specs.Vec.{vec_capacity};
+ghost use Rattle.arm_edges.specs.Disk.{largest_fits};
+ghost use Rattle.arm_edges.specs.Moves.{parts_after, left_at, IsOneMore};
+ghost use Rattle.arm_edges.specs.Log.{steps_of, move_of, size_of};
+ghost use Rattle.arm_edges.specs.Contents.{contents_of, HasRoom};
+ghost use Rattle.arm_edges.specs.ReadImages.{reads_left_at};
+
+use crate::begun::{Begun, begin};
+use crate::change::Change;
+use crate::contents::{Contents, Room, cut_part, part_of, roomy, write_part};
+use crate::edit::read_in;
+use crate::log::Log;
+use crate::{Calls, Disk, Failed, Part};
+use std::alloc::{AllocError, Global};
+
+/// A disk in memory. It keeps each call that changes it, so that what a crash leaves is known.
+#[derive(Debug, Drop)]
+pub struct MemDisk {
+    alloc: Global,
+    first: Contents,
+    now: Contents,
+    log: Log,
+    room: Room,
+    left: Room,
+    calls: Calls,
+    ghost reads_are: { contents_of now ≡ parts_after (steps_of log.bytes.items log.entries.items) (contents_of first) },
+    ghost now_room: { HasRoom left.bytes now },
+    ghost log_room: { length log.bytes.items + left.bytes ≤ vec_capacity log.bytes },
+    ghost call_room: { length log.entries.items + left.calls ≤ vec_capacity log.entries },
+}
+
+impl MemDisk {
+    /// A disk that holds these contents, with that room, which it takes at once. Reads come by the cuts, and the calls of those numbers fail.
+    pub fn new(
+        alloc: Global,
+        contents: &Contents,
+        cuts: Vec<usize>,
+        fails: Vec<u64>,
+        room: Room,
+    ) -> Result<MemDisk, AllocError>
+        ensures first { IfOk result (λ d. contents_of d.first ≡ contents_of contents.now) }
+        ensures now { IfOk result (λ d. contents_of d.now ≡ contents_of contents.now) }
+        ensures steps { IfOk result (λ d. steps_of d.log.bytes.items d.log.entries.items ≡ []) }
+        ensures room { IfOk result (λ d. (d.room ≡ room) × (d.left ≡ room)) }
+        ensures cuts { IfOk result (λ d. d.calls.cuts.items ≡ cuts.items) }
+        ensures fails { IfOk result (λ d. d.calls.fails.items ≡ fails.items) }
+        ensures made { IfOk result (λ d. d.calls.made ≡ 0) }
+        ensures faults { IfOk result (λ d. d.calls.faults ≡ 0) }
+    {
+        Ok(MemDisk {
+            alloc,
+            first: roomy(alloc, contents, 0)?,
+            now: roomy(alloc, contents, room.bytes)?,
+            log: Log::new(alloc, room.calls, room.bytes)?,
+            room,
+            left: room,
+            calls: Calls::new(cuts, fails),
+        })
+    }
+}
+
+// Keeps a call that failed, and that may be on the disk in part, where its bytes have room.
+fn keep_torn(log: &mut Log, left: &mut usize, part: Part, change: Change, bytes: &[u8])
+    requires size { size_of change ≡ length bytes.now }
+    requires room { length log.old.entries.items < vec_capacity log.old.entries }
+    requires bytes_room { length log.old.bytes.items + left.old ≤ vec_capacity log.old.bytes }
+    ensures steps { IsOneMore (steps_of log.old.bytes.items log.old.entries.items) (part, move_of change bytes.now) (steps_of log.new.bytes.items log.new.entries.items) }
+    ensures entries { length log.new.entries.items ≤ length log.old.entries.items + 1 }
+    ensures capacity { vec_capacity log.old.entries ≤ vec_capacity log.new.entries }
+    ensures bytes_room { length log.new.bytes.items + left.new ≤ vec_capacity log.new.bytes }
+    ensures left { left.new ≤ left.old }
+{
+    if bytes.len() <= *left {
+        *left -= bytes.len();
+        log.push(part, change, bytes);
+    }
+}
+
+impl Disk for MemDisk {
+    ghost tells_reads = { true };
+
+    ghost tells_images = { true };
+
+    ghost reads = { λ d. contents_of d.now };
+
+    ghost moment = { λ d. length (steps_of d.log.bytes.items d.log.entries.items) };
+
+    ghost left = { λ d. left_at (contents_of d.first) (steps_of d.log.bytes.items d.log.entries.items) };
+
+    ghost faults = { λ d. d.calls.faults };
+
+    ghost reach = { λ _. 18446744073709551615 };
+
+    ghost reach_fits = { λ _. largest_fits };
+
+    ghost reads_an_image = { λ d _. reads_left_at (contents_of d.first) (steps_of d.log.bytes.items d.log.entries.items) (contents_of d.now) d.reads_are };
+
+    fn length(&mut self, part: Part) -> Result<u64, Failed> {
+        match begin(&mut self.left.calls, &mut self.calls) {
+            Begun::Goes(_) => Ok(part_of(&self.now, part).len() as u64),
+            _ => Err(Failed),
+        }
+    }
+
+    fn read_at(&mut self, part: Part, at: u64, buf: &mut [u8]) -> Result<usize, Failed> {
+        match begin(&mut self.left.calls, &mut self.calls) {
+            Begun::Goes(limit) => Ok(read_in(part_of(&self.now, part), at, limit, buf)),
+            _ => Err(Failed),
+        }
+    }
+
+    fn write_at(&mut self, part: Part, at: u64, bytes: &[u8]) -> Result<(), Failed> {
+        let change = Change::Wrote {
+            at,
+            count: bytes.len(),
+        };
+        match begin(&mut self.left.calls, &mut self.calls) {
+            Begun::Refused => Err(Failed),
+            Begun::Fails => {
+                let torn = Change::Tore {
+                    at,
+                    count: bytes.len(),
+                };
+                keep_torn(&mut self.log, &mut self.left.bytes, part, torn, bytes);
+                Err(Failed)
+            }
+            Begun::Goes(_) => {
+                let gap = (at as usize).saturating_sub(part_of(&self.now, part).len());
+                if bytes.len() > self.left.bytes || gap > self.left.bytes - bytes.len() {
+                    return Err(self.calls.fault());
+                }
+                self.log.push(part, change, bytes);
+                write_part(&mut self.now, self.left.bytes, part, at as usize, bytes);
+                self.left.bytes -= bytes.len() + gap;
+                Ok(())
+            }
+        }
+    }
+
+    fn cut(&mut self, part: Part, length: u64) -> Result<(), Failed> {
+        match begin(&mut self.left.calls, &mut self.calls) {
+            Begun::Refused => Err(Failed),
+            Begun::Fails => {
+                let torn = Change::ToreOff { length };
+                keep_torn(&mut self.log, &mut self.left.bytes, part, torn, &[]);
+                Err(Failed)
+            }
+            Begun::Goes(_) => {
+                let gap = (length as usize).saturating_sub(part_of(&self.now, part).len());
+                if gap > self.left.bytes {
+                    return Err(self.calls.fault());
+                }
+                self.log.push(part, Change::Resized { length }, &[]);
+                cut_part(&mut self.now, self.left.bytes, part, length as usize);
+                self.left.bytes -= gap;
+                Ok(())
+            }
+        }
+    }
+
+    fn sync(&mut self, part: Part) -> Result<(), Failed> {
+        match begin(&mut self.left.calls, &mut self.calls) {
+            Begun::Goes(_) => {
+                self.log.push(part, Change::Synced, &[]);
+                Ok(())
+            }
+            _ => Err(Failed),
+        }
+    }
+}

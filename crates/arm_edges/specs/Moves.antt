@@ -52,6 +52,13 @@ Leaves (shortened n) now before after = Cut n before after
 Leaves (tore_off n) now before after = Cut n before after
 Leaves synced now before after = after ≡ now
 
+-- a part of the disk at a move of some part: where it is the move's part, what a read gives takes the move and what a crash leaves may take it, else both stay
+abbrev pub Walks : Part → Part → Move → List ℕ → List ℕ → List ℕ → List ℕ → Type 0
+Walks A A move now new_now left new_left = (new_now ≡ read_after move now) × Leaves move now left new_left
+Walks A B move now new_now left new_left = (new_now ≡ now) × (new_left ≡ left)
+Walks B A move now new_now left new_left = (new_now ≡ now) × (new_left ≡ left)
+Walks B B move now new_now left new_left = (new_now ≡ read_after move now) × Leaves move now left new_left
+
 -- what a crash may leave after a move: now is what a read gives then, and set is what a crash might have left before
 abbrev pub image_after : Move → List ℕ → (List ℕ → Type 0) → List ℕ → Type 0
 image_after (wrote at bytes) now set image = (before : List ℕ) × set before × Torn at (length bytes) before image

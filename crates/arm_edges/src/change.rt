@@ -1,3 +1,5 @@
+ghost use Rattle.std.specs.Prelude.{◌≡◌};
+
 use crate::Part;
 
 /// What a call did that may change what a crash leaves. Of a write the number of its bytes is kept here, and the bytes apart.
@@ -13,6 +15,20 @@ pub enum Change {
     ToreOff { length: u64 },
     /// A sync.
     Synced,
+}
+
+impl Change {
+    ghost use Rattle.arm_edges.specs.Log.{size_of};
+
+    /// How many bytes it writes.
+    pub fn size(self) -> usize
+        ensures { result ≡ size_of self }
+    {
+        match self {
+            Change::Wrote { at: _, count } | Change::Tore { at: _, count } => count,
+            _ => 0,
+        }
+    }
 }
 
 /// A change of a part.

@@ -1,11 +1,13 @@
 // What a crash leaves of a file, by a choice.
 ghost use Rattle.std.specs.Prelude.{◌≡◌, ◌≢◌, ◌≤◌, length, IfOk, OnOk};
 ghost use Rattle.arm_edges.specs.Disk.{Torn, Cut};
-ghost use Rattle.arm_edges.specs.Moves.{read_after, Leaves};
-ghost use Rattle.arm_edges.specs.Log.{move_of, size_of};
+ghost use Rattle.arm_edges.specs.Moves.{read_after, Leaves, Walks, moves_on, left_after};
+ghost use Rattle.arm_edges.specs.Log.{move_of, steps_of};
 
-use crate::change::Change;
+use crate::Part;
+use crate::change::{Change, Entry};
 use crate::edit::overwrite;
+use crate::log::Log;
 use std::alloc::{AllocError, Global};
 
 // How much of a change that no sync followed is there after a crash.
@@ -47,6 +49,42 @@ fn by_bit(bits: u64, index: usize, unset: Tear) -> Tear {
         Tear::Whole
     } else {
         unset
+    }
+}
+
+// A file that a crash may leave of that part, which began so.
+pub(crate) fn image(alloc: Global, log: &Log, part: Part, first: &[u8], choice: u64) -> Result<Vec<u8>, AllocError>
+    ensures { IfOk result (λ file. left_after first.now (moves_on part (steps_of log.now.bytes.items log.now.entries.items)) file.items) }
+{
+    let mut now = first.to_vec(alloc)?;
+    let mut left = first.to_vec(alloc)?;
+    let mut from = 0;
+    for i in 0..log.entries.len() {
+        let entry = log.entry(i);
+        let size = entry.change.size();
+        let bytes = &log.bytes[from..from + size];
+        let tear = tear_of(choice, log.entries.len() - 1 - i);
+        walk(alloc, &mut now, &mut left, part, entry, bytes, tear)?;
+        from += size;
+    }
+    Ok(left)
+}
+
+// Takes a change of that part, and no other, into what a read gives and into what a crash leaves.
+fn walk(
+    alloc: Global,
+    now: &mut Vec<u8>,
+    left: &mut Vec<u8>,
+    part: Part,
+    entry: Entry,
+    bytes: &[u8],
+    tear: Tear,
+) -> Result<(), AllocError>
+    ensures { OnOk result (Walks part entry.part (move_of entry.change bytes.now) now.old.items now.new.items left.old.items left.new.items) }
+{
+    match (part, entry.part) {
+        (Part::A, Part::A) | (Part::B, Part::B) => leave(alloc, now, left, entry.change, bytes, tear),
+        (Part::A, Part::B) | (Part::B, Part::A) => Ok(()),
     }
 }
 

@@ -1,5 +1,5 @@
 // The calls of a disk in memory that may change what a crash leaves, in their order.
-ghost use Rattle.std.specs.Prelude.{◌≡◌, ◌<◌, ◌≤◌, ◌+◌, ◌++◌, [], ◌∷◌, length, IfOk};
+ghost use Rattle.std.specs.Prelude.{◌≡◌, ◌<◌, ◌≤◌, ◌+◌, ◌++◌, [], ◌∷◌, length, drop, IfOk};
 ghost use Rattle.std.specs.Vec.{vec_capacity};
 ghost use Rattle.arm_edges.specs.Log.{steps_of, move_of, size_of, total};
 
@@ -49,5 +49,13 @@ impl Log {
             Ok(()) => {}
             Err(_) => unreachable!(),
         }
+    }
+
+    // The change of that number.
+    pub(crate) fn entry(&self, i: usize) -> Entry
+        requires { i < length self.now.entries.items }
+        ensures { drop i self.now.entries.items ≡ result ∷ drop (i + 1) self.now.entries.items }
+    {
+        self.entries[i]
     }
 }

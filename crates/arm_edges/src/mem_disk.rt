@@ -9,6 +9,7 @@ ghost use Rattle.arm_edges.specs.ReadImages.{reads_left_at};
 use crate::begun::{Begun, begin};
 use crate::change::Change;
 use crate::contents::{Contents, Room, cut_part, part_of, roomy, write_part};
+use crate::crash::image;
 use crate::edit::read_in;
 use crate::log::Log;
 use crate::{Calls, Disk, Failed, Part};
@@ -19,13 +20,13 @@ use std::alloc::{AllocError, Global};
 pub struct MemDisk {
     alloc: Global,
     first: Contents,
-    now: Contents,
+    held: Contents,
     log: Log,
     room: Room,
     left: Room,
     calls: Calls,
-    ghost reads_are: { contents_of now ≡ parts_after (steps_of log.bytes.items log.entries.items) (contents_of first) },
-    ghost now_room: { HasRoom left.bytes now },
+    ghost reads_are: { contents_of held ≡ parts_after (steps_of log.bytes.items log.entries.items) (contents_of first) },
+    ghost held_room: { HasRoom left.bytes held },
     ghost log_room: { length log.bytes.items + left.bytes ≤ vec_capacity log.bytes },
     ghost call_room: { length log.entries.items + left.calls ≤ vec_capacity log.entries },
 }
@@ -40,7 +41,7 @@ impl MemDisk {
         room: Room,
     ) -> Result<MemDisk, AllocError>
         ensures first { IfOk result (λ d. contents_of d.first ≡ contents_of contents.now) }
-        ensures now { IfOk result (λ d. contents_of d.now ≡ contents_of contents.now) }
+        ensures now { IfOk result (λ d. contents_of d.held ≡ contents_of contents.now) }
         ensures steps { IfOk result (λ d. steps_of d.log.bytes.items d.log.entries.items ≡ []) }
         ensures room { IfOk result (λ d. (d.room ≡ room) × (d.left ≡ room)) }
         ensures cuts { IfOk result (λ d. d.calls.cuts.items ≡ cuts.items) }
@@ -51,12 +52,39 @@ impl MemDisk {
         Ok(MemDisk {
             alloc,
             first: roomy(alloc, contents, 0)?,
-            now: roomy(alloc, contents, room.bytes)?,
+            held: roomy(alloc, contents, room.bytes)?,
             log: Log::new(alloc, room.calls, room.bytes)?,
             room,
             left: room,
             calls: Calls::new(cuts, fails),
         })
+    }
+}
+
+impl MemDisk {
+    /// A disk that a crash now may leave. It has the same room and cuts, and no call of it fails.
+    ///
+    /// The choice says what is there of the changes behind the last sync of their part, which are numbered from the last call back.
+    /// Of a choice `c` of 4 times `r` and 0, the bits of `r` say which of them are there and which are not.
+    /// Of 4 times `r` and 1, they say which are there and which have left other bytes in their range.
+    /// Of 4 times `r` and 2 or 3, the changes before one are there, of that one so many bytes, and of those behind it nothing; with 3 other bytes stand in the rest of its range.
+    /// That one's number is in the bits 0 to 2 and 6 to 8 of `r`, the number of bytes in the bits 3 to 5 and from 9 on.
+    pub fn crash(&self, choice: u64) -> Result<MemDisk, AllocError>
+        ensures image { IfOk result (λ d. left_at (contents_of self.now.first) (steps_of self.now.log.bytes.items self.now.log.entries.items) (length (steps_of self.now.log.bytes.items self.now.log.entries.items)) (contents_of d.held)) }
+        ensures first { IfOk result (λ d. contents_of d.first ≡ contents_of d.held) }
+        ensures steps { IfOk result (λ d. steps_of d.log.bytes.items d.log.entries.items ≡ []) }
+        ensures room { IfOk result (λ d. (d.room ≡ self.now.room) × (d.left ≡ self.now.room)) }
+        ensures cuts { IfOk result (λ d. d.calls.cuts.items ≡ self.now.calls.cuts.items) }
+        ensures fails { IfOk result (λ d. d.calls.fails.items ≡ []) }
+        ensures made { IfOk result (λ d. d.calls.made ≡ 0) }
+        ensures faults { IfOk result (λ d. d.calls.faults ≡ 0) }
+    {
+        let left = Contents {
+            a: image(self.alloc, &self.log, Part::A, self.first.a.as_slice(), choice)?,
+            b: image(self.alloc, &self.log, Part::B, self.first.b.as_slice(), choice)?,
+        };
+        let cuts = self.calls.cuts.as_slice().to_vec(self.alloc)?;
+        MemDisk::new(self.alloc, &left, cuts, Vec::new(self.alloc), self.room)
     }
 }
 
@@ -82,7 +110,7 @@ impl Disk for MemDisk {
 
     ghost tells_images = { true };
 
-    ghost reads = { λ d. contents_of d.now };
+    ghost reads = { λ d. contents_of d.held };
 
     ghost moment = { λ d. length (steps_of d.log.bytes.items d.log.entries.items) };
 
@@ -94,18 +122,18 @@ impl Disk for MemDisk {
 
     ghost reach_fits = { λ _. largest_fits };
 
-    ghost reads_an_image = { λ d _. reads_left_at (contents_of d.first) (steps_of d.log.bytes.items d.log.entries.items) (contents_of d.now) d.reads_are };
+    ghost reads_an_image = { λ d _. reads_left_at (contents_of d.first) (steps_of d.log.bytes.items d.log.entries.items) (contents_of d.held) d.reads_are };
 
     fn length(&mut self, part: Part) -> Result<u64, Failed> {
         match begin(&mut self.left.calls, &mut self.calls) {
-            Begun::Goes(_) => Ok(part_of(&self.now, part).len() as u64),
+            Begun::Goes(_) => Ok(part_of(&self.held, part).len() as u64),
             _ => Err(Failed),
         }
     }
 
     fn read_at(&mut self, part: Part, at: u64, buf: &mut [u8]) -> Result<usize, Failed> {
         match begin(&mut self.left.calls, &mut self.calls) {
-            Begun::Goes(limit) => Ok(read_in(part_of(&self.now, part), at, limit, buf)),
+            Begun::Goes(limit) => Ok(read_in(part_of(&self.held, part), at, limit, buf)),
             _ => Err(Failed),
         }
     }
@@ -126,12 +154,12 @@ impl Disk for MemDisk {
                 Err(Failed)
             }
             Begun::Goes(_) => {
-                let gap = (at as usize).saturating_sub(part_of(&self.now, part).len());
+                let gap = (at as usize).saturating_sub(part_of(&self.held, part).len());
                 if bytes.len() > self.left.bytes || gap > self.left.bytes - bytes.len() {
                     return Err(self.calls.fault());
                 }
                 self.log.push(part, change, bytes);
-                write_part(&mut self.now, self.left.bytes, part, at as usize, bytes);
+                write_part(&mut self.held, self.left.bytes, part, at as usize, bytes);
                 self.left.bytes -= bytes.len() + gap;
                 Ok(())
             }
@@ -147,12 +175,12 @@ impl Disk for MemDisk {
                 Err(Failed)
             }
             Begun::Goes(_) => {
-                let gap = (length as usize).saturating_sub(part_of(&self.now, part).len());
+                let gap = (length as usize).saturating_sub(part_of(&self.held, part).len());
                 if gap > self.left.bytes {
                     return Err(self.calls.fault());
                 }
                 self.log.push(part, Change::Resized { length }, &[]);
-                cut_part(&mut self.now, self.left.bytes, part, length as usize);
+                cut_part(&mut self.held, self.left.bytes, part, length as usize);
                 self.left.bytes -= gap;
                 Ok(())
             }

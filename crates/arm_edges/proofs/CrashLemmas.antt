@@ -86,11 +86,11 @@ pub walked_next : (part : Part) (first bytes piece : List ℕ) (entries : List E
     → WalkedTo part first bytes entries (from + n) (i + 1) new_now new_left
 walked_next part first bytes piece entries from i n entry now new_now left new_left next size is w walks =
     subst (λ (k : ℕ). WalkedTo part first bytes entries (from + k) (i + 1) new_now new_left) (sym size)
-        (walked_more part first bytes entries from i entry now new_now left new_left next w
-            (subst (λ (l : List ℕ). Walks part entry.part (move_of entry.change l) now new_now left new_left) (is ∙ ap (λ (k : ℕ). take k (drop from bytes)) size) walks))
+    (walked_more part first bytes entries from i entry now new_now left new_left next w
+    (subst (λ (l : List ℕ). Walks part entry.part (move_of entry.change l) now new_now left new_left) (is ∙ ap (λ (k : ℕ). take k (drop from bytes)) size) walks))
 
 pub walked_all : (part : Part) (first bytes : List ℕ) (entries : List Entry) (from i : ℕ) (now left : List ℕ) → length entries ≤ i → WalkedTo part first bytes entries from i now left
     → left_after first (moves_on part (steps_of bytes entries)) left
 walked_all part first bytes entries from i now left over w =
     subst (λ (l : List Step). left_after first (moves_on part l) left)
-        (sym (w.split ∙ ap (λ (l : List Entry). w.done ++ steps_of (drop from bytes) l) (drop_all i entries over) ∙ append-nil w.done)) w.walked.image
+    (sym (w.split ∙ ap (λ (l : List Entry). w.done ++ steps_of (drop from bytes) l) (drop_all i entries over) ∙ append-nil w.done)) w.walked.image

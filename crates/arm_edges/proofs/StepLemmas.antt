@@ -27,7 +27,7 @@ left_of disk = left_at disk.0 disk.1
 -- one step more, that takes each image that there was to one after it
 pub goes_push : (first : Parts) (steps more : List Step) (step : Step) (change : Parts → Parts → Type 0) → more ≡ steps ++ step ∷ []
     → ((image : Parts) → left_after first.a (moves_on A (steps ++ step ∷ [])) image.a → left_after first.b (moves_on B (steps ++ step ∷ [])) image.b
-        → (before : Parts) × (left_after first.a (moves_on A steps) before.a × left_after first.b (moves_on B steps) before.b) × change before image)
+    → (before : Parts) × (left_after first.a (moves_on A steps) before.a × left_after first.b (moves_on B steps) before.b) × change before image)
     → ((parts : Parts) → change parts parts)
     → GoesOn moment_of left_of change (first, steps) (first, more)
 goes_push first steps more step change is back same = subst (λ (l : List Step). GoesOn moment_of left_of change (first, steps) (first, l)) (sym is) (record {
@@ -36,16 +36,17 @@ goes_push first steps more step change is back same = subst (λ (l : List Step).
   keeps = λ t image le l. subst (λ (k : List Step). at_steps k image) (sym (take-append-le t steps (step ∷ []) le)) l;
   during = λ t image from to l. ⊎_elim
       (λ (early : t ≤ length steps). let here : t ≡ length steps = omega arith in
-        (image, subst (λ (k : List Step). at_steps k image) (take-append-le t steps (step ∷ []) early ∙ ap (λ (n : ℕ). take n steps) here) l, same image))
+      (image, subst (λ (k : List Step). at_steps k image) (take-append-le t steps (step ∷ []) early ∙ ap (λ (n : ℕ). take n steps) here) l, same image))
       (λ (late : length (steps ++ step ∷ []) ≤ t).
-        let whole = subst (λ (k : List Step). at_steps k image) (take_all t (steps ++ step ∷ []) late) l in
-        let h = back image whole.0 whole.1 in
-        (h.0, subst (λ (k : List Step). at_steps k h.0) (sym (take_all (length steps) steps (omega arith))) h.1, h.2))
+      let whole = subst (λ (k : List Step). at_steps k image) (take_all t (steps ++ step ∷ []) late) l in
+      let h = back image whole.0 whole.1 in
+      (h.0, subst (λ (k : List Step). at_steps k h.0) (sym (take_all (length steps) steps (omega arith))) h.1, h.2))
       (which t);
 })
   where
     at_steps : List Step → Parts → Type 0
     at_steps l image = left_after first.a (moves_on A l) image.a × left_after first.b (moves_on B l) image.b
+
     which : (t : ℕ) → (t ≤ length steps) ⊎ (length (steps ++ step ∷ []) ≤ t)
     which t = ⊎_elim (λ (above : length steps < t). inr (omega (arith, length-append steps (step ∷ [])))) (λ (below : t ≤ length steps). inl below) (cases_lt (length steps) t)
 
@@ -76,15 +77,15 @@ pub goes_move : (first : Parts) (steps more : List Step) (part : Part) (move : M
     → GoesOn moment_of left_of (At part change) (first, steps) (first, more)
 goes_move first steps more A move change is back same = goes_push first steps more (A, move) (At A change) is
     (λ image in_a in_b.
-      let last = images-push (moves_on A steps) move first.a (λ (file : List ℕ). file ≡ first.a) image.a (subst (λ (l : List Move). left_after first.a l image.a) (moves_on-push A steps (A, move)) in_a) in
-      let h = back (read_after move (reads_after (moves_on A steps) first.a)) (left_after first.a (moves_on A steps)) image.a last in
-      (record { a = h.0; b = image.b }, (h.1, subst (λ (l : List Move). left_after first.b l image.b) (moves_on-push B steps (A, move) ∙ append-nil (moves_on B steps)) in_b), record { here = h.2; there = refl }))
+    let last = images-push (moves_on A steps) move first.a (λ (file : List ℕ). file ≡ first.a) image.a (subst (λ (l : List Move). left_after first.a l image.a) (moves_on-push A steps (A, move)) in_a) in
+    let h = back (read_after move (reads_after (moves_on A steps) first.a)) (left_after first.a (moves_on A steps)) image.a last in
+    (record { a = h.0; b = image.b }, (h.1, subst (λ (l : List Move). left_after first.b l image.b) (moves_on-push B steps (A, move) ∙ append-nil (moves_on B steps)) in_b), record { here = h.2; there = refl }))
     (λ parts. record { here = same parts.a; there = refl })
 goes_move first steps more B move change is back same = goes_push first steps more (B, move) (At B change) is
     (λ image in_a in_b.
-      let last = images-push (moves_on B steps) move first.b (λ (file : List ℕ). file ≡ first.b) image.b (subst (λ (l : List Move). left_after first.b l image.b) (moves_on-push B steps (B, move)) in_b) in
-      let h = back (read_after move (reads_after (moves_on B steps) first.b)) (left_after first.b (moves_on B steps)) image.b last in
-      (record { a = image.a; b = h.0 }, (subst (λ (l : List Move). left_after first.a l image.a) (moves_on-push A steps (B, move) ∙ append-nil (moves_on A steps)) in_a, h.1), record { here = h.2; there = refl }))
+    let last = images-push (moves_on B steps) move first.b (λ (file : List ℕ). file ≡ first.b) image.b (subst (λ (l : List Move). left_after first.b l image.b) (moves_on-push B steps (B, move)) in_b) in
+    let h = back (read_after move (reads_after (moves_on B steps) first.b)) (left_after first.b (moves_on B steps)) image.b last in
+    (record { a = image.a; b = h.0 }, (subst (λ (l : List Move). left_after first.a l image.a) (moves_on-push A steps (B, move) ∙ append-nil (moves_on A steps)) in_a, h.1), record { here = h.2; there = refl }))
     (λ parts. record { here = same parts.b; there = refl })
 
 pub goes_wrote : (first : Parts) (steps more : List Step) (part : Part) (at : ℕ) (bytes : List ℕ) → more ≡ steps ++ (part, wrote at bytes) ∷ [] → GoesOn moment_of left_of (At part (Torn at (length bytes))) (first, steps) (first, more)
@@ -116,11 +117,11 @@ pub kept_synced : (first now : Parts) (steps more : List Step) (part : Part) →
 kept_synced first now steps more A is reads image l =
     let here = subst (λ (k : List Step). left_after first.a (moves_on A k) image.a × left_after first.b (moves_on B k) image.b) (take_all (length more) more (omega arith) ∙ is) l in
     (images-push (moves_on A steps) synced first.a (λ (file : List ℕ). file ≡ first.a) image.a (subst (λ (k : List Move). left_after first.a k image.a) (moves_on-push A steps (A, synced)) here.0)).1
-        ∙ ap (λ (p : Parts). p.a) (sym reads)
+    ∙ ap (λ (p : Parts). p.a) (sym reads)
 kept_synced first now steps more B is reads image l =
     let here = subst (λ (k : List Step). left_after first.a (moves_on A k) image.a × left_after first.b (moves_on B k) image.b) (take_all (length more) more (omega arith) ∙ is) l in
     (images-push (moves_on B steps) synced first.b (λ (file : List ℕ). file ≡ first.b) image.b (subst (λ (k : List Move). left_after first.b k image.b) (moves_on-push B steps (B, synced)) here.1)).1
-        ∙ ap (λ (p : Parts). p.b) (sym reads)
+    ∙ ap (λ (p : Parts). p.b) (sym reads)
 
 -- what a read gives after one step more
 pub parts-push : (first now : Parts) (steps more : List Step) (part : Part) (move : Move) → more ≡ steps ++ (part, move) ∷ [] → now ≡ parts_after steps first

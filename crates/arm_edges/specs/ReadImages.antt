@@ -77,4 +77,4 @@ reads_left first moves now is = subst (λ (file : List ℕ). left_after first mo
 pub reads_left_at : (first : Parts) (steps : List Step) (now : Parts) → now ≡ parts_after steps first → left_at first steps (length steps) now
 reads_left_at first steps now reads =
     subst (λ (l : List Step). left_after first.a (moves_on A l) now.a × left_after first.b (moves_on B l) now.b) (sym (take_all (length steps) steps (omega arith)))
-        (reads_left first.a (moves_on A steps) now.a (ap (λ (p : Parts). p.a) reads), reads_left first.b (moves_on B steps) now.b (ap (λ (p : Parts). p.b) reads))
+    (reads_left first.a (moves_on A steps) now.a (ap (λ (p : Parts). p.a) reads), reads_left first.b (moves_on B steps) now.b (ap (λ (p : Parts). p.b) reads))

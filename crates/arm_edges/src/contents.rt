@@ -37,7 +37,11 @@ impl Contents {
 }
 
 // A copy that has room for so many bytes more in each part.
-pub(crate) fn roomy(alloc: Global, contents: &Contents, bytes: usize) -> Result<Contents, AllocError>
+pub(crate) fn roomy(
+    alloc: Global,
+    contents: &Contents,
+    bytes: usize,
+) -> Result<Contents, AllocError>
     ensures same { IfOk result (λ copy. contents_of copy ≡ contents_of contents.now) }
     ensures room { IfOk result (λ copy. HasRoom bytes copy) }
 {

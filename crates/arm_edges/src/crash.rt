@@ -53,7 +53,13 @@ fn by_bit(bits: u64, index: usize, unset: Tear) -> Tear {
 }
 
 // A file that a crash may leave of that part, which began so.
-pub(crate) fn image(alloc: Global, log: &Log, part: Part, first: &[u8], choice: u64) -> Result<Vec<u8>, AllocError>
+pub(crate) fn image(
+    alloc: Global,
+    log: &Log,
+    part: Part,
+    first: &[u8],
+    choice: u64,
+) -> Result<Vec<u8>, AllocError>
     ensures { IfOk result (λ file. left_after first.now (moves_on part (steps_of log.now.bytes.items log.now.entries.items)) file.items) }
 {
     let mut now = first.to_vec(alloc)?;
@@ -83,7 +89,14 @@ fn walk(
     ensures { OnOk result (Walks part entry.part (move_of entry.change bytes.now) now.old.items now.new.items left.old.items left.new.items) }
 {
     match (part, entry.part) {
-        (Part::A, Part::A) | (Part::B, Part::B) => leave(alloc, now, left, entry.change, bytes, tear),
+        (Part::A, Part::A) | (Part::B, Part::B) => leave(
+            alloc,
+            now,
+            left,
+            entry.change,
+            bytes,
+            tear,
+        ),
         (Part::A, Part::B) | (Part::B, Part::A) => Ok(()),
     }
 }
@@ -156,13 +169,26 @@ fn leave_cut(file: &mut Vec<u8>, length: usize, tear: Tear) -> Result<(), AllocE
 }
 
 // As many bytes as these: so many of them, and behind them other ones than they and the file have at that place.
-fn foreign(alloc: Global, file: &[u8], at: usize, bytes: &[u8], front: usize) -> Result<Vec<u8>, AllocError>
+fn foreign(
+    alloc: Global,
+    file: &[u8],
+    at: usize,
+    bytes: &[u8],
+    front: usize,
+) -> Result<Vec<u8>, AllocError>
     ensures { IfOk result (λ other. length other.items ≡ length bytes.now) }
 {
     let mut other = Vec::new(alloc);
     for (i, byte) in bytes.iter().enumerate() {
-        let old = at.checked_add(i).and_then(|place| file.get(place).copied()).unwrap_or(0);
-        other.push(if i < front { *byte } else { neither(*byte, old) })?;
+        let old = at
+            .checked_add(i)
+            .and_then(|place| file.get(place).copied())
+            .unwrap_or(0);
+        other.push(if i < front {
+            *byte
+        } else {
+            neither(*byte, old)
+        })?;
     }
     Ok(other)
 }

@@ -48,3 +48,6 @@ pub use real_tree::RealTree;
 pub use sink::Sink;
 pub use source::Source;
 pub use tree::Tree;
+
+#[cfg(test)]
+mod tests;

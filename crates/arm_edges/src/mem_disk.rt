@@ -62,6 +62,13 @@ impl MemDisk {
 }
 
 impl MemDisk {
+    /// How its calls went, and which of them fail.
+    pub fn calls(&self) -> &Calls
+        ensures { result.now ≡ self.now.calls }
+    {
+        &self.calls
+    }
+
     /// A disk that a crash now may leave. It has the same room and cuts, and no call of it fails.
     ///
     /// The choice says what is there of the changes behind the last sync of their part, which are numbered from the last call back.
@@ -80,8 +87,20 @@ impl MemDisk {
         ensures faults { IfOk result (λ d. d.calls.faults ≡ 0) }
     {
         let left = Contents {
-            a: image(self.alloc, &self.log, Part::A, self.first.a.as_slice(), choice)?,
-            b: image(self.alloc, &self.log, Part::B, self.first.b.as_slice(), choice)?,
+            a: image(
+                self.alloc,
+                &self.log,
+                Part::A,
+                self.first.a.as_slice(),
+                choice,
+            )?,
+            b: image(
+                self.alloc,
+                &self.log,
+                Part::B,
+                self.first.b.as_slice(),
+                choice,
+            )?,
         };
         let cuts = self.calls.cuts.as_slice().to_vec(self.alloc)?;
         MemDisk::new(self.alloc, &left, cuts, Vec::new(self.alloc), self.room)

@@ -21,7 +21,12 @@ pub struct MemSink {
 
 impl MemSink {
     /// A sink with room for so many bytes, which takes them by those cuts. The calls of those numbers fail.
-    pub fn new(alloc: Global, cuts: Vec<usize>, fails: Vec<u64>, room: usize) -> Result<MemSink, AllocError>
+    pub fn new(
+        alloc: Global,
+        cuts: Vec<usize>,
+        fails: Vec<u64>,
+        room: usize,
+    ) -> Result<MemSink, AllocError>
         ensures bytes { IfOk result (λ s. s.bytes.items ≡ []) }
         ensures room { IfOk result (λ s. s.room ≡ room) }
         ensures cuts { IfOk result (λ s. s.calls.cuts.items ≡ cuts.items) }

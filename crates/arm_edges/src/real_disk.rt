@@ -80,6 +80,13 @@ pub struct RealDisk<R: Files<File = File> + Send + Drop> {
 }
 
 impl<R: Files<File = File> + Send + Drop> RealDisk<R> {
+    /// How often a call has failed, up to 2^64 - 1.
+    pub fn faults(&self) -> u64
+        ensures { result ≡ self.now.faults }
+    {
+        self.faults
+    }
+
     /// The files at these paths, in part A and part B.
     pub fn new(rt: R, path_a: String, path_b: String) -> RealDisk<R>
         ensures { result.faults ≡ 0 }

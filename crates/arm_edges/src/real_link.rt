@@ -10,6 +10,13 @@ pub struct RealLink<R: Drop> {
 }
 
 impl<R: Drop> RealLink<R> {
+    /// How often a call has failed, up to 2^64 - 1.
+    pub fn faults(&self) -> u64
+        ensures { result ≡ self.now.faults }
+    {
+        self.faults
+    }
+
     /// A link over that runtime.
     pub fn new(rt: R) -> RealLink<R>
         ensures { result.faults ≡ 0 }

@@ -12,6 +12,13 @@ pub struct RealOut<R: Print + Drop> {
 }
 
 impl<R: Print + Drop> RealOut<R> {
+    /// How often a call has failed, up to 2^64 - 1.
+    pub fn faults(&self) -> u64
+        ensures { result ≡ self.now.faults }
+    {
+        self.faults
+    }
+
     /// The standard output of that runtime.
     pub fn new(rt: R) -> RealOut<R>
         ensures { result.faults ≡ 0 }

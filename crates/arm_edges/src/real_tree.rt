@@ -22,6 +22,13 @@ pub struct RealTree<R: Files<File = File> + Drop> {
 }
 
 impl<R: Files<File = File> + Drop> RealTree<R> {
+    /// How often a call has failed, up to 2^64 - 1.
+    pub fn faults(&self) -> u64
+        ensures { result ≡ self.now.faults }
+    {
+        self.faults
+    }
+
     /// The tree of that folder.
     pub fn new(rt: R, folder: String) -> RealTree<R>
         ensures { result.faults ≡ 0 }

@@ -1,10 +1,10 @@
 -- What a crash leaves of a part, call by call.
-use Rattle.std.proofs.Common.{◌≡◌, ◌<◌, ℕ, ◌+◌, ◌-◌, ◌≤◌, List, [], ◌∷◌, ◌++◌, length, get_or, take, drop, refl, sym, ◌∙◌, ap, subst, arith, append_assoc, length-drop}
-use Rattle.std.proofs.lemmas.List.{drop_more, drop_all, drop-drop, append-nil}
+use Rattle.std.proofs.Common.{◌≡◌, ℕ, ◌+◌, ◌≤◌, List, [], ◌∷◌, ◌++◌, length, take, drop, refl, sym, ◌∙◌, ap, subst, arith, append_assoc}
+use Rattle.std.proofs.lemmas.List.{drop_all, drop-drop, append-nil}
 use Rattle.arm_edges.specs.declared.disk.Part.{Part}
 use Rattle.arm_edges.specs.declared.disk.Part.TheVariants.{A, B}
 use Rattle.arm_edges.specs.declared.change.Entry.{Entry}
-use Rattle.arm_edges.specs.Moves.{Move, Step, wrote, tore, shortened, tore_off, synced, if_same, moves_on, read_after, reads_after, image_after, images_after, left_after, Leaves, Walks}
+use Rattle.arm_edges.specs.Moves.{Move, Step, wrote, tore, shortened, tore_off, synced, moves_on, read_after, reads_after, image_after, left_after, Leaves, Walks}
 use Rattle.arm_edges.specs.Log.{size_of, move_of, steps_of, total}
 use Rattle.arm_edges.specs.ReadImages.{reads_left}
 use Rattle.arm_edges.proofs.MoveLemmas.{reads-push, push-images}

@@ -1,6 +1,6 @@
 -- Reads piece by piece.
-use Rattle.std.proofs.Common.{◌≡◌, ℕ, ◌+◌, ◌-◌, ◌≤◌, ◌<◌, List, [], ◌∷◌, ◌++◌, length, take, drop, sym, ◌∙◌, ap, arith, take-append-drop, length-drop}
-use Rattle.std.proofs.lemmas.List.{take-append-le, take_at, drop-drop, drop_all, length-take-le}
+use Rattle.std.proofs.Common.{◌≡◌, ℕ, ◌+◌, ◌≤◌, ◌<◌, List, [], ◌++◌, length, take, drop, sym, ◌∙◌, ap, arith, take-append-drop}
+use Rattle.std.proofs.lemmas.List.{take_at, drop-drop, length-take-le}
 use Rattle.arm_edges.specs.Flow.{Moved}
 
 -- a copy of the next n bytes at the front of the buffer

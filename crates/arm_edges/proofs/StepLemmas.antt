@@ -1,11 +1,11 @@
 -- What a crash may leave of both parts, step by step.
-use Rattle.std.proofs.Common.{◌≡◌, ◌⊎◌, ◌<◌, ℕ, ◌+◌, ◌≤◌, List, [], ◌∷◌, ◌++◌, length, take, refl, sym, ◌∙◌, ap, subst, arith, inl, inr, ⊎_elim, length-append}
+use Rattle.std.proofs.Common.{◌≡◌, ◌⊎◌, ◌<◌, ℕ, ◌≤◌, List, [], ◌∷◌, ◌++◌, length, take, refl, sym, ◌∙◌, ap, subst, arith, inl, inr, ⊎_elim, length-append}
 use Rattle.std.proofs.lemmas.List.{take_all, take-append-le, append-nil}
 use Rattle.std.proofs.lemmas.Bool.{cases_lt}
 use Rattle.arm_edges.specs.declared.disk.Part.{Part}
 use Rattle.arm_edges.specs.declared.disk.Part.TheVariants.{A, B}
-use Rattle.arm_edges.specs.Disk.{Parts, on, other, At, Torn, Cut, GoesOn, Unchanged, IsKept}
-use Rattle.arm_edges.specs.Moves.{Move, Step, wrote, tore, shortened, tore_off, synced, if_same, moves_on, read_after, reads_after, parts_after, IsOneMore, image_after, images_after, left_after, left_at}
+use Rattle.arm_edges.specs.Disk.{Parts, on, At, Torn, Cut, GoesOn, Unchanged, IsKept}
+use Rattle.arm_edges.specs.Moves.{Move, Step, wrote, tore, shortened, tore_off, synced, if_same, moves_on, read_after, reads_after, parts_after, IsOneMore, image_after, left_after, left_at}
 use Rattle.arm_edges.specs.Contents.{with_part}
 use Rattle.arm_edges.specs.ReadImages.{torn_same, cut_same}
 use Rattle.arm_edges.proofs.MoveLemmas.{reads-push, images-push}

@@ -1,7 +1,7 @@
 -- Writes and cuts that are there in part.
-use Rattle.std.proofs.Common.{◌≡◌, ℕ, ◌≤◌, List, length, ap, arith}
+use Rattle.std.proofs.Common.{◌≡◌, ℕ, ◌≤◌, List, length}
 use Rattle.arm_edges.specs.Disk.{overwritten, resized, Torn, Cut}
-use Rattle.arm_edges.specs.ReadImages.{torn_same, torn_overwritten, torn_wider, cut_same, cut_resized}
+use Rattle.arm_edges.specs.ReadImages.{torn_overwritten, torn_wider, cut_resized}
 
 -- a write of no more bytes than n
 pub torn_by : (at n : ℕ) (bytes old new : List ℕ) → new ≡ overwritten at bytes old → length bytes ≤ n → Torn at n old new

@@ -1,5 +1,5 @@
 -- The log of a disk in memory: its changes, and the bytes of its writes one after the other.
-use Rattle.std.specs.Prelude.{◌≡◌, ℕ, ◌+◌, List, [], ◌∷◌, take, drop}
+use Rattle.std.specs.Prelude.{ℕ, ◌+◌, List, [], ◌∷◌, take, drop}
 use Rattle.arm_edges.specs.declared.change.Change.{Change}
 use Rattle.arm_edges.specs.declared.change.Change.TheVariants.{Wrote, Tore, Resized, ToreOff, Synced}
 use Rattle.arm_edges.specs.declared.change.Entry.{Entry}

@@ -1,10 +1,10 @@
 -- Why what a read gives is one of the images: the proof that each disk in memory owes.
-use Rattle.std.proofs.Common.{◌≡◌, ◌<◌, ℕ, ◌+◌, ◌-◌, ◌≤◌, min, max, List, [], ◌∷◌, ◌++◌, length, take, drop, replicate, refl, sym, ◌∙◌, ap, subst, arith, ⊎_elim, length-append, length-drop, append_assoc}
+use Rattle.std.proofs.Common.{◌≡◌, ◌<◌, ℕ, ◌+◌, ◌-◌, ◌≤◌, min, List, [], ◌∷◌, ◌++◌, length, take, drop, replicate, refl, sym, ◌∙◌, ap, subst, arith, ⊎_elim, length-append, length-drop, append_assoc}
 use Rattle.std.proofs.lemmas.List.{take_all, take_at, drop_at, drop-drop, length-take, length-replicate}
 use Rattle.std.proofs.lemmas.Bool.{cases_lt}
 use Rattle.arm_edges.specs.Disk.{Parts, overwritten, resized, Torn, Cut}
 use Rattle.arm_edges.specs.declared.disk.Part.TheVariants.{A, B}
-use Rattle.arm_edges.specs.Moves.{Move, Step, wrote, tore, shortened, tore_off, synced, moves_on, read_after, reads_after, parts_after, image_after, images_after, left_after, left_at}
+use Rattle.arm_edges.specs.Moves.{Move, Step, wrote, tore, shortened, tore_off, synced, moves_on, reads_after, parts_after, image_after, images_after, left_after, left_at}
 
 front_of : (n : ℕ) (old : List ℕ) → take (min n (length old)) old ≡ take n old
 front_of n old = ⊎_elim

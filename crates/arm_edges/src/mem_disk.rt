@@ -13,7 +13,8 @@ use crate::crash::image;
 use crate::edit::read_in;
 use crate::log::Log;
 use crate::{Calls, Disk, Failed, Part};
-use std::alloc::{AllocError, Global};
+use arm_value::OutOfMemory;
+use std::alloc::Global;
 
 /// A disk in memory. It keeps each call that changes it, so that what a crash leaves is known.
 #[derive(Debug, Drop)]
@@ -39,7 +40,7 @@ impl MemDisk {
         cuts: Vec<usize>,
         fails: Vec<u64>,
         room: Room,
-    ) -> Result<MemDisk, AllocError>
+    ) -> Result<MemDisk, OutOfMemory>
         ensures first { IfOk result (λ d. contents_of d.first ≡ contents_of contents.now) }
         ensures now { IfOk result (λ d. contents_of d.held ≡ contents_of contents.now) }
         ensures steps { IfOk result (λ d. steps_of d.log.bytes.items d.log.entries.items ≡ []) }
@@ -76,7 +77,7 @@ impl MemDisk {
     /// Of 4 times `r` and 1, they say which are there and which have left other bytes in their range.
     /// Of 4 times `r` and 2 or 3, the changes before one are there, of that one so many bytes, and of those behind it nothing; with 3 other bytes stand in the rest of its range.
     /// That one's number is in the bits 0 to 2 and 6 to 8 of `r`, the number of bytes in the bits 3 to 5 and from 9 on.
-    pub fn crash(&self, choice: u64) -> Result<MemDisk, AllocError>
+    pub fn crash(&self, choice: u64) -> Result<MemDisk, OutOfMemory>
         ensures image { IfOk result (λ d. left_at (contents_of self.now.first) (steps_of self.now.log.bytes.items self.now.log.entries.items) (length (steps_of self.now.log.bytes.items self.now.log.entries.items)) (contents_of d.held)) }
         ensures first { IfOk result (λ d. contents_of d.first ≡ contents_of d.held) }
         ensures steps { IfOk result (λ d. steps_of d.log.bytes.items d.log.entries.items ≡ []) }

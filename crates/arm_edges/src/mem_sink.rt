@@ -4,7 +4,8 @@ ghost use Rattle.arm_edges.specs.Faults.{HasCause};
 ghost use Rattle.arm_edges.specs.Calls.{is_listed, limit_at, one_more};
 
 use crate::{Calls, Failed, Sink};
-use std::alloc::{AllocError, Global};
+use arm_value::OutOfMemory;
+use std::alloc::Global;
 
 /// A sink in memory.
 #[derive(Debug, Drop)]
@@ -26,7 +27,7 @@ impl MemSink {
         cuts: Vec<usize>,
         fails: Vec<u64>,
         room: usize,
-    ) -> Result<MemSink, AllocError>
+    ) -> Result<MemSink, OutOfMemory>
         ensures bytes { IfOk result (λ s. s.bytes.items ≡ []) }
         ensures room { IfOk result (λ s. s.room ≡ room) }
         ensures cuts { IfOk result (λ s. s.calls.cuts.items ≡ cuts.items) }

@@ -4,7 +4,8 @@ ghost use Rattle.arm_edges.specs.Disk.{no_parts};
 
 use crate::edit::{cut_within, read_in, write_within};
 use crate::{Disk, Failed, Part};
-use std::alloc::{AllocError, Global};
+use arm_value::OutOfMemory;
+use std::alloc::Global;
 
 /// A disk in memory whose calls never fail. What a read gives is told, what a crash leaves is not.
 #[derive(Debug, Drop)]
@@ -21,7 +22,7 @@ pub struct RamDisk {
 
 impl RamDisk {
     /// An empty disk that has taken room for so many bytes in each part.
-    pub fn new(alloc: Global, reach: u64) -> Result<RamDisk, AllocError>
+    pub fn new(alloc: Global, reach: u64) -> Result<RamDisk, OutOfMemory>
         ensures empty { IfOk result (λ d. (d.a.items ≡ []) × (d.b.items ≡ [])) }
         ensures reach { IfOk result (λ d. d.reach ≡ reach) }
     {

@@ -1,3 +1,5 @@
+ghost use Rattle.std.specs.Prelude.{◌≤◌};
+
 use crate::{
     Contents, Disk, Failed, MemDisk, MemFile, MemSink, MemSource, MemTree, Part, RamDisk, RealDisk,
     RealOut, RealTree, Room, Sink, Source, Tree, TreeFault,
@@ -147,34 +149,27 @@ fn half_written(alloc: Global) -> Result<MemDisk, Fail> {
 fn crashes_leave_each_mixture(rt: HostRuntime) -> Result<(), Fail> {
     let alloc = rt.alloc();
     let disk = half_written(alloc)?;
-    let whole_and_none = [
-        (0, b"old".as_slice()),
-        (8, b"NEd"),
-        (4, b"olWER"),
-        (12, b"NEWER"),
+    // The choice, and what it leaves: a row of five bytes, of which the first so many.
+    let cases = [
+        (0, 3, *b"old--"),
+        (8, 3, *b"NEd--"),
+        (4, 5, *b"olWER"),
+        (12, 5, *b"NEWER"),
+        (2, 3, *b"NEd--"),
+        (34, 3, *b"NEW--"),
+        (66, 4, *b"NEWE-"),
+        (38, 3, *b"Nld--"),
+        (1, 5, [170; 5]),
+        (5, 5, *b"\xaa\xaaWER"),
+        (35, 5, *b"NEW\xaa\xaa"),
     ];
-    let fronts = [
-        (2, b"NEd".as_slice()),
-        (34, b"NEW"),
-        (66, b"NEWE"),
-        (38, b"Nld"),
-    ];
-    let foreign = [
-        (1, [170; 5].as_slice()),
-        (5, b"\xaa\xaaWER"),
-        (35, b"NEW\xaa\xaa"),
-    ];
-    for (choice, want) in whole_and_none
-        .iter()
-        .chain(fronts.iter())
-        .chain(foreign.iter())
-    {
-        let mut left = disk.crash(*choice)?;
-        let mut buf = [0u8; 8];
+    for (choice, size, want) in cases {
+        let mut left = disk.crash(choice)?;
+        let mut buf = *b"-----";
         let count = left
             .read_at(Part::A, 0, &mut buf)
             .map_err(|_| Fail::from("read"))?;
-        assert_eq!(rt; &buf[..count], *want, "{choice}");
+        assert_eq!(rt; (count, buf), (size, want), "{choice}");
     }
     Ok(())
 }

@@ -1,4 +1,4 @@
-use Rattle.std.proofs.Common.{◌≡◌, ◌≤◌, length, take, arith}
+use Rattle.std.proofs.Common.{length, take, arith}
 use Rattle.std.proofs.lemmas.List.{length-take}
 use Rattle.arm_edges.proofs.Tears.{torn_by}
 use Rattle.arm_edges.proofs.crash.leave_write.Goals as goal

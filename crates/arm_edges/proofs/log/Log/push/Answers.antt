@@ -1,6 +1,6 @@
-use Rattle.std.proofs.Common.{◌≡◌, ◌<◌, ◌≤◌, ◌+◌, ◌++◌, [], ◌∷◌, length, List, ℕ, arith, length-append, ap, ◌∙◌, cond}
+use Rattle.std.proofs.Common.{◌≡◌, ◌++◌, [], ◌∷◌, length, arith, length-append, ap, ◌∙◌}
 use Rattle.std.proofs.lemmas.Grind.{common_steps}
-use Rattle.arm_edges.specs.Log.{steps_of, move_of, size_of, total}
+use Rattle.arm_edges.specs.Log.{steps_of, total}
 use Rattle.arm_edges.specs.declared.change.Entry.{Entry}
 use Rattle.arm_edges.proofs.LogLemmas.{total-push, steps-push}
 use Rattle.arm_edges.proofs.log.Log.push.Goals as goal

@@ -1,4 +1,4 @@
-use Rattle.std.proofs.Common.{◌≡◌, ◌∙◌, refl, inl}
+use Rattle.std.proofs.Common.{refl, inl}
 use Rattle.arm_edges.specs.Contents.{contents_of}
 use Rattle.arm_edges.specs.Log.{steps_of}
 use Rattle.arm_edges.specs.Moves.{synced}

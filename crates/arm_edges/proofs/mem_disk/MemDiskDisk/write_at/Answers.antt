@@ -1,4 +1,4 @@
-use Rattle.std.proofs.Common.{◌≡◌, ◌∙◌, refl, length}
+use Rattle.std.proofs.Common.{◌∙◌, refl}
 use Rattle.arm_edges.specs.Contents.{contents_of}
 use Rattle.arm_edges.specs.Log.{steps_of}
 use Rattle.arm_edges.specs.Moves.{wrote, tore}

@@ -1,0 +1,30 @@
+-- What calls that only read leave as it was.
+use Rattle.std.specs.Prelude.{◌≡◌, ℕ, ◌≤◌, Bool, true, Result, OnOk, IsErrOf, IfErr}
+use Rattle.arm_edges.specs.Disk.{Parts, GoesOn, Unchanged}
+use Rattle.arm_edges.specs.Faults.{Rose}
+use Rattle.deploy_journal.specs.declared.read.OpenFault.{OpenFault}
+use Rattle.deploy_journal.specs.declared.read.OpenFault.TheVariants.{OutOfMemory, Damaged, DiskFault}
+
+-- the disk reads as before, and a crash leaves nothing new
+pub record Still {D : Type 0} (tells : Bool) (reads : D → Parts) (moment : D → ℕ) (left : D → ℕ → Parts → Type 0) (reach : D → ℕ) (old new : D) : Type 0 where
+  pub reads_same : reads new ≡ reads old
+  pub reach_same : reach new ≡ reach old
+  pub images : tells ≡ true → GoesOn moment left Unchanged old new
+
+-- a fault of the disk only where its count rose
+pub record OpenCause {T : Type 0} (before now : ℕ) (result : Result T OpenFault) : Type 0 where
+  pub later : before ≤ now
+  pub failed : IsErrOf result DiskFault → Rose before now
+  pub stays : OnOk result (now ≡ before)
+
+abbrev pub IsNoDamage : OpenFault → Type 0
+IsNoDamage OutOfMemory = Unit {0}
+IsNoDamage (Damaged at) = ⊥
+IsNoDamage DiskFault = Unit {0}
+
+-- the same of a call that finds no damage
+pub record ReadCause {T : Type 0} (before now : ℕ) (result : Result T OpenFault) : Type 0 where
+  pub later : before ≤ now
+  pub failed : IsErrOf result DiskFault → Rose before now
+  pub stays : OnOk result (now ≡ before)
+  pub undamaged : IfErr result IsNoDamage

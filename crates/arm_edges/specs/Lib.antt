@@ -9,3 +9,4 @@ pub mod ReadImages
 pub mod Log
 pub mod Contents
 pub mod Begun
+pub mod MemDisks

@@ -15,7 +15,7 @@ pub(crate) enum Begun {
 
 // Takes one of the calls that are left, and counts the call where it fails.
 pub(crate) fn begin(left: &mut usize, calls: &mut Calls) -> Begun
-    ensures { Begins result left.old left.new calls.old.faults calls.new.faults }
+    ensures { Begins result left.old left.new calls.old calls.new }
 {
     if *left == 0 {
         calls.fault();

@@ -1,5 +1,5 @@
 // Edits of a file that is held in memory.
-ghost use Rattle.std.specs.Prelude.{◌≡◌, ◌<◌, ◌≤◌, ◌+◌, ◌^◌, max, length, OnOk, OnErr};
+ghost use Rattle.std.specs.Prelude.{◌≡◌, ◌<◌, ◌≤◌, ◌+◌, ◌-◌, ◌^◌, min, max, length, OnOk, OnErr};
 ghost use Rattle.std.specs.Vec.{vec_capacity};
 ghost use Rattle.arm_edges.specs.Disk.{ReadsAt, overwritten, resized};
 
@@ -29,6 +29,7 @@ pub(crate) fn overwrite(file: &mut Vec<u8>, at: usize, bytes: &[u8]) -> Result<(
 pub(crate) fn read_in(file: &[u8], at: u64, limit: usize, buf: &mut [u8]) -> usize
     requires { 0 < limit }
     ensures bound { result ≤ length buf.old }
+    ensures count { result ≡ min limit (min (length buf.old) (length file.now - at)) }
     ensures told { ReadsAt at result file.now buf.new }
 {
     if at >= file.len() as u64 {

@@ -1,7 +1,9 @@
-ghost use Rattle.std.specs.Prelude.{◌≡◌, ◌<◌, ◌≤◌, ◌+◌, ◌-◌, ◌^◌, ◌++◌, ◌⊎◌, [], ◌∷◌, true, length, IfOk, OnOk, OnErr};
+ghost use Rattle.std.specs.Prelude.{◌≡◌, ◌<◌, ◌≤◌, ◌+◌, ◌-◌, ◌^◌, ◌++◌, ◌⊎◌, [], ◌∷◌, true, length, min, IsOk, IfOk, OnOk};
 ghost use Rattle.std.specs.Vec.{vec_capacity};
-ghost use Rattle.arm_edges.specs.Disk.{largest_fits};
-ghost use Rattle.arm_edges.specs.Moves.{parts_after, left_at, IsOneMore};
+ghost use Rattle.arm_edges.specs.Calls.{limit_at};
+ghost use Rattle.arm_edges.specs.Disk.{on, overwritten, resized, At, Torn, Cut, Unchanged, GoesOn, ReadsAt, IsKept, largest_fits};
+ghost use Rattle.arm_edges.specs.Faults.{HasCause};
+ghost use Rattle.arm_edges.specs.Moves.{parts_after, IsOneMore};
 ghost use Rattle.arm_edges.specs.Log.{steps_of, move_of, size_of};
 ghost use Rattle.arm_edges.specs.Contents.{contents_of, HasRoom};
 ghost use Rattle.arm_edges.specs.ReadImages.{reads_left_at};
@@ -63,6 +65,8 @@ impl MemDisk {
 }
 
 impl MemDisk {
+    ghost use Rattle.arm_edges.specs.MemDisks.{reads_in, moment_in, left_in};
+
     /// How its calls went, and which of them fail.
     pub fn calls(&self) -> &Calls
         ensures { result.now ≡ self.now.calls }
@@ -78,7 +82,7 @@ impl MemDisk {
     /// Of 4 times `r` and 2 or 3, the changes before one are there, of that one so many bytes, and of those behind it nothing; with 3 other bytes stand in the rest of its range.
     /// That one's number is in the bits 0 to 2 and 6 to 8 of `r`, the number of bytes in the bits 3 to 5 and from 9 on.
     pub fn crash(&self, choice: u64) -> Result<MemDisk, OutOfMemory>
-        ensures image { IfOk result (λ d. left_at (contents_of self.now.first) (steps_of self.now.log.bytes.items self.now.log.entries.items) (length (steps_of self.now.log.bytes.items self.now.log.entries.items)) (contents_of d.held)) }
+        ensures image { IfOk result (λ d. left_in self.now (moment_in self.now) (reads_in d)) }
         ensures first { IfOk result (λ d. contents_of d.first ≡ contents_of d.held) }
         ensures steps { IfOk result (λ d. steps_of d.log.bytes.items d.log.entries.items ≡ []) }
         ensures room { IfOk result (λ d. (d.room ≡ self.now.room) × (d.left ≡ self.now.room)) }
@@ -126,39 +130,70 @@ fn keep_torn(log: &mut Log, left: &mut usize, part: Part, change: Change, bytes:
 }
 
 impl Disk for MemDisk {
+    ghost use Rattle.arm_edges.specs.MemDisks.{reads_in, moment_in, left_in, reach_in, NextGoes, room_for, Spends};
+
     ghost tells_reads = { true };
 
     ghost tells_images = { true };
 
-    ghost reads = { λ d. contents_of d.held };
+    ghost reads = { reads_in };
 
-    ghost moment = { λ d. length (steps_of d.log.bytes.items d.log.entries.items) };
+    ghost moment = { moment_in };
 
-    ghost left = { λ d. left_at (contents_of d.first) (steps_of d.log.bytes.items d.log.entries.items) };
+    ghost left = { left_in };
 
     ghost faults = { λ d. d.calls.faults };
 
-    ghost reach = { λ _. 18446744073709551615 };
+    ghost reach = { reach_in };
 
     ghost reach_fits = { λ _. largest_fits };
 
     ghost reads_an_image = { λ d _. reads_left_at (contents_of d.first) (steps_of d.log.bytes.items d.log.entries.items) (contents_of d.held) d.reads_are };
 
-    fn length(&mut self, part: Part) -> Result<u64, Failed> {
+    fn length(&mut self, part: Part) -> Result<u64, Failed>
+        ensures told { IfOk result (λ n. true ≡ true → n ≡ length (on part (reads_in self.old))) }
+        ensures reads { reads_in self.new ≡ reads_in self.old }
+        ensures images { true ≡ true → GoesOn moment_in left_in (Unchanged) self.old self.new }
+        ensures cause { HasCause self.old.calls.faults self.new.calls.faults result }
+        ensures reach { reach_in self.new ≡ reach_in self.old }
+        ensures goes { NextGoes self.old → IsOk result }
+        ensures only { OnOk result (NextGoes self.old) }
+        ensures spends { OnOk result (Spends 0 self.old self.new) }
+    {
         match begin(&mut self.left.calls, &mut self.calls) {
             Begun::Goes(_) => Ok(part_of(&self.held, part).len() as u64),
             _ => Err(Failed),
         }
     }
 
-    fn read_at(&mut self, part: Part, at: u64, buf: &mut [u8]) -> Result<usize, Failed> {
+    fn read_at(&mut self, part: Part, at: u64, buf: &mut [u8]) -> Result<usize, Failed>
+        ensures bound { IfOk result (λ n. n ≤ length buf.old) }
+        ensures told { IfOk result (λ n. true ≡ true → ReadsAt at n (on part (reads_in self.old)) buf.new) }
+        ensures piece { IfOk result (λ n. n ≡ min (limit_at self.old.calls.cuts.items self.old.calls.made) (min (length buf.old) (length (on part (reads_in self.old)) - at))) }
+        ensures reads { reads_in self.new ≡ reads_in self.old }
+        ensures images { true ≡ true → GoesOn moment_in left_in (Unchanged) self.old self.new }
+        ensures cause { HasCause self.old.calls.faults self.new.calls.faults result }
+        ensures reach { reach_in self.new ≡ reach_in self.old }
+        ensures goes { NextGoes self.old → IsOk result }
+        ensures only { OnOk result (NextGoes self.old) }
+        ensures spends { OnOk result (Spends 0 self.old self.new) }
+    {
         match begin(&mut self.left.calls, &mut self.calls) {
             Begun::Goes(limit) => Ok(read_in(part_of(&self.held, part), at, limit, buf)),
             _ => Err(Failed),
         }
     }
 
-    fn write_at(&mut self, part: Part, at: u64, bytes: &[u8]) -> Result<(), Failed> {
+    fn write_at(&mut self, part: Part, at: u64, bytes: &[u8]) -> Result<(), Failed>
+        requires { at + length bytes.now ≤ reach_in self.old }
+        ensures told { OnOk result (true ≡ true → At part (λ old new. new ≡ overwritten at bytes.now old) (reads_in self.old) (reads_in self.new)) }
+        ensures images { true ≡ true → GoesOn moment_in left_in (At part (Torn at (length bytes.now))) self.old self.new }
+        ensures cause { HasCause self.old.calls.faults self.new.calls.faults result }
+        ensures reach { reach_in self.new ≡ reach_in self.old }
+        ensures goes { NextGoes self.old → room_for part at (length bytes.now) self.old ≤ self.old.left.bytes → IsOk result }
+        ensures only { OnOk result (NextGoes self.old × (room_for part at (length bytes.now) self.old ≤ self.old.left.bytes)) }
+        ensures spends { OnOk result (Spends (room_for part at (length bytes.now) self.old) self.old self.new) }
+    {
         let change = Change::Wrote {
             at,
             count: bytes.len(),
@@ -186,7 +221,16 @@ impl Disk for MemDisk {
         }
     }
 
-    fn cut(&mut self, part: Part, length: u64) -> Result<(), Failed> {
+    fn cut(&mut self, part: Part, length: u64) -> Result<(), Failed>
+        requires { length ≤ reach_in self.old }
+        ensures told { OnOk result (true ≡ true → At part (λ old new. new ≡ resized length old) (reads_in self.old) (reads_in self.new)) }
+        ensures images { true ≡ true → GoesOn moment_in left_in (At part (Cut length)) self.old self.new }
+        ensures cause { HasCause self.old.calls.faults self.new.calls.faults result }
+        ensures reach { reach_in self.new ≡ reach_in self.old }
+        ensures goes { NextGoes self.old → room_for part length 0 self.old ≤ self.old.left.bytes → IsOk result }
+        ensures only { OnOk result (NextGoes self.old × (room_for part length 0 self.old ≤ self.old.left.bytes)) }
+        ensures spends { OnOk result (Spends (room_for part length 0 self.old) self.old self.new) }
+    {
         match begin(&mut self.left.calls, &mut self.calls) {
             Begun::Refused => Err(Failed),
             Begun::Fails => {
@@ -207,7 +251,16 @@ impl Disk for MemDisk {
         }
     }
 
-    fn sync(&mut self, part: Part) -> Result<(), Failed> {
+    fn sync(&mut self, part: Part) -> Result<(), Failed>
+        ensures kept { OnOk result (true ≡ true → IsKept part (reads_in self.new) (left_in self.new (moment_in self.new))) }
+        ensures reads { reads_in self.new ≡ reads_in self.old }
+        ensures images { true ≡ true → GoesOn moment_in left_in (Unchanged) self.old self.new }
+        ensures cause { HasCause self.old.calls.faults self.new.calls.faults result }
+        ensures reach { reach_in self.new ≡ reach_in self.old }
+        ensures goes { NextGoes self.old → IsOk result }
+        ensures only { OnOk result (NextGoes self.old) }
+        ensures spends { OnOk result (Spends 0 self.old self.new) }
+    {
         match begin(&mut self.left.calls, &mut self.calls) {
             Begun::Goes(_) => {
                 self.log.push(part, Change::Synced, &[]);

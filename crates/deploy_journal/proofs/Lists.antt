@@ -147,7 +147,7 @@ torn_gate records at gate r rest old new place is torn =
     let long : at + 1 ≤ length old = omega (arith, ap length is, size, length-append (front_of records) (gate ∷ body r (0 ∷ rest))) in
     let front : take at new ≡ front_of records = ap (λ (n : ℕ). take n new) (omega (arith, long)) ∙ torn.before ∙ ap (λ (l : List ℕ). take at l) is ∙ take_at (front_of records) (gate ∷ body r (0 ∷ rest)) at size in
     let back : drop (at + 1) new ≡ body r (0 ∷ rest) = torn.after ∙ ap (λ (l : List ℕ). drop (at + 1) l) (is ∙ sym (append_assoc (front_of records) (gate ∷ []) (body r (0 ∷ rest))))
-        ∙ drop_at (front_of records ++ (gate ∷ [])) (body r (0 ∷ rest)) (at + 1) (omega (arith, size, length-append (front_of records) (gate ∷ []))) in
+    ∙ drop_at (front_of records ++ (gate ∷ [])) (body r (0 ∷ rest)) (at + 1) (omega (arith, size, length-append (front_of records) (gate ∷ []))) in
     let byte = get_or new at 0 in
     let whole : new ≡ front_of records ++ (byte ∷ body r (0 ∷ rest)) =
     sym (take-append-drop at new) ∙ ap (λ (l : List ℕ). l ++ drop at new) front ∙ ap (λ (l : List ℕ). front_of records ++ l) (drop_more new at 0 (omega (arith, long, torn.no_shorter)) ∙ ap (λ (l : List ℕ). byte ∷ l) back) in
@@ -160,5 +160,5 @@ written_gate records at next gate r rest old place more is =
     let size = length-front records at place in
     let front : take at old ≡ front_of records = ap (λ (l : List ℕ). take at l) is ∙ take_at (front_of records) (gate ∷ body r (0 ∷ rest)) at size in
     let back : drop (at + 1) old ≡ body r (0 ∷ rest) = ap (λ (l : List ℕ). drop (at + 1) l) (is ∙ sym (append_assoc (front_of records) (gate ∷ []) (body r (0 ∷ rest))))
-        ∙ drop_at (front_of records ++ (gate ∷ [])) (body r (0 ∷ rest)) (at + 1) (omega (arith, size, length-append (front_of records) (gate ∷ []))) in
+    ∙ drop_at (front_of records ++ (gate ∷ [])) (body r (0 ∷ rest)) (at + 1) (omega (arith, size, length-append (front_of records) (gate ∷ []))) in
     opened records at next r rest (patched at (1 ∷ []) old) place more (λ i. front i ++ (1 ∷ back i))

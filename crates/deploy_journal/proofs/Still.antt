@@ -9,8 +9,13 @@ module _ {D : Type 0} (tells : Bool) (reads : D → Parts) (moment : D → ℕ) 
   still_refl disk = record {
     reads_same = refl;
     reach_same = refl;
-    images = λ t. record { later = omega arith; past = λ at c le l. l; keeps = λ at c le l. l; during = λ at c from to l.
-      let same : at ≡ moment disk = omega arith in (c, subst (λ (n : ℕ). left disk n c) same l, refl) };
+    images = λ t. record {
+      later = omega arith;
+      past = λ at c le l. l;
+      keeps = λ at c le l. l;
+      during = λ at c from to l.
+          let same : at ≡ moment disk = omega arith in (c, subst (λ (n : ℕ). left disk n c) same l, refl);
+    };
   }
 
   pub goes_then : (old mid new : D) → GoesOn moment left Unchanged old mid → GoesOn moment left Unchanged mid new → GoesOn moment left Unchanged old new

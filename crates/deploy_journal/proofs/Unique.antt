@@ -89,3 +89,28 @@ damaged_none file at n records small (inl (z, none)) h = none (spelled records (
 damaged_none file at n records small (inr (xs, rest, is, place, ends)) h =
     let both = parts_same 16 beginning beginning (spelled xs rest) (spelled records (h.gate ∷ h.rest)) refl refl (sym is ∙ h.is) in
     ends_none xs records rest h.gate h.rest ends h.closed (omega (arith, ap length is)) both.1
+
+-- the places of the closed gates
+pub place_one : (xs ys : List Record) (m n : ℕ) (file : List ℕ) → length file < 2 ^ 64 → Holds xs m file → Holds ys n file → m ≡ n
+place_one xs ys m n file small x y = x.place ∙ ap (λ (rs : List Record). 16 + length (spelled rs [])) (holds_one xs ys m n file small x y) ∙ sym y.place
+
+ends_one : (xs ys : List Record) (rest tail : List ℕ) → EndsBadly rest → EndsBadly tail → length (spelled xs rest) < 2 ^ 64 → spelled xs rest ≡ spelled ys tail → length rest ≡ length tail
+ends_one [] [] rest tail e f small same = ap length same
+ends_one [] (y ∷ ys) rest tail (inl none) f small same = absurd (let no : ⊥ = cc in no)
+ends_one [] (y ∷ ys) rest tail (inr (cut, is, short)) f small same = let here : cut ≡ body y (spelled ys tail) = cc in absurd (short y (spelled ys tail) here)
+ends_one (x ∷ xs) [] rest tail e (inl none) small same = absurd (let no : ⊥ = cc in no)
+ends_one (x ∷ xs) [] rest tail e (inr (cut, is, short)) small same = let here : cut ≡ body x (spelled xs rest) = cc in absurd (short x (spelled xs rest) here)
+ends_one (x ∷ xs) (y ∷ ys) rest tail e f small same =
+    let bodies : body x (spelled xs rest) ≡ body y (spelled ys tail) = cc in
+    let both = body_same x y (spelled xs rest) (spelled ys tail) (omega arith) bodies in
+    ends_one xs ys rest tail e f (omega (arith, size_body x (spelled xs rest))) both.1
+
+-- a file is damaged at one place at most
+pub damage_one : (file : List ℕ) (m n : ℕ) → length file < 2 ^ 64 → IsDamagedAt file m → IsDamagedAt file n → m ≡ n
+damage_one file m n small (inl (zm, none)) (inl (zn, none')) = zm ∙ sym zn
+damage_one file m n small (inl (zm, none)) (inr (ys, tail, is, place, ends)) = absurd (none (spelled ys tail) is)
+damage_one file m n small (inr (xs, rest, is, place, ends)) (inl (zn, none)) = absurd (none (spelled xs rest) is)
+damage_one file m n small (inr (xs, rest, is, place, ends)) (inr (ys, tail, is', place', ends')) =
+    let both = parts_same 16 beginning beginning (spelled xs rest) (spelled ys tail) refl refl (sym is ∙ is') in
+    let same = ends_one xs ys rest tail ends ends' (omega (arith, ap length is)) both.1 in
+    omega arith

@@ -1,5 +1,5 @@
 -- A file of records, and what it stands for.
-use Rattle.std.specs.Prelude.{◌≡◌, ◌≢◌, ◌⊎◌, ℕ, ◌+◌, ◌≤◌, ◌<◌, List, [], ◌∷◌, ◌++◌, length, take, drop}
+use Rattle.std.specs.Prelude.{◌≡◌, ◌≢◌, ◌⊎◌, ℕ, ◌+◌, ◌≤◌, ◌<◌, List, [], ◌∷◌, ◌++◌, length, take, drop, codes}
 use Rattle.std.specs.Int.{w64, to_be_bytes}
 use Rattle.arm_edges.specs.Disk.{Parts}
 use Rattle.deploy_journal.specs.declared.record.Record.{Record as Entry}
@@ -27,13 +27,9 @@ spelled (r ∷ records) rest = 1 ∷ body r (spelled records rest)
 abbrev pub patched : ℕ → List ℕ → List ℕ → List ℕ
 patched at bytes old = take at old ++ (bytes ++ drop (at + length bytes) old)
 
--- how many bytes a record takes, its gate among them
-abbrev pub size_of : ℕ → ℕ → ℕ
-size_of first second = 18 + first + second
-
 -- each file begins so
 abbrev pub beginning : List ℕ
-beginning = 97 ∷ 114 ∷ 109 ∷ 100 ∷ 101 ∷ 112 ∷ 108 ∷ 111 ∷ 121 ∷ 45 ∷ 106 ∷ 114 ∷ 110 ∷ 108 ∷ 45 ∷ 49 ∷ []
+beginning = codes "armdeploy-jrnl-1"
 
 -- the file holds these records: behind them stands a closed gate at this place, and then anything
 pub record Holds (records : List Record) (gate_at : ℕ) (file : List ℕ) : Type 0 where

@@ -26,6 +26,7 @@ impl<D: Disk> Journal<D> {
         ensures answers { FormatAnswers D.tells_reads (D.reads disk.old) (D.reads disk.new) (D.faults disk.old) (D.faults disk.new) result }
         ensures holds { OnOk result (D.tells_reads ≡ true → Holds [] 16 (D.reads disk.new).a) }
         ensures kept { OnOk result (D.tells_images ≡ true → IsKept A (D.reads disk.new) (D.left disk.new (D.moment disk.new))) }
+        ensures reach { D.reach disk.new ≡ D.reach disk.old }
     {
         let Ok(length) = disk.length(Part::A) else {
             return Err(FormatFault::DiskFault);

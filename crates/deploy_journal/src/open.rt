@@ -19,12 +19,7 @@ pub enum Next {
 }
 
 // What stands at a place that is within the file.
-fn read_next<D: Disk>(
-    alloc: Global,
-    disk: &mut D,
-    at: u64,
-    left: u64,
-) -> Result<Next, OpenFault>
+fn read_next<D: Disk>(alloc: Global, disk: &mut D, at: u64, left: u64) -> Result<Next, OpenFault>
     requires fits { at + left < 2 ^ 64 }
     requires within { 0 < left }
     ensures told { IfOk result (λ next. D.tells_reads ≡ true → at + left ≡ length (D.reads disk.old).a → NextMeans next (drop at (D.reads disk.old).a)) }
@@ -80,9 +75,7 @@ fn read_records<D: Disk>(
     Err(OpenFault::Damaged(at))
 }
 
-const BEGINNING: [u8; 16] = [
-    97, 114, 109, 100, 101, 112, 108, 111, 121, 45, 106, 114, 110, 108, 45, 49,
-];
+const BEGINNING: [u8; 16] = *b"armdeploy-jrnl-1";
 
 // Whether the file begins as a journal does.
 fn read_beginning<D: Disk>(disk: &mut D, size: u64) -> Result<bool, OpenFault>

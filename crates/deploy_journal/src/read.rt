@@ -5,8 +5,8 @@ ghost use Rattle.arm_edges.specs.Faults.{HasCause};
 ghost use Rattle.deploy_journal.specs.Reading.{Still, ReadCause};
 
 use crate::record::Record;
-use arm_value::Bytes;
 use arm_edges::{Disk, Failed, Part};
+use arm_value::Bytes;
 use std::alloc::Global;
 
 #[derive(Clone, Copy, Debug, PartialEq, Eq)]

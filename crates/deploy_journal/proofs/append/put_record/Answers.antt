@@ -31,14 +31,14 @@ returns-clause-crash g c = λ t i only records holds.
 pub returns-clause-holds : goal.returns-clause-holds
 returns-clause-holds g c = on_ok c.sync.result
     (λ _ t records holds.
-        let r = record_of c.args.kind c.args.first.now c.args.second.now in
-        let old = (g.D.Disk.reads c.args.disk.now).a in
-        let form = staged records c.args.gate r old holds in
-        let within = holds_within records c.args.gate old holds in
-        let body_is = c.in_ok-write_body.ensures.written t within in
-        let is = body_is ∙ form.1 in
-        let long : c.args.gate ≤ length (g.D.Disk.reads c.write_body.new.disk).a = omega (arith, ap length body_is, length_patched (c.args.gate + 1) (body r (0 ∷ [])) old within) in
-        let gate_is = (c.in_ok-write_at.ensures.told t).here ∙ overwritten_within c.args.gate (1 ∷ []) (g.D.Disk.reads c.write_body.new.disk).a long in
-        let done = written_gate records c.args.gate (c.args.gate + (18 + length c.args.first.now + length c.args.second.now)) holds.gate r form.0 (g.D.Disk.reads c.write_body.new.disk).a holds.place refl is in
-        subst (λ (l : List ℕ). Holds (records ++ r ∷ []) (c.args.gate + (18 + length c.args.first.now + length c.args.second.now)) l) (sym (ap (λ (f : Parts). f.a) c.sync.ensures.reads ∙ gate_is)) done)
+    let r = record_of c.args.kind c.args.first.now c.args.second.now in
+    let old = (g.D.Disk.reads c.args.disk.now).a in
+    let form = staged records c.args.gate r old holds in
+    let within = holds_within records c.args.gate old holds in
+    let body_is = c.in_ok-write_body.ensures.written t within in
+    let is = body_is ∙ form.1 in
+    let long : c.args.gate ≤ length (g.D.Disk.reads c.write_body.new.disk).a = omega (arith, ap length body_is, length_patched (c.args.gate + 1) (body r (0 ∷ [])) old within) in
+    let gate_is = (c.in_ok-write_at.ensures.told t).here ∙ overwritten_within c.args.gate (1 ∷ []) (g.D.Disk.reads c.write_body.new.disk).a long in
+    let done = written_gate records c.args.gate (c.args.gate + (18 + length c.args.first.now + length c.args.second.now)) holds.gate r form.0 (g.D.Disk.reads c.write_body.new.disk).a holds.place refl is in
+    subst (λ (l : List ℕ). Holds (records ++ r ∷ []) (c.args.gate + (18 + length c.args.first.now + length c.args.second.now)) l) (sym (ap (λ (f : Parts). f.a) c.sync.ensures.reads ∙ gate_is)) done)
     c.sync.ensures.kept

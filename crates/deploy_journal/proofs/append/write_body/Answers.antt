@@ -28,6 +28,6 @@ returns-clause-images g c = λ t.
 pub returns-clause-written : goal.returns-clause-written
 returns-clause-written g c = on_ok c.sync.result
     (λ _ t within. ap (λ (f : Parts). f.a) c.sync.ensures.reads ∙ written_body c.args.at c.args.kind c.args.first.now c.args.second.now (g.D.Disk.reads c.args.disk.now).a _ _ _ _ within
-        (λ h. c.in_ok-write_behind.ensures.written t h ∙ ap (λ (l : List ℕ). patched c.args.at l (g.D.Disk.reads c.args.disk.now).a) c.header_of-header.ensures)
-        (c.in_ok-write_behind-2.ensures.written t) (c.in_ok-write_behind-3.ensures.written t) (c.in_ok-write_behind-4.ensures.written t))
+    (λ h. c.in_ok-write_behind.ensures.written t h ∙ ap (λ (l : List ℕ). patched c.args.at l (g.D.Disk.reads c.args.disk.now).a) c.header_of-header.ensures)
+    (c.in_ok-write_behind-2.ensures.written t) (c.in_ok-write_behind-3.ensures.written t) (c.in_ok-write_behind-4.ensures.written t))
     c.sync.ensures.kept

@@ -23,7 +23,7 @@ returns-then-first_len-left-clause-told g c = λ t is r k same.
     let a = c.number_at-first_len.result in
     let b = c.number_at-second_len.result in
     let both = lengths_are r k (drop c.args.at file) header a b same size read.1 c.number_at-first_len.ensures c.number_at-second_len.ensures
-        (omega (arith, c.number_at-first_len.type_inv)) (omega (arith, c.number_at-second_len.type_inv)) (omega (arith, long)) in
+    (omega (arith, c.number_at-first_len.type_inv)) (omega (arith, c.number_at-second_len.type_inv)) (omega (arith, long)) in
     let whole : length (drop c.args.at file) ≡ length (body r k) = ap length same in
     elim c.then-first_len-left.branch [
       | then-first_len-left-via-then-first_len-left w ↦ omega (arith, both.0, both.1, whole, long, size_body r k)

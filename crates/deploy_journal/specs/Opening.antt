@@ -12,6 +12,7 @@ NextMeans (Entry r) rest = rest ≡ 1 ∷ body r (drop (18 + length r.first + le
 NextMeans End rest = (gate : ℕ) × (k : List ℕ) × (gate ≢ 1) × (rest ≡ gate ∷ k)
 NextMeans Cut rest = (cut : List ℕ) × (rest ≡ 1 ∷ cut) × IsCutShort cut
 
+-- a record that was found ends within so many bytes
 abbrev pub NextFits : ℕ → Next → Type 0
 NextFits left (Entry r) = 18 + length r.first + length r.second ≤ left
 NextFits left End = Unit {0}

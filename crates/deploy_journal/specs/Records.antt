@@ -4,6 +4,7 @@ use Rattle.std.specs.Int.{w64, to_be_bytes}
 use Rattle.arm_edges.specs.Disk.{Parts}
 use Rattle.deploy_journal.specs.declared.record.Record.{Record as Entry}
 
+-- a record, as the code has it
 abbrev pub Record : Type 0
 Record = Entry
 
@@ -15,6 +16,7 @@ eight n = to_be_bytes w64 n
 abbrev pub body_bytes : ℕ → List ℕ → List ℕ → List ℕ → List ℕ
 body_bytes kind first second rest = kind ∷ (eight (length first) ++ (eight (length second) ++ (first ++ (second ++ rest))))
 
+-- the same of a record
 abbrev pub body : Record → List ℕ → List ℕ
 body r rest = body_bytes r.kind r.first r.second rest
 
@@ -39,6 +41,7 @@ pub record Holds (records : List Record) (gate_at : ℕ) (file : List ℕ) : Typ
   pub is : file ≡ beginning ++ spelled records (gate ∷ rest)
   pub place : gate_at ≡ 16 + length (spelled records [])
 
+-- the file holds these records
 abbrev pub HoldsRecords : List Record → List ℕ → Type 0
 HoldsRecords records file = (gate_at : ℕ) × Holds records gate_at file
 
@@ -46,10 +49,11 @@ HoldsRecords records file = (gate_at : ℕ) × Holds records gate_at file
 abbrev pub IsCutShort : List ℕ → Type 0
 IsCutShort rest = (r : Record) (k : List ℕ) → rest ≡ body r k → ⊥
 
--- the bytes hold no journal, as this place shows: they begin otherwise, or end where a gate or the rest of a record is to stand
+-- the bytes end where a gate is to stand, or where the rest of a record is
 abbrev pub EndsBadly : List ℕ → Type 0
 EndsBadly rest = (rest ≡ []) ⊎ ((cut : List ℕ) × (rest ≡ 1 ∷ cut) × IsCutShort cut)
 
+-- the file holds no journal, as this place shows: it begins otherwise, or behind some records it ends badly
 abbrev pub IsDamagedAt : List ℕ → ℕ → Type 0
 IsDamagedAt file at =
     ((at ≡ 0) × ((rest : List ℕ) → file ≡ beginning ++ rest → ⊥))
@@ -66,6 +70,7 @@ pub record Since {D : Type 0} (moment : D → ℕ) (left : D → ℕ → Parts �
   pub keeps : (t : ℕ) (c : Parts) → t ≤ moment old → left old t c → left new t c
   pub during : (t : ℕ) (c : Parts) → moment old ≤ t → t ≤ moment new → left new t c → P c
 
+-- a record of this kind with these parts
 abbrev pub record_of : ℕ → List ℕ → List ℕ → Record
 record_of kind first second = record { kind = kind; first = first; second = second }
 

@@ -1,7 +1,7 @@
 // The records of a file, from its first byte to its first closed gate.
 ghost use Rattle.std.specs.Prelude.{◌≡◌, ◌≢◌, ◌<◌, ◌^◌, ◌+◌, ◌-◌, ◌≤◌, ◌++◌, [], ◌∷◌, ℕ, List, true, false, length, take, drop, IfOk, IfErr, OnOk};
 ghost use Rattle.deploy_journal.specs.Records.{Record, beginning, Holds};
-ghost use Rattle.arm_edges.specs.Disk.{IsKept, GoesOn, Unchanged};
+ghost use Rattle.arm_edges.specs.Disk.{IsKept};
 ghost use Rattle.arm_edges.specs.declared.disk.Part.TheVariants.{A};
 ghost use Rattle.deploy_journal.specs.Reading.{Still, OpenCause, ReadCause};
 ghost use Rattle.deploy_journal.specs.Opening.{NextMeans, NextFits, DamageMeans};
@@ -11,6 +11,7 @@ use crate::record::Record;
 use arm_edges::{Disk, Failed, Part};
 use std::alloc::Global;
 
+// What stands at a place: a record behind an open gate, a closed gate, or an open gate and less than a record.
 #[derive(Drop)]
 pub enum Next {
     Entry(Record),
@@ -18,7 +19,7 @@ pub enum Next {
     Cut,
 }
 
-// What stands at a place that is within the file.
+// Reads what stands at a place that is within the file.
 fn read_next<D: Disk>(alloc: Global, disk: &mut D, at: u64, left: u64) -> Result<Next, OpenFault>
     requires fits { at + left < 2 ^ 64 }
     requires within { 0 < left }

@@ -9,10 +9,14 @@ use arm_edges::{Disk, Failed, Part};
 use arm_value::Bytes;
 use std::alloc::Global;
 
+/// Why a journal was not opened.
 #[derive(Clone, Copy, Debug, PartialEq, Eq)]
 pub enum OpenFault {
+    /// There was not memory enough for its records.
     OutOfMemory,
+    /// Part A holds no journal, as the byte at this place shows: 0 where it begins otherwise, its length where a gate is missing, the place of an open gate whose record is cut short.
     Damaged(u64),
+    /// The disk failed, and its count of faults rose.
     DiskFault,
 }
 

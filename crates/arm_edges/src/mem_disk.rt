@@ -1,6 +1,6 @@
-ghost use Rattle.std.specs.Prelude.{◌≡◌, ◌<◌, ◌≤◌, ◌+◌, ◌-◌, ◌^◌, ◌++◌, ◌⊎◌, [], ◌∷◌, true, length, min, IsOk, IfOk, OnOk};
+ghost use Rattle.std.specs.Prelude.{◌≡◌, ◌<◌, ◌≤◌, ◌+◌, ◌-◌, ◌^◌, ◌++◌, ◌⊎◌, [], ◌∷◌, true, length, min, IsOk, IfOk, OnOk, OnErr};
 ghost use Rattle.std.specs.Vec.{vec_capacity};
-ghost use Rattle.arm_edges.specs.Calls.{limit_at};
+ghost use Rattle.arm_edges.specs.Calls.{limit_at, one_more};
 ghost use Rattle.arm_edges.specs.Disk.{on, overwritten, resized, At, Torn, Cut, Unchanged, GoesOn, ReadsAt, IsKept, largest_fits};
 ghost use Rattle.arm_edges.specs.Faults.{HasCause};
 ghost use Rattle.arm_edges.specs.Moves.{parts_after, IsOneMore};
@@ -155,6 +155,7 @@ impl Disk for MemDisk {
         ensures reads { reads_in self.new ≡ reads_in self.old }
         ensures images { true ≡ true → GoesOn moment_in left_in (Unchanged) self.old self.new }
         ensures cause { HasCause self.old.calls.faults self.new.calls.faults result }
+        ensures once { OnErr result (self.new.calls.faults ≡ one_more self.old.calls.faults) }
         ensures reach { reach_in self.new ≡ reach_in self.old }
         ensures goes { NextGoes self.old → IsOk result }
         ensures only { OnOk result (NextGoes self.old) }
@@ -173,6 +174,7 @@ impl Disk for MemDisk {
         ensures reads { reads_in self.new ≡ reads_in self.old }
         ensures images { true ≡ true → GoesOn moment_in left_in (Unchanged) self.old self.new }
         ensures cause { HasCause self.old.calls.faults self.new.calls.faults result }
+        ensures once { OnErr result (self.new.calls.faults ≡ one_more self.old.calls.faults) }
         ensures reach { reach_in self.new ≡ reach_in self.old }
         ensures goes { NextGoes self.old → IsOk result }
         ensures only { OnOk result (NextGoes self.old) }
@@ -189,6 +191,7 @@ impl Disk for MemDisk {
         ensures told { OnOk result (true ≡ true → At part (λ old new. new ≡ overwritten at bytes.now old) (reads_in self.old) (reads_in self.new)) }
         ensures images { true ≡ true → GoesOn moment_in left_in (At part (Torn at (length bytes.now))) self.old self.new }
         ensures cause { HasCause self.old.calls.faults self.new.calls.faults result }
+        ensures once { OnErr result (self.new.calls.faults ≡ one_more self.old.calls.faults) }
         ensures reach { reach_in self.new ≡ reach_in self.old }
         ensures goes { NextGoes self.old → room_for part at (length bytes.now) self.old ≤ self.old.left.bytes → IsOk result }
         ensures only { OnOk result (NextGoes self.old × (room_for part at (length bytes.now) self.old ≤ self.old.left.bytes)) }
@@ -226,6 +229,7 @@ impl Disk for MemDisk {
         ensures told { OnOk result (true ≡ true → At part (λ old new. new ≡ resized length old) (reads_in self.old) (reads_in self.new)) }
         ensures images { true ≡ true → GoesOn moment_in left_in (At part (Cut length)) self.old self.new }
         ensures cause { HasCause self.old.calls.faults self.new.calls.faults result }
+        ensures once { OnErr result (self.new.calls.faults ≡ one_more self.old.calls.faults) }
         ensures reach { reach_in self.new ≡ reach_in self.old }
         ensures goes { NextGoes self.old → room_for part length 0 self.old ≤ self.old.left.bytes → IsOk result }
         ensures only { OnOk result (NextGoes self.old × (room_for part length 0 self.old ≤ self.old.left.bytes)) }
@@ -256,6 +260,7 @@ impl Disk for MemDisk {
         ensures reads { reads_in self.new ≡ reads_in self.old }
         ensures images { true ≡ true → GoesOn moment_in left_in (Unchanged) self.old self.new }
         ensures cause { HasCause self.old.calls.faults self.new.calls.faults result }
+        ensures once { OnErr result (self.new.calls.faults ≡ one_more self.old.calls.faults) }
         ensures reach { reach_in self.new ≡ reach_in self.old }
         ensures goes { NextGoes self.old → IsOk result }
         ensures only { OnOk result (NextGoes self.old) }

@@ -63,6 +63,7 @@ impl Sink for MemSink {
         ensures told { IfOk result (λ n. true ≡ true → self.new.bytes.items ≡ self.old.bytes.items ++ take n bytes.now) }
         ensures failed { OnErr result (true ≡ true → self.new.bytes.items ≡ self.old.bytes.items) }
         ensures cause { HasCause self.old.calls.faults self.new.calls.faults result }
+        ensures once { OnErr result (self.new.calls.faults ≡ one_more self.old.calls.faults) }
         ensures piece { IfOk result (λ n. n ≡ min (limit_at self.old.calls.cuts.items self.old.calls.made) (length bytes.now)) }
         ensures fails { IsErr result ↔ (IsTrue (is_listed self.old.calls.fails.items self.old.calls.made) ⊎ (self.old.room < length self.old.bytes.items + min (limit_at self.old.calls.cuts.items self.old.calls.made) (length bytes.now))) }
     {

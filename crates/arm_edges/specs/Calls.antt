@@ -1,0 +1,15 @@
+-- The calls of an object in memory, numbered from 0: which of them fail, and how much each moves at most.
+use Rattle.std.specs.Prelude.{◌==◌, ℕ, ◌+◌, ◌-◌, min, max, Bool, if◌then◌else◌, List, length, slice_index}
+use Rattle.std.specs.List.{list_any}
+
+-- whether the call of that number is one of those that fail
+abbrev pub is_listed : List ℕ → ℕ → Bool
+is_listed fails call = list_any (λ k. k == call) fails
+
+-- one more, in 64 bits
+abbrev pub one_more : ℕ → ℕ
+one_more n = min (n + 1) 18446744073709551615
+
+-- how many bytes the call of that number moves at most: its cut, or the last cut behind them, but one byte at least; with no cuts any number
+abbrev pub limit_at : List ℕ → ℕ → ℕ
+limit_at cuts call = if length cuts == 0 then 18446744073709551615 else max 1 (slice_index cuts (min call (length cuts - 1)))

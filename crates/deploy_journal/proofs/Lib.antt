@@ -1,0 +1,7 @@
+mod Moments
+mod Lists
+mod Crash
+mod Unique
+mod Still
+mod Opening
+mod Numbers

@@ -1,0 +1,66 @@
+-- How runs of disk calls go on.
+use Rattle.std.proofs.Common.{Result, Ok, Err, OnOk, ◌≡◌, ◌⊎◌, inl, inr, ⊎_elim, ℕ, ◌+◌, ◌≤◌, ◌<◌, min, List, length, take, refl, sym, ◌∙◌, ap, arith}
+use Rattle.std.proofs.lemmas.List.{take-take, length-take}
+use Rattle.std.proofs.lemmas.Bool.{cases_lt}
+use Rattle.arm_edges.specs.Disk.{Parts, At, Torn, GoesOn, Unchanged}
+use Rattle.arm_edges.specs.declared.disk.Part.TheVariants.{A}
+use Rattle.deploy_journal.specs.Records.{KeepsFront, Since}
+
+pub total : (m n : ℕ) → (m ≤ n) ⊎ (n ≤ m)
+total m n = ⊎_elim (λ (below : m < n). inl (omega arith)) (λ (above : n ≤ m). inr above) (cases_lt m n)
+
+pub torn_keeps : (n at m : ℕ) → n ≤ at → (d c : Parts) → At A (Torn at m) d c → KeepsFront n d c
+torn_keeps n at m below d c step within =
+    let h = step.here in (
+      (sym (take-take n (min at (length d.a)) c.a (omega arith)) ∙ ap (λ (l : List ℕ). take n l) h.before ∙ take-take n at d.a below),
+      omega (arith, h.no_shorter),
+    )
+
+pub same_keeps : (n : ℕ) (d c : Parts) → Unchanged d c → KeepsFront n d c
+same_keeps n d c same within = (ap (λ (f : Parts). take n f.a) same, omega (arith, within, ap (λ (f : Parts). length f.a) same))
+
+keeps_then : (n : ℕ) (e d c : Parts) → KeepsFront n e d → KeepsFront n d c → KeepsFront n e c
+keeps_then n e d c x y within = let first = x within in let second = y first.1 in (second.0 ∙ first.0, second.1)
+
+module _ {D : Type 0} (moment : D → ℕ) (left : D → ℕ → Parts → Type 0) where
+  pub wider : (s t : Parts → Parts → Type 0) (old new : D) → GoesOn moment left s old new → ((d c : Parts) → s d c → t d c) → GoesOn moment left t old new
+  wider s t old new x w = record {
+    later = x.later;
+    past = x.past;
+    keeps = x.keeps;
+    during = λ at c from to l. let h = x.during at c from to l in (h.0, h.1, w h.0 c h.2);
+  }
+
+  pub go_on : (n : ℕ) (old mid new : D) → GoesOn moment left (KeepsFront n) old mid → GoesOn moment left (KeepsFront n) mid new → GoesOn moment left (KeepsFront n) old new
+  go_on n old mid new x y = record {
+    later = omega (arith, x.later, y.later);
+    past = λ t c le l. x.past t c le (y.past t c (omega (arith, le, x.later)) l);
+    keeps = λ t c le l. y.keeps t c (omega (arith, le, x.later)) (x.keeps t c le l);
+    during = λ t c from to l. ⊎_elim (λ early. x.during t c from early (y.past t c early l)) (λ late. later_on t c late to l) (total t (moment mid));
+  }
+    where
+      later_on : (t : ℕ) (c : Parts) → moment mid ≤ t → t ≤ moment new → left new t c → (d : Parts) × left old (moment old) d × KeepsFront n d c
+      later_on t c from to l =
+          let h = y.during t c from to l in
+          let k = x.during (moment mid) h.0 x.later (omega arith) h.1 in (k.0, k.1, keeps_then n k.0 h.0 c k.2 h.2)
+
+  pub since_first : (s : Parts → Parts → Type 0) (P : Parts → Type 0) (old new : D) → GoesOn moment left s old new
+      → ((d c : Parts) → left old (moment old) d → s d c → P c) → Since moment left old new P
+  since_first s P old new x here = record {
+    later = x.later;
+    past = x.past;
+    keeps = x.keeps;
+    during = λ t c from to l. let h = x.during t c from to l in here h.0 c h.1 h.2;
+  }
+
+  pub since_then : (P : Parts → Type 0) (old mid new : D) → Since moment left old mid P → Since moment left mid new P → Since moment left old new P
+  since_then P old mid new x y = record {
+    later = omega (arith, x.later, y.later);
+    past = λ t c le l. x.past t c le (y.past t c (omega (arith, le, x.later)) l);
+    keeps = λ t c le l. y.keeps t c (omega (arith, le, x.later)) (x.keeps t c le l);
+    during = λ t c from to l. ⊎_elim (λ early. x.during t c from early (y.past t c early l)) (λ late. y.during t c late to l) (total t (moment mid));
+  }
+
+pub on_ok : {T E P Q : Type 0} (r : Result T E) → (P → Q) → OnOk r P → OnOk r Q
+on_ok (Ok x) f p = f p
+on_ok (Err e) f p = p

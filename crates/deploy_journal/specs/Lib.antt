@@ -1,0 +1,5 @@
+pub mod Records
+pub mod Answers
+pub mod Reading
+pub mod Opening
+pub mod Formatting

@@ -60,19 +60,22 @@ some_if : (b : Bool) (i : ResourceId) → b ≡ true → cond b (Some i) None �
 some_if true i e = refl
 some_if false i e = absurd (true≢false (sym e))
 
-read_back : (s g : List ℕ) (ts ns : List (List ℕ)) → let i : ResourceId = record { subscription = s; group = g; types = ts; names = ns } in IsResourceId i → IsPlain i → reading (text_of i) ≡ Some i
-read_back s g [] ns h plain = absurd (omega (arith, h.paired))
-read_back s g (provider ∷ ts) ns h plain =
+-- the text of an id, with any spelling of the fixed words, is read as that id
+pub read_back : (a b c s g : List ℕ) (ts ns : List (List ℕ)) → are_words a b c ≡ true → has_slash a ≡ false → has_slash b ≡ false → has_slash c ≡ false → let i : ResourceId = record { subscription = s; group = g; types = ts; names = ns } in IsResourceId i → IsPlain i → reading (slashed (a ∷ s ∷ b ∷ g ∷ c ∷ path ts ns)) ≡ Some i
+read_back a b c s g [] ns words no_a no_b no_c h plain = absurd (omega (arith, h.paired))
+read_back a b c s g (provider ∷ ts) ns words no_a no_b no_c h plain =
     let same : length ts ≡ length ns = omega (arith, h.paired) in
     let turns = none_in_turns has_slash ts ns (none_behind has_slash provider ts h.types_cut) h.names_cut in
     let i : ResourceId = record { subscription = s; group = g; types = provider ∷ ts; names = ns } in
-    let cut : list_any has_slash (id_segments i) ≡ false =
-    nor (has_slash s) _ plain.subscription (nor (has_slash g) _ plain.group (nor (has_slash provider) _ (none_in_front has_slash provider ts h.types_cut) turns)) in
-    ap reading_of (segments-slashed (id_segments i) cut) ∙ (λ j. if_whole true (record { subscription = s; group = g; types = provider ∷ firsts-by_turns ts ns same j; names = seconds-by_turns ts ns same j })) ∙ some_if (is_whole i) i (whole i h)
+    let all = a ∷ s ∷ b ∷ g ∷ c ∷ provider ∷ by_turns ts ns in
+    let cut : list_any has_slash all ≡ false =
+    nor (has_slash a) _ no_a (nor (has_slash s) _ plain.subscription (nor (has_slash b) _ no_b (nor (has_slash g) _ plain.group (nor (has_slash c) _ no_c (nor (has_slash provider) _ (none_in_front has_slash provider ts h.types_cut) turns))))) in
+    ap reading_of (segments-slashed all cut) ∙ (λ j. if_whole (words j) (record { subscription = s; group = g; types = provider ∷ firsts-by_turns ts ns same j; names = seconds-by_turns ts ns same j })) ∙ some_if (is_whole i) i (whole i h)
 
 -- the text of an id is read as that id
 pub reading-text_of : (i : ResourceId) → IsResourceId i → IsPlain i → reading (text_of i) ≡ Some i
-reading-text_of i h plain = read_back i.subscription i.group i.types i.names h plain
+reading-text_of i h plain =
+    read_back (codes "subscriptions") (codes "resourceGroups") (codes "providers") i.subscription i.group i.types i.names refl refl refl refl h plain
 
 -- what a list of segments has that is read as an id
 pub record Reads (xs : List (List ℕ)) (i : ResourceId) : Type 0 where

@@ -101,3 +101,10 @@ IsNoId text NotAnId = reading text ≡ None
 IsNoId text OutOfMemory = Unit {0}
 IsNoId text EmptySegment = ⊥
 IsNoId text SegmentsDiffer = ⊥
+
+-- the fault of a text that was to be the id of a key
+abbrev pub IsNoKey : List ℕ → IdFault → Type 0
+IsNoKey text NotAnId = (key : ResourceId) → IsIdOf text key → ⊥
+IsNoKey text OutOfMemory = Unit {0}
+IsNoKey text EmptySegment = ⊥
+IsNoKey text SegmentsDiffer = ⊥

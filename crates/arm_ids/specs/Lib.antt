@@ -1,2 +1,4 @@
 pub mod Segments
 pub mod Id
+pub mod Parent
+pub mod Scope

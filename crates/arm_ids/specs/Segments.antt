@@ -1,5 +1,5 @@
 -- The segments of a text: what stands between its slashes.
-use Rattle.std.specs.Prelude.{ℕ, ◌==◌, Bool, true, false, List, [], ◌∷◌, ◌++◌}
+use Rattle.std.specs.Prelude.{ℕ, ◌==◌, ◌&&◌, bytes_eq, Bool, true, false, List, [], ◌∷◌, ◌++◌}
 use Rattle.std.specs.List.{slice_split, list_any}
 
 -- whether the character is a slash
@@ -22,6 +22,12 @@ is_empty (c ∷ cs) = false
 -- whether the text has a slash in it
 abbrev pub has_slash : List ℕ → Bool
 has_slash text = list_any is_slash text
+
+-- whether the second list begins with the texts of the first
+abbrev pub is_front : List (List ℕ) → List (List ℕ) → Bool
+is_front [] ys = true
+is_front (x ∷ xs) [] = false
+is_front (x ∷ xs) (y ∷ ys) = bytes_eq x y && is_front xs ys
 
 -- the first, third, fifth .. of these
 abbrev pub firsts : List (List ℕ) → List (List ℕ)

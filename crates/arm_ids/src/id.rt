@@ -1,9 +1,11 @@
-ghost use Rattle.std.specs.Prelude.{◌≡◌, ◌==◌, ◌∷◌, ◌++◌, suc, length, chars, Some, string_bytes, IfOk, IfErr, OnOk};
+ghost use Rattle.std.specs.Prelude.{◌≡◌, ◌==◌, ◌∷◌, ◌++◌, suc, ◌↔◌, length, chars, Some, string_bytes, IsTrue, IfOk, IfErr, OnOk};
 ghost use Rattle.arm_ids.specs.Segments.{slashed, by_turns};
-ghost use Rattle.arm_ids.specs.Id.{path, are_words, reading_of};
+ghost use Rattle.arm_ids.specs.Id.{path, are_words, reading_of, resource, folded, text_of, IsPlain, IsIdOf, Refuses};
 
 use crate::fault::IdFault;
-use crate::segments::{all_folded, by_turns, folded, has_empty, is_blank, is_word, segments};
+use crate::segments::{
+    all_folded, by_turns, copies, folded, has_empty, is_blank, is_front, is_word, same_texts, segments,
+};
 use arm_value::{OutOfMemory, Text, Texts};
 use std::alloc::Global;
 
@@ -29,6 +31,7 @@ pub struct ResourceId {
 
 impl ResourceId {
     ghost use Rattle.arm_ids.specs.Id.{resource, folded, text_of, has_empty_segment, is_whole, IsResourceId, IsPlain, reading, Refuses, IsNoId};
+    ghost use Rattle.arm_ids.specs.Parent.{begins};
 
     /// The id of a resource in the subscription and group of a place, by its full type and its full name.
     ///
@@ -100,6 +103,37 @@ impl ResourceId {
         })
     }
 
+    pub fn copy(&self, alloc: Global) -> Result<ResourceId, OutOfMemory>
+        ensures { IfOk result (λ i. i ≡ self.now) }
+    {
+        Ok(ResourceId {
+            subscription: self.subscription.copy(alloc)?,
+            group: self.group.copy(alloc)?,
+            types: copies(alloc, &self.types)?,
+            names: copies(alloc, &self.names)?,
+        })
+    }
+
+    // Whether both have the same parts, with the same letters.
+    pub(crate) fn same(&self, other: &ResourceId) -> bool
+        ensures { IsTrue result ↔ (self.now ≡ other.now) }
+    {
+        self.subscription.same(&other.subscription)
+            && self.group.same(&other.group)
+            && same_texts(&self.types, &other.types)
+            && same_texts(&self.names, &other.names)
+    }
+
+    // Whether the other's types and names begin with these, in the same group.
+    pub(crate) fn begins(&self, other: &ResourceId) -> bool
+        ensures { result ≡ begins self.now other.now }
+    {
+        self.subscription.same(&other.subscription)
+            && self.group.same(&other.group)
+            && is_front(&self.types, &other.types)
+            && is_front(&self.names, &other.names)
+    }
+
     fn has_empty_segment(&self) -> bool
         ensures { result ≡ has_empty_segment self.now }
     {
@@ -121,6 +155,23 @@ impl ResourceId {
     {
         !self.has_empty_segment() && self.is_paired() && self.names.len() > 0
     }
+}
+
+/// The id of a resource in the subscription and group of a place, by its full type and its full name, with the letters
+/// as they are spelled.
+///
+/// # Errors
+///
+/// `EmptySegment` exactly where the subscription, the group, or a segment of type or name is empty; else
+/// `SegmentsDiffer` exactly where the type has not one segment more than the name.
+pub fn id_text(alloc: Global, place: &Place, kind: &str, name: &str) -> Result<Text, IdFault>
+    ensures ok { IfOk result (λ t. t ≡ text_of (resource place.now.subscription place.now.group (chars kind.now) (chars name.now))) }
+    ensures reads_back { IfOk result (λ t. IsPlain (resource place.now.subscription place.now.group (chars kind.now) (chars name.now))
+        → IsIdOf t (folded (resource place.now.subscription place.now.group (chars kind.now) (chars name.now)))) }
+    ensures fault { IfErr result (Refuses (resource place.now.subscription place.now.group (chars kind.now) (chars name.now))) }
+{
+    let id = ResourceId::of(alloc, place, kind, name)?;
+    Ok(id.text(alloc)?)
 }
 
 // The id whose text has these segments, where there is one.

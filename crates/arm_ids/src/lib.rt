@@ -7,7 +7,11 @@
 
 mod fault;
 mod id;
+mod key;
+mod scope;
 mod segments;
 
 pub use fault::IdFault;
-pub use id::{Place, ResourceId};
+pub use id::{Place, ResourceId, id_text};
+pub use key::Key;
+pub use scope::Scope;

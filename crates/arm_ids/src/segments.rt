@@ -1,8 +1,8 @@
 // Texts, and the segments between their slashes.
-ghost use Rattle.std.specs.Prelude.{◌≡◌, ◌∷◌, ◌++◌, map, chars, IfOk};
+ghost use Rattle.std.specs.Prelude.{◌≡◌, ◌∷◌, ◌++◌, ◌↔◌, map, chars, IsTrue, IfOk};
 ghost use Rattle.std.specs.List.{list_any};
 ghost use Rattle.arm_value.specs.Look.{fold, is_same_folded};
-ghost use Rattle.arm_ids.specs.Segments.{segments, is_empty, firsts, seconds};
+ghost use Rattle.arm_ids.specs.Segments.{segments, is_empty, is_front, firsts, seconds};
 
 use arm_value::look::folded_eq;
 use arm_value::{OutOfMemory, Text, Texts};
@@ -93,4 +93,39 @@ pub(crate) fn by_turns(
         types.push(kind.copy(alloc)?)?;
     }
     Ok((Texts::from_vec(types), Texts::from_vec(names)))
+}
+
+/// Each of the texts again.
+pub(crate) fn copies(alloc: Global, texts: &Texts) -> Result<Texts, OutOfMemory>
+    ensures { IfOk result (λ ts. ts ≡ texts.now) }
+{
+    let mut copies = Vec::new(alloc);
+    for text in texts.as_slice() {
+        copies.push(text.copy(alloc)?)?;
+    }
+    Ok(Texts::from_vec(copies))
+}
+
+/// Whether the second list begins with the texts of the first.
+pub(crate) fn is_front(front: &Texts, whole: &Texts) -> bool
+    ensures { result ≡ is_front front.now whole.now }
+{
+    let front = front.as_slice();
+    let whole = whole.as_slice();
+    if front.len() > whole.len() {
+        return false;
+    }
+    for i in 0..front.len() {
+        if !front[i].same(&whole[i]) {
+            return false;
+        }
+    }
+    true
+}
+
+/// Whether both lists have the same texts.
+pub(crate) fn same_texts(one: &Texts, other: &Texts) -> bool
+    ensures { IsTrue result ↔ (one.now ≡ other.now) }
+{
+    one.len() == other.len() && is_front(one, other)
 }

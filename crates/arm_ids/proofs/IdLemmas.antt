@@ -36,6 +36,7 @@ then_word t u w rest e = ap (λ x. x ++ rest) e ∙ append_assoc t (47 ∷ w) re
 
 -- the text of an id, as it is written
 pub written : (i : ResourceId) (t₀ t₁ t₂ t₃ t₄ t₅ t₆ a s b g c : List ℕ) → t₀ ≡ [] → t₁ ≡ t₀ ++ 47 ∷ a → t₂ ≡ t₁ ++ 47 ∷ s → t₃ ≡ t₂ ++ 47 ∷ b → t₄ ≡ t₃ ++ 47 ∷ g → t₅ ≡ t₄ ++ 47 ∷ c → t₆ ≡ t₅ ++ slashed (path i.types i.names) → a ≡ codes "subscriptions" → s ≡ i.subscription → b ≡ codes "resourceGroups" → g ≡ i.group → c ≡ codes "providers" → t₆ ≡ text_of i
+unfolding text_of
 written i t₀ t₁ t₂ t₃ t₄ t₅ t₆ a s b g c start e₁ e₂ e₃ e₄ e₅ e₆ subscriptions subscription groups group providers =
     let path_text = slashed (path i.types i.names) in
     e₆ ∙ then_word t₄ t₅ c path_text e₅ ∙ then_word t₃ t₄ g _ e₄ ∙ then_word t₂ t₃ b _ e₃ ∙ then_word t₁ t₂ s _ e₂ ∙ then_word t₀ t₁ a _ e₁ ∙ ap (λ t. t ++ 47 ∷ (a ++ 47 ∷ (s ++ 47 ∷ (b ++ 47 ∷ (g ++ 47 ∷ (c ++ path_text)))))) start ∙ (λ j. 47 ∷ (subscriptions j ++ 47 ∷ (subscription j ++ 47 ∷ (groups j ++ 47 ∷ (group j ++ 47 ∷ (providers j ++ path_text))))))
@@ -74,6 +75,7 @@ read_back a b c s g (provider ∷ ts) ns words no_a no_b no_c h plain =
 
 -- the text of an id is read as that id
 pub reading-text_of : (i : ResourceId) → IsResourceId i → IsPlain i → reading (text_of i) ≡ Some i
+unfolding text_of
 reading-text_of i h plain =
     read_back (codes "subscriptions") (codes "resourceGroups") (codes "providers") i.subscription i.group i.types i.names refl refl refl refl h plain
 

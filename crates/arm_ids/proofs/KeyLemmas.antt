@@ -22,7 +22,7 @@ small_segments i =
     codes "subscriptions" ∷ i.subscription ∷ codes "resourcegroups" ∷ i.group ∷ codes "providers" ∷ path i.types i.names
 
 folded_text-slashed : (i : ResourceId) → folded_text i ≡ slashed (small_segments (folded i))
-unfolding small_segments
+unfolding small_segments text_of
 folded_text-slashed i =
     fold-slashed (id_segments i) ∙ ap (λ r. slashed (codes "subscriptions" ∷ fold i.subscription ∷ codes "resourcegroups" ∷ fold i.group ∷ codes "providers" ∷ r)) (fold-path i.types i.names)
 

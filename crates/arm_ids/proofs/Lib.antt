@@ -5,3 +5,5 @@ pub mod IdLemmas
 pub mod KeyLemmas
 pub mod FrontLemmas
 pub mod ScopeLemmas
+pub mod HeldLemmas
+pub mod RowLemmas

@@ -28,7 +28,7 @@ id_segments i =
     codes "subscriptions" ∷ i.subscription ∷ codes "resourceGroups" ∷ i.group ∷ codes "providers" ∷ path i.types i.names
 
 -- `/subscriptions/s/resourceGroups/g/providers/N/t1/n1/..`
-abbrev pub text_of : ResourceId → List ℕ
+unfoldable pub text_of : ResourceId → List ℕ
 text_of i = slashed (id_segments i)
 
 -- that text in small ASCII letters

@@ -5,13 +5,21 @@
 //! What an id is stands in `specs/Id.antt`, scopes in `specs/Scope.antt`, what a store holds in `specs/Held.antt`.
 #![tactic(auto)]
 
+mod entry;
 mod fault;
+mod held;
 mod id;
 mod key;
+mod row;
 mod scope;
 mod segments;
 
+pub use entry::Entry;
 pub use fault::IdFault;
+pub use held::Held;
 pub use id::{Place, ResourceId, id_text};
 pub use key::Key;
 pub use scope::Scope;
+
+#[cfg(test)]
+mod tests;

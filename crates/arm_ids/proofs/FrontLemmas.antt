@@ -90,10 +90,12 @@ parent_from k child is_key is_child e l =
 pub parent_begins : (k child : ResourceId) → IsParent k child → (begins k child ≡ true) × (length child.names - length k.names ≡ 1)
 parent_begins k child (kind, more) =
     let name = more.0 in
-    let e = more.1 in
-    (begun_back k child (record {
-      subscription = ap (λ (i : ResourceId). i.subscription) (sym e);
-      group = ap (λ (i : ResourceId). i.group) (sym e);
-      types = ap (λ (i : ResourceId). is_front k.types i.types) e ∙ front_of k.types (kind ∷ []);
-      names = ap (λ (i : ResourceId). is_front k.names i.names) e ∙ front_of k.names (name ∷ []);
-    }), omega (arith, ap (λ (i : ResourceId). length i.names) e, length-append k.names (name ∷ [])))
+    let e = more.1 in (
+      begun_back k child (record {
+        subscription = ap (λ (i : ResourceId). i.subscription) (sym e);
+        group = ap (λ (i : ResourceId). i.group) (sym e);
+        types = ap (λ (i : ResourceId). is_front k.types i.types) e ∙ front_of k.types (kind ∷ []);
+        names = ap (λ (i : ResourceId). is_front k.names i.names) e ∙ front_of k.names (name ∷ []);
+      }),
+      omega (arith, ap (λ (i : ResourceId). length i.names) e, length-append k.names (name ∷ [])),
+    )

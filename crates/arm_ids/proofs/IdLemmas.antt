@@ -1,7 +1,7 @@
 -- Ids as texts and as parts.
-use Rattle.std.proofs.Common.{◌≡◌, ◌<◌, ℕ, length, Bool, true, false, List, [], ◌∷◌, ◌++◌, map, chars, IsUtf8, refl, sym, ap, ap₂, ◌∙◌, arith, append_assoc, append-nil, suc, eqb, ◌&&◌, ◌||◌, not, nat_lt, codes, Option, Some, None, true≢false, eq-eqb, cond, subst, ◌⊎◌, inl, inr, ltb, lt-ltb}
+use Rattle.std.proofs.Common.{◌≡◌, ◌<◌, ℕ, length, Bool, true, false, List, [], ◌∷◌, ◌++◌, map, chars, IsUtf8, refl, sym, ap, ap₂, ◌∙◌, arith, append_assoc, append-nil, suc, eqb, ◌&&◌, ◌||◌, not, nat_lt, codes, Option, Some, None, true≢false, eq-eqb, cond, subst, ◌⊎◌, inl, inr, ltb, lt-ltb, Result, Ok, Err, IfOk}
 use lib.Utf8.{encode, encodes}
-use Rattle.std.proofs.lemmas.Str.{encode_ascii, chars-append, chars-encodes}
+use Rattle.std.proofs.lemmas.Str.{encode_ascii, chars-append, chars-encodes, chars-nil}
 use Rattle.std.specs.List.{list_any}
 use Rattle.arm_value.specs.Look.{fold}
 use Rattle.arm_ids.specs.Id.{resource, folded, path, text_of, id_segments, has_empty_segment, named_segments, is_whole, IsResourceId, IsKey, IsPlain, IsIdOf, reading, reading_of, are_words, if_whole}
@@ -10,7 +10,7 @@ use Rattle.arm_ids.proofs.TextLemmas.{some_segment}
 use Rattle.arm_ids.proofs.SegmentLemmas.{segments_cut, segments-slashed, slashed-segments, nor, none_in_front, none_behind, none_in_turns, none_in_firsts, none_in_seconds, firsts-by_turns, seconds-by_turns, by_turns-apart}
 use Rattle.std.proofs.lemmas.Bool.{eqb-true}
 use Rattle.std.proofs.lemmas.Bool.Decides.{nat_tests}
-use Rattle.arm_ids.specs.Segments.{is_slash, segments, slashed, is_empty, has_slash, firsts, seconds, by_turns}
+use Rattle.arm_ids.specs.Segments.{is_slash, segments, slashed, joined, is_empty, has_slash, firsts, seconds, by_turns}
 
 -- a slash and a segment behind a text
 pub pushed : (a b c segment : List ℕ) → IsUtf8 a → IsUtf8 b → b ≡ a ++ encode 47 → c ≡ b ++ segment → chars c ≡ chars a ++ 47 ∷ chars segment
@@ -127,3 +127,9 @@ id_from_reading t i e =
       types_cut = ap (list_any has_slash) h.types ∙ nor (has_slash h.provider) _ (none_in_front has_slash h.provider h.rest cut) (none_in_firsts has_slash h.rest (none_behind has_slash h.provider h.rest cut));
       names_cut = ap (list_any has_slash) h.names ∙ none_in_seconds has_slash h.rest (none_behind has_slash h.provider h.rest cut);
     }
+
+-- no segments are joined to the empty text
+pub joined_none : {E : Type 0} (r : Result (List ℕ) E) (ss : List (List ℕ)) → length ss < 1 → IfOk r (λ t. t ≡ chars []) → IfOk r (λ t. t ≡ joined ss)
+joined_none (Ok t) [] l e = e ∙ chars-nil
+joined_none (Ok t) (s ∷ ss) l e = absurd (omega (arith, l))
+joined_none (Err f) ss l e = tt

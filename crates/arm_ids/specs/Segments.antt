@@ -15,6 +15,11 @@ abbrev pub slashed : List (List ℕ) → List ℕ
 slashed [] = []
 slashed (s ∷ ss) = 47 ∷ (s ++ slashed ss)
 
+-- these segments as one text, with a slash between each two
+abbrev pub joined : List (List ℕ) → List ℕ
+joined [] = []
+joined (s ∷ ss) = s ++ slashed ss
+
 abbrev pub is_empty : List ℕ → Bool
 is_empty [] = true
 is_empty (c ∷ cs) = false

@@ -1,12 +1,12 @@
 ghost use Rattle.std.specs.Prelude.{◌≡◌, ◌==◌, ◌∷◌, ◌++◌, suc, ◌↔◌, length, chars, Some, string_bytes, IsTrue, IfOk, IfErr, OnOk};
-ghost use Rattle.arm_ids.specs.Segments.{slashed, by_turns};
+ghost use Rattle.arm_ids.specs.Segments.{slashed, joined, by_turns};
 ghost use Rattle.arm_ids.specs.Id.{path, are_words, reading_of, resource, folded, text_of, IsPlain, IsIdOf, Refuses};
 
 use crate::fault::IdFault;
 use crate::segments::{
-    all_folded, by_turns, copies, folded, has_empty, is_blank, is_front, is_word, same_texts, segments,
+    all_folded, by_turns, folded, has_empty, is_blank, is_front, is_word, same_texts, segments,
 };
-use arm_value::{OutOfMemory, Text, Texts};
+use arm_value::{OutOfMemory, Text, Texts, copy_texts};
 use std::alloc::Global;
 
 /// Where a deployment is made. The names are as they were given, in letters of any case.
@@ -91,6 +91,20 @@ impl ResourceId {
         Ok(Text::from_string(text))
     }
 
+    /// The full type, as `Microsoft.Storage/storageAccounts`.
+    pub fn full_type(&self, alloc: Global) -> Result<Text, OutOfMemory>
+        ensures { IfOk result (λ t. t ≡ joined self.now.types) }
+    {
+        joined(alloc, &self.types)
+    }
+
+    /// The full name: the names from the outermost resource inwards, with a slash between each two.
+    pub fn full_name(&self, alloc: Global) -> Result<Text, OutOfMemory>
+        ensures { IfOk result (λ t. t ≡ joined self.now.names) }
+    {
+        joined(alloc, &self.names)
+    }
+
     /// The same id in small ASCII letters.
     pub(crate) fn folded(&self, alloc: Global) -> Result<ResourceId, OutOfMemory>
         ensures { IfOk result (λ i. i ≡ folded self.now) }
@@ -109,8 +123,8 @@ impl ResourceId {
         Ok(ResourceId {
             subscription: self.subscription.copy(alloc)?,
             group: self.group.copy(alloc)?,
-            types: copies(alloc, &self.types)?,
-            names: copies(alloc, &self.names)?,
+            types: copy_texts(alloc, &self.types)?,
+            names: copy_texts(alloc, &self.names)?,
         })
     }
 
@@ -178,8 +192,16 @@ pub fn id_text(alloc: Global, place: &Place, kind: &str, name: &str) -> Result<T
 fn spelled(alloc: Global, segments: &[Text]) -> Result<Option<ResourceId>, OutOfMemory>
     ensures { IfOk result (λ i. i ≡ reading_of segments.now) }
 {
-    let [root, subscriptions, subscription, groups, group, providers, provider, path @ ..] =
-        segments
+    let [
+        root,
+        subscriptions,
+        subscription,
+        groups,
+        group,
+        providers,
+        provider,
+        path @ ..,
+    ] = segments
     else {
         return Ok(None);
     };
@@ -218,6 +240,28 @@ fn push_segment(text: &mut String, segment: &str) -> Result<(), OutOfMemory>
 {
     text.push('/')?;
     text.push_str(segment)?;
+    Ok(())
+}
+
+// The segments as one text, with a slash between each two.
+fn joined(alloc: Global, segments: &Texts) -> Result<Text, OutOfMemory>
+    ensures { IfOk result (λ t. t ≡ joined segments.now) }
+{
+    let [first, others @ ..] = segments.as_slice() else {
+        return Text::of(alloc, "");
+    };
+    let mut text = String::from_str(alloc, first.as_str())?;
+    push_segments(&mut text, others)?;
+    Ok(Text::from_string(text))
+}
+
+// Adds each segment behind a slash.
+fn push_segments(text: &mut String, segments: &[Text]) -> Result<(), OutOfMemory>
+    ensures { OnOk result (chars (string_bytes text.new) ≡ chars (string_bytes text.old) ++ slashed segments.now) }
+{
+    for segment in segments {
+        push_segment(text, segment.as_str())?;
+    }
     Ok(())
 }
 

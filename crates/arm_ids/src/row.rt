@@ -28,7 +28,6 @@ impl Row {
     }
 }
 
-
 /// The entry of an id.
 pub(crate) fn find_row<'a>(rows: &'a [Row], id: &Text) -> Option<&'a Entry>
     requires { AreRows rows.now }

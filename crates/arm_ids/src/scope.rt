@@ -4,8 +4,7 @@ ghost use Rattle.arm_ids.specs.Scope.{Covers};
 
 use crate::id::ResourceId;
 use crate::key::Key;
-use arm_value::Text;
-use arm_value::look::folded_eq;
+use arm_value::{Text, folded_eq};
 
 /// What a lock may be set on: a subscription, a group of a subscription, or a resource. Names may have letters of any case.
 #[derive(Debug, Drop)]

@@ -4,8 +4,7 @@ ghost use Rattle.std.specs.List.{list_any};
 ghost use Rattle.arm_value.specs.Look.{fold, is_same_folded};
 ghost use Rattle.arm_ids.specs.Segments.{segments, is_empty, is_front, firsts, seconds};
 
-use arm_value::look::folded_eq;
-use arm_value::{OutOfMemory, Text, Texts};
+use arm_value::{OutOfMemory, Text, Texts, folded_eq};
 use std::alloc::Global;
 
 /// The text with small letters in place of A to Z.
@@ -93,17 +92,6 @@ pub(crate) fn by_turns(
         types.push(kind.copy(alloc)?)?;
     }
     Ok((Texts::from_vec(types), Texts::from_vec(names)))
-}
-
-/// Each of the texts again.
-pub(crate) fn copies(alloc: Global, texts: &Texts) -> Result<Texts, OutOfMemory>
-    ensures { IfOk result (λ ts. ts ≡ texts.now) }
-{
-    let mut copies = Vec::new(alloc);
-    for text in texts.as_slice() {
-        copies.push(text.copy(alloc)?)?;
-    }
-    Ok(Texts::from_vec(copies))
 }
 
 /// Whether the second list begins with the texts of the first.

@@ -1,0 +1,21 @@
+-- The rows behind what is held.
+use Rattle.std.specs.Prelude.{◌≡◌, List, [], ◌∷◌, ℕ, map}
+use Rattle.arm_value.specs.Look.{fold}
+use Rattle.arm_ids.specs.Held.{HeldResource, IsInOrder, held_by}
+use Rattle.arm_ids.specs.Entry.{as_held}
+use Rattle.arm_ids.specs.declared.row.Row.{Row}
+
+abbrev pub row_held : Row → HeldResource
+row_held row = as_held row.entry
+
+abbrev pub order_of : Row → List ℕ
+order_of row = row.order
+
+-- each row is ordered by its entry's folded id
+abbrev pub AreOrdered : List Row → Type 0
+AreOrdered rows = map order_of rows ≡ map held_by (map row_held rows)
+
+-- what holds of the rows behind every value
+pub record AreRows (rows : List Row) : Type 0 where
+  pub ordered : AreOrdered rows
+  pub in_order : IsInOrder (map row_held rows)

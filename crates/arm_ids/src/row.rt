@@ -1,0 +1,88 @@
+// Entries in the order of their folded ids.
+ghost use Rattle.std.specs.Prelude.{◌≡◌, map, IfOk, option_map, if◌then◌else◌, is_ok};
+ghost use Rattle.std.specs.List.Sorted.{IsStrictlySortedBy};
+ghost use Rattle.arm_ids.specs.Held.{id_cmp, held_by, find, put, without, IsPlaceOf};
+ghost use Rattle.arm_ids.specs.Entry.{as_held};
+ghost use Rattle.arm_ids.specs.Row.{order_of, row_held, AreRows};
+
+use crate::entry::Entry;
+use arm_value::{OutOfMemory, Text};
+use std::alloc::Global;
+use std::cmp::Ordering;
+
+/// An entry beside its id in small ASCII letters, by which rows are in order.
+#[derive(Drop)]
+pub(crate) struct Row {
+    pub(crate) order: Text,
+    pub(crate) entry: Entry,
+}
+
+impl Row {
+    pub(crate) fn copy(&self, alloc: Global) -> Result<Row, OutOfMemory>
+        ensures { IfOk result (λ r. r ≡ self.now) }
+    {
+        Ok(Row {
+            order: self.order.copy(alloc)?,
+            entry: self.entry.copy(alloc)?,
+        })
+    }
+}
+
+/// The entry of an id.
+pub(crate) fn find_row<'a>(rows: &'a [Row], id: &Text) -> Option<&'a Entry>
+    requires { AreRows rows.now }
+    ensures { option_map (λ e. as_held e.now) result ≡ find id.now (map row_held rows.now) }
+{
+    match place(rows, id) {
+        Ok(i) => Some(&rows[i].entry),
+        Err(_) => None,
+    }
+}
+
+/// Puts the row in its place.
+pub(crate) fn put_row(rows: &mut Vec<Row>, row: Row) -> Result<(), OutOfMemory>
+    requires rows { AreRows rows.old.items }
+    requires order { row.order ≡ held_by (row_held row) }
+    ensures rows { AreRows rows.new.items }
+    ensures held { map row_held rows.new.items
+        ≡ (if is_ok result then put (row_held row) (map row_held rows.old.items) else map row_held rows.old.items) }
+{
+    match place(rows.as_slice(), &row.order) {
+        Ok(i) => {
+            rows[i] = row;
+            Ok(())
+        }
+        Err(i) => {
+            rows.insert(i, row)?;
+            Ok(())
+        }
+    }
+}
+
+/// Takes the row of an id away.
+pub(crate) fn take_row(rows: &mut Vec<Row>, id: &Text) -> Option<Entry>
+    requires { AreRows rows.old.items }
+    ensures rows { AreRows rows.new.items }
+    ensures taken { option_map as_held result ≡ find id.now (map row_held rows.old.items) }
+    ensures held { map row_held rows.new.items ≡ without id.now (map row_held rows.old.items) }
+{
+    match place(rows.as_slice(), id) {
+        Ok(i) => {
+            let row = rows.remove(i);
+            Some(row.entry)
+        }
+        Err(_) => None,
+    }
+}
+
+// Where the id stands among the rows, or where it would stand.
+fn place(rows: &[Row], id: &Text) -> Result<usize, usize>
+    requires { IsStrictlySortedBy id_cmp (map order_of rows.now) }
+    ensures { IsPlaceOf id.now (map order_of rows.now) result }
+{
+    rows.binary_search_by(
+        |row: &Row| -> Ordering
+            ensures { result ≡ id_cmp row.now.order id.entry.now }
+        { row.order.as_str().cmp(id.as_str()) },
+    )
+}

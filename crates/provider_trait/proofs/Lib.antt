@@ -1,0 +1,4 @@
+pub mod Words
+pub mod NestLemmas
+pub mod AccountLemmas
+pub mod PlainLemmas

@@ -1,0 +1,11 @@
+pub mod Act
+pub mod Work
+pub mod JobParts
+pub mod StateFault
+pub mod Answer
+pub mod Calls
+pub mod Plain
+pub mod Catalog
+pub mod Script
+pub mod CatalogCalls
+pub mod ScriptParts

@@ -1,0 +1,9 @@
+-- When a value is no state.
+use Rattle.std.specs.Prelude.{◌<◌}
+use Rattle.arm_value.specs.Json.{Json, nesting}
+use Rattle.provider_trait.specs.declared.state.StateFault.{StateFault}
+use Rattle.provider_trait.specs.declared.state.StateFault.TheVariants.{TooDeep, OutOfMemory}
+
+abbrev pub IsStateFault : Json → StateFault → Type 0
+IsStateFault j TooDeep = 110 < nesting j
+IsStateFault j OutOfMemory = Unit {0}

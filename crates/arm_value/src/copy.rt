@@ -6,6 +6,7 @@ use crate::value::{Fields, Items, Value};
 use std::alloc::Global;
 
 impl Value {
+    /// The same value again.
     #[cycle(copy)]
     pub fn copy(&self, alloc: Global) -> Result<Value, OutOfMemory>
         ensures { IfOk result (λ v. v ≡ self.now) }
@@ -22,6 +23,7 @@ impl Value {
 }
 
 impl Items {
+    /// The same items again.
     #[cycle(copy)]
     pub fn copy(&self, alloc: Global) -> Result<Items, OutOfMemory>
         ensures { IfOk result (λ v. v ≡ self.now) }
@@ -35,6 +37,7 @@ impl Items {
 }
 
 impl Fields {
+    /// The same members again.
     #[cycle(copy)]
     pub fn copy(&self, alloc: Global) -> Result<Fields, OutOfMemory>
         ensures { IfOk result (λ v. v ≡ self.now) }

@@ -124,6 +124,10 @@ impl Path {
 }
 
 impl Display for Path {
+    ghost use Rattle.std.specs.Prelude.{Some, encode_utf8_all};
+
+    ghost output = { λ p. Some (encode_utf8_all p) };
+
     fn fmt<W: Write>(&self, f: &mut Formatter<W>) -> fmt::Result {
         f.write_str(self.as_str())
     }

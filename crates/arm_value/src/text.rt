@@ -62,6 +62,10 @@ impl Text {
 }
 
 impl Display for Text {
+    ghost use Rattle.std.specs.Prelude.{Some, encode_utf8_all};
+
+    ghost output = { λ t. Some (encode_utf8_all t) };
+
     fn fmt<W: Write>(&self, f: &mut Formatter<W>) -> fmt::Result {
         f.write_str(self.as_str())
     }

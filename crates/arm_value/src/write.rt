@@ -1,7 +1,9 @@
-// From a value to what `serde_json` writes.
-ghost use Rattle.std.specs.Prelude.{◌≡◌, ◌≤◌, Some, IfOk};
-ghost use Rattle.serde_json.specs.View.{view, items_view, members_view};
-ghost use Rattle.serde_json.specs.Written.{compact_text};
+// From a value to its compact text, a token at a time.
+ghost use Rattle.std.specs.Prelude.{◌≡◌, ◌≤◌, [], ◌∷◌, ◌++◌, ℕ, List, Some, IfOk, OnOk};
+ghost use Rattle.json.specs.Token.{number};
+ghost use Rattle.serde_json.specs.Read.{number_of};
+ghost use Rattle.serde_json.specs.Find.{of_integer};
+ghost use Rattle.serde_json.specs.Written.{compact_text, number_text, unless_float, WritesValue, WritesItems, WritesMembers};
 ghost use Rattle.arm_value.specs.Json.{pairs, row};
 ghost use Rattle.arm_value.specs.View.{json};
 ghost use Rattle.arm_value.specs.Reading.{data_of, row_data, pairs_data, reading};
@@ -9,55 +11,80 @@ ghost use Rattle.arm_value.specs.Reading.{data_of, row_data, pairs_data, reading
 use crate::bytes::Bytes;
 use crate::memory::OutOfMemory;
 use crate::value::{Fields, Items, Value};
-use serde_json::{Map, Number, Value as Data};
+use json::Writer;
 use std::alloc::Global;
 
+// Writes the value behind what was written before.
 #[cycle(write)]
-fn written(alloc: Global, value: &Value) -> Result<Data, OutOfMemory>
-    ensures { IfOk result (λ d. view d ≡ data_of (json value.now)) }
+fn write(value: &Value, out: &mut Writer) -> Result<(), OutOfMemory>
+    ensures ok { OnOk result
+        (WritesValue (data_of (json value.now)) out.old.tokens out.new.tokens) }
+    ensures before { out.new.before ≡ out.old.before }
 {
     match value {
-        Value::Null => Ok(Data::Null),
-        Value::Bool(b) => Ok(Data::Bool(*b)),
-        Value::Int(n) => Ok(Data::Number(Number::from(*n))),
-        Value::Text(text) => Ok(Data::String(String::from_str(alloc, text.as_str())?)),
-        Value::Array(items) => Ok(Data::Array(written_items(alloc, items)?)),
-        Value::Object(fields) => Ok(Data::Object(written_fields(alloc, fields)?)),
+        Value::Null => out.null(),
+        Value::Bool(b) => out.boolean(*b),
+        Value::Int(n) => write_int(*n, out),
+        Value::Text(text) => out.string(text.as_str()),
+        Value::Array(items) => {
+            out.begin_array()?;
+            write_items(items, out)
+        }
+        Value::Object(fields) => {
+            out.begin_object()?;
+            write_fields(fields, out)
+        }
     }
 }
 
-#[cycle(write)]
-fn written_items(alloc: Global, items: &Items) -> Result<Vec<Data>, OutOfMemory>
-    ensures { IfOk result (λ v. items_view v.items ≡ row_data (row items.now)) }
+fn write_int(n: i64, out: &mut Writer) -> Result<(), OutOfMemory>
+    ensures ok { OnOk result ((s : List ℕ)
+        × (out.new.tokens ≡ out.old.tokens ++ number s ∷ [])
+        × (number_of s ≡ Some (of_integer n))
+        × (unless_float s ≡ number_text (of_integer n))) }
+    ensures before { out.new.before ≡ out.old.before }
 {
-    let mut found = Vec::new(alloc);
+    out.i64(n)
+}
+
+// The items, and the closing bracket.
+#[cycle(write)]
+fn write_items(items: &Items, out: &mut Writer) -> Result<(), OutOfMemory>
+    ensures ok { OnOk result
+        (WritesItems (row_data (row items.now)) out.old.tokens out.new.tokens) }
+    ensures before { out.new.before ≡ out.old.before }
+{
     for item in items.as_slice() {
-        found.push(written(alloc, item)?)?;
+        write(item, out)?;
     }
-    Ok(found)
+    out.end_array()
 }
 
+// The members, and the closing bracket.
 #[cycle(write)]
-fn written_fields(alloc: Global, fields: &Fields) -> Result<Map<String, Data>, OutOfMemory>
-    ensures { IfOk result (λ m. members_view m.entries ≡ pairs_data (pairs fields.now)) }
+fn write_fields(fields: &Fields, out: &mut Writer) -> Result<(), OutOfMemory>
+    ensures ok { OnOk result
+        (WritesMembers (pairs_data (pairs fields.now)) out.old.tokens out.new.tokens) }
+    ensures before { out.new.before ≡ out.old.before }
 {
-    let mut found = Map::new(alloc);
     for field in fields.as_slice() {
-        let name = String::from_str(alloc, field.name.as_str())?;
-        let value = written(alloc, &field.value)?;
-        drop(found.insert(name, value)?);
+        out.key(field.name.as_str())?;
+        write(&field.value, out)?;
     }
-    Ok(found)
+    out.end_object()
 }
 
 impl Value {
+    /// The compact JSON text, with members in the order of their names' bytes. It reads back as
+    /// this value.
     pub fn to_json(&self, alloc: Global) -> Result<Bytes, OutOfMemory>
         ensures text { IfOk result (λ b. b ≡ compact_text (data_of (json self.now))) }
         ensures reads_back { IfOk result (λ b. reading b ≡ Some (data_of (json self.now))) }
     {
-        let data = written(alloc, self)?;
+        let mut out = Writer::new(Vec::with_capacity(alloc, 128)?);
+        write(self, &mut out)?;
         let nesting = self.nesting();
         prove!(nesting <= 120);
-        Ok(Bytes::from_vec(data.to_vec(alloc)?))
+        Ok(Bytes::from_vec(out.into_inner()))
     }
 }

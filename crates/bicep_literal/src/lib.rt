@@ -1,0 +1,7 @@
+//! Bicep files in the literal form: resources whose members are literals.
+//!
+//! A caller may rely on it that the resources are those that a source declares, that no source declares two lists
+//! of resources, and that a source that is refused is in no literal form. The form is `specs/Grammar.antt`, with
+//! what holds beside it in `specs/Declared.antt`.
+#![tactic(auto)]
+

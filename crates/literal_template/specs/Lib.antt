@@ -1,0 +1,4 @@
+pub mod Brackets
+pub mod Literals
+pub mod Resources
+pub mod Template

@@ -1,0 +1,10 @@
+//! Templates whose resources are literals: how they are written, and what they state.
+//!
+//! A caller may rely on it that a written template states the resources that it was written for.
+//! How a text is written that would be taken for an expression is in `specs/Brackets.antt`, what a template
+//! states in `specs/Template.antt`.
+#![tactic(auto)]
+
+mod resource;
+
+pub use resource::Resource;

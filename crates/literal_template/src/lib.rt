@@ -5,6 +5,8 @@
 //! states in `specs/Template.antt`.
 #![tactic(auto)]
 
+mod brackets;
+mod literals;
 mod resource;
 
 pub use resource::Resource;

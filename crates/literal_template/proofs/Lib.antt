@@ -1,2 +1,4 @@
+pub mod Words
 pub mod BracketLemmas
 pub mod LiteralLemmas
+pub mod LoopLemmas

@@ -1,5 +1,6 @@
 -- What the loops over items and members have come to.
 use Rattle.std.proofs.Common.{◌≡◌, ◌≤◌, ◌<◌, ◌+◌, ℕ, zero, suc, length, get_or, drop, Bool, true, false, List, [], ◌∷◌, ◌++◌, map, Option, Some, None, if◌then◌else◌, refl, sym, ap, ap₂, ◌∙◌, arith, subst}
+use Rattle.std.proofs.lemmas.List.{drop_all}
 use Rattle.arm_value.specs.Json.{Json, Row, no_items, item, Pairs, no_pairs, pair, Member, row, pairs, nesting, items_nesting, members_nesting, IsInOrder}
 use Rattle.arm_value.specs.View.{json, member}
 use Rattle.arm_value.specs.declared.value.Value.{Value}
@@ -8,12 +9,6 @@ use Rattle.arm_value.proofs.SetLemmas.{drop_from}
 use Rattle.arm_value.proofs.JsonLemmas as parts
 use Rattle.literal_template.specs.Literals.{is_special, written, row_written, pairs_written, item_before, pair_before, stated, row_stated, pairs_stated}
 use Rattle.literal_template.proofs.LiteralLemmas.{nesting-written, stated_nests, then_row, then_row-push, then_row-none, then_pairs, then_pairs-push, then_pairs-none, with_row, with_row-push, with_pairs, with_pairs-push, with_value, next_last}
-
-pub drop_end : {A : Type 0} (xs : List A) (i : ℕ) → length xs ≤ i → drop i xs ≡ []
-drop_end [] zero h = refl
-drop_end [] (suc i) h = refl
-drop_end (x ∷ xs) zero h = absurd (omega arith)
-drop_end (x ∷ xs) (suc i) h = drop_end xs i (omega arith)
 
 -- ---- nesting
 
@@ -40,7 +35,7 @@ written_item all found new vs i v k a h is e n =
 
 pub written_items : (found : List Json) (vs : List Value) (js : List Json) (i : ℕ) → map json vs ≡ js → length vs ≤ i → row_written (row (map json vs)) ≡ then_row found (row_written (row (map json (drop i vs)))) → row found ≡ row_written (row js)
 written_items found vs js i e h a =
-    sym (ap (λ ks. row_written (row ks)) (sym e) ∙ a ∙ ap (λ ds. then_row found (row_written (row (map json ds)))) (drop_end vs i h) ∙ then_row-none found)
+    sym (ap (λ ks. row_written (row ks)) (sym e) ∙ a ∙ ap (λ ds. then_row found (row_written (row (map json ds)))) (drop_all i vs h) ∙ then_row-none found)
 
 pub stated_item : (all : Option Row) (found new : List Json) (vs : List Value) (i : ℕ) (v : Value) (k : Json) (o : Option Json) → all ≡ with_row found (row_stated (row (map json (drop i vs)))) → i < length vs → v ≡ get_or vs i v → o ≡ stated (json v) → o ≡ Some k
     → new ≡ found ++ k ∷ [] → all ≡ with_row new (row_stated (row (map json (drop (i + 1) vs))))
@@ -51,7 +46,7 @@ stated_item all found new vs i v k o a h is e f n =
 
 pub stated_items : (found : List Json) (vs : List Value) (js : List Json) (i : ℕ) → map json vs ≡ js → length vs ≤ i → row_stated (row (map json vs)) ≡ with_row found (row_stated (row (map json (drop i vs)))) → Some (row found) ≡ row_stated (row js)
 stated_items found vs js i e h a =
-    sym (ap (λ ks. row_stated (row ks)) (sym e) ∙ a ∙ ap (λ ds. with_row found (row_stated (row (map json ds)))) (drop_end vs i h) ∙ ap Some (then_row-none found))
+    sym (ap (λ ks. row_stated (row ks)) (sym e) ∙ a ∙ ap (λ ds. with_row found (row_stated (row (map json ds)))) (drop_all i vs h) ∙ ap Some (then_row-none found))
 
 -- ---- members
 
@@ -76,7 +71,7 @@ written_member all found new fs i f name k a h is e w n =
 
 pub written_members : (found : List Member) (fs : List Field) (ms : List Member) (i : ℕ) → map member fs ≡ ms → length fs ≤ i → pairs_written (pairs (map member fs)) ≡ then_pairs found (pairs_written (pairs (map member (drop i fs)))) → pairs found ≡ pairs_written (pairs ms)
 written_members found fs ms i e h a =
-    sym (ap (λ ns. pairs_written (pairs ns)) (sym e) ∙ a ∙ ap (λ ds. then_pairs found (pairs_written (pairs (map member ds)))) (drop_end fs i h) ∙ then_pairs-none found)
+    sym (ap (λ ns. pairs_written (pairs ns)) (sym e) ∙ a ∙ ap (λ ds. then_pairs found (pairs_written (pairs (map member ds)))) (drop_all i fs h) ∙ then_pairs-none found)
 
 pub stated_member : (all : Option Pairs) (found new : List Member) (fs : List Field) (i : ℕ) (f : Field) (name : List ℕ) (k : Json) (o : Option Json) → all ≡ with_pairs found (pairs_stated (pairs (map member (drop i fs)))) → i < length fs → f ≡ get_or fs i f
     → is_special f.name ≡ false → name ≡ f.name → o ≡ stated (json f.value) → o ≡ Some k → new ≡ found ++ (name, k) ∷ [] → all ≡ with_pairs new (pairs_stated (pairs (map member (drop (i + 1) fs))))
@@ -89,4 +84,4 @@ stated_member all found new fs i f name k o a h is plain e s t n =
 
 pub stated_members : (found : List Member) (fs : List Field) (ms : List Member) (i : ℕ) → map member fs ≡ ms → length fs ≤ i → pairs_stated (pairs (map member fs)) ≡ with_pairs found (pairs_stated (pairs (map member (drop i fs)))) → Some (pairs found) ≡ pairs_stated (pairs ms)
 stated_members found fs ms i e h a =
-    sym (ap (λ ns. pairs_stated (pairs ns)) (sym e) ∙ a ∙ ap (λ ds. with_pairs found (pairs_stated (pairs (map member ds)))) (drop_end fs i h) ∙ ap Some (then_pairs-none found))
+    sym (ap (λ ns. pairs_stated (pairs ns)) (sym e) ∙ a ∙ ap (λ ds. with_pairs found (pairs_stated (pairs (map member ds)))) (drop_all i fs h) ∙ ap Some (then_pairs-none found))

@@ -7,6 +7,7 @@
 
 mod brackets;
 mod literals;
+mod resources;
 mod resource;
 
 pub use resource::Resource;

@@ -2,3 +2,4 @@ pub mod Words
 pub mod BracketLemmas
 pub mod LiteralLemmas
 pub mod LoopLemmas
+pub mod WriteLemmas

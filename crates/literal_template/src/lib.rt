@@ -7,7 +7,11 @@
 
 mod brackets;
 mod literals;
+mod reader;
 mod resources;
+mod schema;
+mod writer;
 mod resource;
 
 pub use resource::Resource;
+pub use writer::write;

@@ -1,0 +1,211 @@
+// The resources that a template states.
+ghost use Rattle.std.specs.Prelude.{◌≡◌, ◌≢◌, List, Some, None, chars, codes, option_map, is_some, IfOk, IfErr};
+ghost use Rattle.std.specs.List.{AllByRecursion};
+ghost use Rattle.arm_value.specs.View.{json};
+ghost use Rattle.arm_value.specs.Json.{row, pairs};
+ghost use Rattle.arm_value.specs.Look.{look_in};
+ghost use Rattle.literal_template.specs.Brackets.{stated_text};
+ghost use Rattle.literal_template.specs.Literals.{pairs_stated};
+ghost use Rattle.literal_template.specs.Template.{text_of, body_members, with_parts, resource_with, resource_of, resources_of, resources_in, names_schema, has_three, template_with, template_of};
+
+use crate::brackets::stated_text;
+use crate::literals::{is_special, stated};
+use crate::resource::Resource;
+use crate::resources::{has_directive, heads, is_deployment, is_head};
+use crate::schema::is_schema;
+use arm_value::{Fields, Items, OutOfMemory, Text, Value};
+use std::alloc::Global;
+
+// The text that the value is, where it is one.
+fn as_text(value: &Value) -> Option<&Text>
+    ensures { option_map (λ t. t.now) result ≡ text_of (Some (json value.now)) }
+{
+    match value {
+        Value::Text(text) => Some(text),
+        Value::Null => None,
+        Value::Bool(_) => None,
+        Value::Int(_) => None,
+        Value::Array(_) => None,
+        Value::Object(_) => None,
+    }
+}
+
+// The text at the name, where there is one.
+fn text_at<'a>(fields: &'a Fields, name: &str) -> Option<&'a Text>
+    ensures { option_map (λ t. t.now) result ≡ text_of (look_in (chars name.now) (pairs fields.now)) }
+{
+    match fields.look(name) {
+        Some(value) => as_text(value),
+        None => None,
+    }
+}
+
+// The body that these members of a resource state: all but type, version and name.
+fn body(alloc: Global, fields: &Fields) -> Result<Option<Fields>, OutOfMemory>
+    ensures { IfOk result (λ o. option_map pairs o ≡ pairs_stated (body_members (pairs fields.now))) }
+{
+    let mut found = Fields::new();
+    for field in fields.as_slice() {
+        if is_head(&field.name) {
+            continue;
+        }
+        if is_special(&field.name) {
+            return Ok(None);
+        }
+        let name = field.name.copy(alloc)?;
+        match stated(alloc, &field.value)? {
+            Some(value) => found.push_last(alloc, name, value)?,
+            None => return Ok(None),
+        }
+    }
+    Ok(Some(found))
+}
+
+// The resource of this type, version and name, with the body that the members state.
+fn with_parts(
+    alloc: Global,
+    kind: &Text,
+    api: &Text,
+    name: &Text,
+    fields: &Fields,
+) -> Result<Option<Resource>, OutOfMemory>
+    ensures { IfOk result (λ o. o ≡ with_parts kind.now api.now (stated_text name.now)
+        (pairs_stated (body_members (pairs fields.now)))) }
+{
+    if is_deployment(kind) {
+        return Ok(None);
+    }
+    let Some(name) = stated_text(alloc, name)? else {
+        return Ok(None);
+    };
+    let Some(body) = body(alloc, fields)? else {
+        return Ok(None);
+    };
+    Ok(Some(Resource {
+        kind: kind.copy(alloc)?,
+        api: api.copy(alloc)?,
+        name,
+        body,
+    }))
+}
+
+// The resource of these members, where they state one.
+fn resource_with(alloc: Global, fields: &Fields) -> Result<Option<Resource>, OutOfMemory>
+    ensures { IfOk result (λ o. o ≡ resource_with (pairs fields.now)) }
+{
+    if has_directive(fields) {
+        return Ok(None);
+    }
+    if heads(fields) != 3 {
+        return Ok(None);
+    }
+    let Some(kind) = text_at(fields, "type") else {
+        return Ok(None);
+    };
+    let Some(api) = text_at(fields, "apiVersion") else {
+        return Ok(None);
+    };
+    let Some(name) = text_at(fields, "name") else {
+        return Ok(None);
+    };
+    with_parts(alloc, kind, api, name, fields)
+}
+
+// The resource that the value states, where it states one.
+fn resource_of(alloc: Global, value: &Value) -> Result<Option<Resource>, OutOfMemory>
+    ensures { IfOk result (λ o. o ≡ resource_of (json value.now)) }
+{
+    match value {
+        Value::Object(fields) => resource_with(alloc, fields),
+        Value::Null => Ok(None),
+        Value::Bool(_) => Ok(None),
+        Value::Int(_) => Ok(None),
+        Value::Text(_) => Ok(None),
+        Value::Array(_) => Ok(None),
+    }
+}
+
+// The resources that the items state, where each of them states one.
+fn resources_of(alloc: Global, items: &Items) -> Result<Option<Vec<Resource>>, OutOfMemory>
+    ensures { IfOk result (λ o. option_map (λ rs. rs.items) o ≡ resources_of (row items.now)) }
+{
+    let mut found = Vec::new(alloc);
+    for item in items.as_slice() {
+        match resource_of(alloc, item)? {
+            Some(resource) => found.push(resource)?,
+            None => return Ok(None),
+        }
+    }
+    Ok(Some(found))
+}
+
+// The resources that the value states as an array of such.
+fn resources_in(alloc: Global, value: &Value) -> Result<Option<Vec<Resource>>, OutOfMemory>
+    ensures { IfOk result (λ o. option_map (λ rs. rs.items) o ≡ resources_in (Some (json value.now))) }
+{
+    match value {
+        Value::Array(items) => resources_of(alloc, items),
+        Value::Null => Ok(None),
+        Value::Bool(_) => Ok(None),
+        Value::Int(_) => Ok(None),
+        Value::Text(_) => Ok(None),
+        Value::Object(_) => Ok(None),
+    }
+}
+
+// Whether the members name a schema of templates.
+fn names_schema(alloc: Global, fields: &Fields) -> Result<bool, OutOfMemory>
+    ensures { IfOk result (λ b. b ≡ names_schema (text_of (look_in (codes "$schema") (pairs fields.now)))) }
+{
+    match text_at(fields, "$schema") {
+        Some(address) => is_schema(alloc, address),
+        None => Ok(false),
+    }
+}
+
+// Whether the members have a version of the template's content.
+fn has_version(fields: &Fields) -> bool
+    ensures { result ≡ is_some (text_of (look_in (codes "contentVersion") (pairs fields.now))) }
+{
+    text_at(fields, "contentVersion").is_some()
+}
+
+// Whether there are three members.
+fn has_three(fields: &Fields) -> bool
+    ensures { result ≡ has_three (pairs fields.now) }
+{
+    fields.len() == 3
+}
+
+// The resources that a template of these members states, where it is a literal one.
+fn template_with(alloc: Global, fields: &Fields) -> Result<Option<Vec<Resource>>, OutOfMemory>
+    ensures { IfOk result (λ o. option_map (λ rs. rs.items) o ≡ template_with (pairs fields.now)) }
+{
+    if !has_three(fields) {
+        return Ok(None);
+    }
+    if !names_schema(alloc, fields)? {
+        return Ok(None);
+    }
+    if !has_version(fields) {
+        return Ok(None);
+    }
+    match fields.look("resources") {
+        Some(value) => resources_in(alloc, value),
+        None => Ok(None),
+    }
+}
+
+/// The resources that the value states as a template, where it is a literal one.
+pub fn template_of(alloc: Global, value: &Value) -> Result<Option<Vec<Resource>>, OutOfMemory>
+    ensures { IfOk result (λ o. option_map (λ rs. rs.items) o ≡ template_of (json value.now)) }
+{
+    match value {
+        Value::Object(fields) => template_with(alloc, fields),
+        Value::Null => Ok(None),
+        Value::Bool(_) => Ok(None),
+        Value::Int(_) => Ok(None),
+        Value::Text(_) => Ok(None),
+        Value::Array(_) => Ok(None),
+    }
+}

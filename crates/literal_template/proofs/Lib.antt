@@ -3,3 +3,4 @@ pub mod BracketLemmas
 pub mod LiteralLemmas
 pub mod LoopLemmas
 pub mod WriteLemmas
+pub mod ReadLemmas

@@ -108,7 +108,7 @@ fn resource_with(alloc: Global, fields: &Fields) -> Result<Option<Resource>, Out
     let Some(name) = text_at(fields, "name") else {
         return Ok(None);
     };
-    with_parts(alloc, kind, api, name, fields)
+    Ok(with_parts(alloc, kind, api, name, fields)?)
 }
 
 // The resource that the value states, where it states one.
@@ -158,7 +158,7 @@ fn names_schema(alloc: Global, fields: &Fields) -> Result<bool, OutOfMemory>
     ensures { IfOk result (λ b. b ≡ names_schema (text_of (look_in (codes "$schema") (pairs fields.now)))) }
 {
     match text_at(fields, "$schema") {
-        Some(address) => is_schema(alloc, address),
+        Some(address) => Ok(is_schema(alloc, address)?),
         None => Ok(false),
     }
 }
@@ -191,7 +191,7 @@ fn template_with(alloc: Global, fields: &Fields) -> Result<Option<Vec<Resource>>
         return Ok(None);
     }
     match fields.look("resources") {
-        Some(value) => resources_in(alloc, value),
+        Some(value) => Ok(resources_in(alloc, value)?),
         None => Ok(None),
     }
 }

@@ -4,3 +4,4 @@ pub mod LiteralLemmas
 pub mod LoopLemmas
 pub mod WriteLemmas
 pub mod ReadLemmas
+pub mod WrittenStated

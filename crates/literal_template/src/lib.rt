@@ -7,6 +7,7 @@
 
 mod brackets;
 mod literals;
+pub mod laws;
 mod reader;
 mod resources;
 mod schema;

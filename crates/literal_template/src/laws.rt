@@ -1,0 +1,7 @@
+// What holds of literal templates. A law has no body: its contract is the law.
+ghost use Rattle.literal_template.specs.Template.{WrittenIsStated};
+
+/// A written template states the resources that it was written for.
+pub fn written_is_stated()
+    ensures { WrittenIsStated }
+{}

@@ -2,6 +2,7 @@
 ghost use Rattle.std.specs.Prelude.{◌≡◌, IfOk, chars, codes, bytes_eq, option_map};
 ghost use Rattle.arm_value.specs.View.{json};
 ghost use Rattle.arm_value.specs.Json.{row, pairs};
+ghost use Rattle.literal_template.specs.Whole.{IsWhole, RowIsWhole, PairsAreWhole};
 ghost use Rattle.literal_template.specs.Literals.{is_special, written, row_written, pairs_written, stated, row_stated, pairs_stated};
 
 use crate::brackets::{escaped, is_bracketed, stated_text};
@@ -26,7 +27,8 @@ pub fn is_special(name: &Text) -> bool
 /// The value with its texts as a template writes them.
 #[cycle(written)]
 pub fn written(alloc: Global, value: &Value) -> Result<Value, OutOfMemory>
-    ensures { IfOk result (λ v. json v ≡ written (json value.now)) }
+    ensures value { IfOk result (λ v. json v ≡ written (json value.now)) }
+    ensures whole { IfOk result (λ v. IsWhole (json v)) }
 {
     match value {
         Value::Null => Ok(Value::Null),
@@ -40,7 +42,8 @@ pub fn written(alloc: Global, value: &Value) -> Result<Value, OutOfMemory>
 
 #[cycle(written)]
 fn items_written(alloc: Global, items: &Items) -> Result<Items, OutOfMemory>
-    ensures { IfOk result (λ js. row js ≡ row_written (row items.now)) }
+    ensures items { IfOk result (λ js. row js ≡ row_written (row items.now)) }
+    ensures whole { IfOk result (λ js. RowIsWhole (row js)) }
 {
     let mut found = Items::new();
     for item in items.as_slice() {
@@ -52,7 +55,8 @@ fn items_written(alloc: Global, items: &Items) -> Result<Items, OutOfMemory>
 /// The members with the texts of their values as a template writes them.
 #[cycle(written)]
 pub fn fields_written(alloc: Global, fields: &Fields) -> Result<Fields, OutOfMemory>
-    ensures { IfOk result (λ ms. pairs ms ≡ pairs_written (pairs fields.now)) }
+    ensures members { IfOk result (λ ms. pairs ms ≡ pairs_written (pairs fields.now)) }
+    ensures whole { IfOk result (λ ms. PairsAreWhole (pairs ms)) }
 {
     let mut found = Fields::new();
     for field in fields.as_slice() {

@@ -1,6 +1,8 @@
-use Rattle.std.proofs.Common.{◌≤◌, arith}
-use Rattle.arm_value.specs.Json.{nesting}
+use Rattle.std.proofs.Common.{◌≤◌, arith, subst, sym}
+use Rattle.arm_value.specs.Json.{nesting, row, pairs}
 use Rattle.arm_value.specs.View.{json}
+use Rattle.literal_template.specs.Whole.{RowIsWhole, PairsAreWhole}
+use Rattle.literal_template.proofs.WholeLemmas.{RowIsWhole-push, PairsAreWhole-push}
 use Rattle.literal_template.proofs.LoopLemmas.{item_within, member_within, written_within, written_item, written_items, member_last, members_ordered, written_member, written_members}
 use Rattle.literal_template.proofs.literals.+written.Goals as goal
 
@@ -12,14 +14,16 @@ items_written-written-requires t c =
 pub items_written-push-requires : goal.items_written-push-requires
 items_written-push-requires t c =
     let h = item_within c.as_slice-item-items.result.now c.args.items.now c.loop-item.item-index c.item-item.result c.as_slice-item-items.ensures.items c.loop-item-test.true c.item-item.is in
-    written_within (json c.item-item.result) _ 119 c.in_ok-written.ensures (omega (arith, h, c.as_slice-item-items.ensures.rules.1))
+    written_within (json c.item-item.result) _ 119 c.in_ok-written.ensures.value (omega (arith, h, c.as_slice-item-items.ensures.rules.1))
 
 pub items_written-loop-item-preserved : goal.items_written-loop-item-preserved
-items_written-loop-item-preserved t c =
-    written_item _ c.loop-item.found c.push.new.self c.as_slice-item-items.result.now c.loop-item.item-index c.item-item.result _ c.loop-item.invariant c.loop-item-test.true c.item-item.is c.in_ok-written.ensures c.in_ok-push.ensures
+items_written-loop-item-preserved t c = record {
+  all = written_item _ c.loop-item.found c.push.new.self c.as_slice-item-items.result.now c.loop-item.item-index c.item-item.result _ c.loop-item.invariant.all c.loop-item-test.true c.item-item.is c.in_ok-written.ensures.value c.in_ok-push.ensures;
+  whole = subst (λ js. RowIsWhole (row js)) (sym c.in_ok-push.ensures) (RowIsWhole-push c.loop-item.found _ c.loop-item.invariant.whole c.in_ok-written.ensures.whole);
+}
 
-pub items_written-returns : goal.items_written-returns
-items_written-returns t c = written_items c.loop-item.found c.as_slice-item-items.result.now c.args.items.now c.loop-item.item-index c.as_slice-item-items.ensures.items c.loop-item-test.false c.loop-item.invariant
+pub items_written-returns-clause-items : goal.items_written-returns-clause-items
+items_written-returns-clause-items t c = written_items c.loop-item.found c.as_slice-item-items.result.now c.args.items.now c.loop-item.item-index c.as_slice-item-items.ensures.items c.loop-item-test.false c.loop-item.invariant.all
 
 pub fields_written-written-requires : goal.fields_written-written-requires
 fields_written-written-requires t c =
@@ -29,7 +33,7 @@ fields_written-written-requires t c =
 pub fields_written-push_last-requires-clause-nests : goal.fields_written-push_last-requires-clause-nests
 fields_written-push_last-requires-clause-nests t c =
     let h = member_within c.as_slice-field-items.result.now c.args.fields.now c.loop-field.field-index c.field-item.result c.as_slice-field-items.ensures.members c.loop-field-test.true c.field-item.is in
-    written_within (json c.field-item.result.value) _ 119 c.in_ok-value.ensures (omega (arith, h, c.as_slice-field-items.ensures.rules.2))
+    written_within (json c.field-item.result.value) _ 119 c.in_ok-value.ensures.value (omega (arith, h, c.as_slice-field-items.ensures.rules.2))
 
 pub fields_written-push_last-requires-clause-last : goal.fields_written-push_last-requires-clause-last
 fields_written-push_last-requires-clause-last t c =
@@ -37,9 +41,10 @@ fields_written-push_last-requires-clause-last t c =
 
 pub fields_written-loop-field-preserved : goal.fields_written-loop-field-preserved
 fields_written-loop-field-preserved t c = record {
-  all = written_member _ c.loop-field.found c.push_last.new.self c.as_slice-field-items.result.now c.loop-field.field-index c.field-item.result c.in_ok-name.name (json c.in_ok-value.value) c.loop-field.invariant.all c.loop-field-test.true c.field-item.is c.in_ok-name.ensures c.in_ok-value.ensures c.in_ok-push_last.ensures;
+  all = written_member _ c.loop-field.found c.push_last.new.self c.as_slice-field-items.result.now c.loop-field.field-index c.field-item.result c.in_ok-name.name (json c.in_ok-value.value) c.loop-field.invariant.all c.loop-field-test.true c.field-item.is c.in_ok-name.ensures c.in_ok-value.ensures.value c.in_ok-push_last.ensures;
   ordered = members_ordered c.loop-field.found c.push_last.new.self c.as_slice-field-items.result.now c.loop-field.field-index c.field-item.result c.in_ok-name.name (json c.in_ok-value.value) c.loop-field.invariant.ordered c.loop-field-test.true c.field-item.is c.in_ok-name.ensures c.in_ok-push_last.ensures;
+  whole = subst (λ ms. PairsAreWhole (pairs ms)) (sym c.in_ok-push_last.ensures) (PairsAreWhole-push c.loop-field.found (c.in_ok-name.name, json c.in_ok-value.value) c.loop-field.invariant.whole c.in_ok-value.ensures.whole);
 }
 
-pub fields_written-returns : goal.fields_written-returns
-fields_written-returns t c = written_members c.loop-field.found c.as_slice-field-items.result.now c.args.fields.now c.loop-field.field-index c.as_slice-field-items.ensures.members c.loop-field-test.false c.loop-field.invariant.all
+pub fields_written-returns-clause-members : goal.fields_written-returns-clause-members
+fields_written-returns-clause-members t c = written_members c.loop-field.found c.as_slice-field-items.result.now c.args.fields.now c.loop-field.field-index c.as_slice-field-items.ensures.members c.loop-field-test.false c.loop-field.invariant.all

@@ -6,3 +6,4 @@ pub mod WholeLemmas
 pub mod WriteLemmas
 pub mod ReadLemmas
 pub mod WrittenStated
+pub mod StateOne

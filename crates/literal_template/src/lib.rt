@@ -14,5 +14,6 @@ mod schema;
 mod writer;
 mod resource;
 
+pub use reader::{TemplateFault, read};
 pub use resource::Resource;
 pub use writer::write;

@@ -6,15 +6,40 @@ ghost use Rattle.arm_value.specs.Json.{row, pairs};
 ghost use Rattle.arm_value.specs.Look.{look_in};
 ghost use Rattle.literal_template.specs.Brackets.{stated_text};
 ghost use Rattle.literal_template.specs.Literals.{pairs_stated};
-ghost use Rattle.literal_template.specs.Template.{text_of, body_members, with_parts, resource_with, resource_of, resources_of, resources_in, names_schema, has_three, template_with, template_of};
+ghost use Rattle.literal_template.specs.Template.{text_of, body_members, with_parts, resource_with, resource_of, resources_of, resources_in, names_schema, has_three, template_with, template_of, StatedBy};
+ghost use Rattle.literal_template.specs.declared.resource.Resource.{Resource};
+ghost use Rattle.literal_template.specs.declared.reader.TemplateFault.TheVariants.{NotLiteral, OutOfMemory};
 
 use crate::brackets::stated_text;
 use crate::literals::{is_special, stated};
 use crate::resource::Resource;
 use crate::resources::{has_directive, heads, is_deployment, is_head};
 use crate::schema::is_schema;
-use arm_value::{Fields, Items, OutOfMemory, Text, Value};
-use std::alloc::Global;
+use arm_value::{Fields, Items, JsonFault, OutOfMemory, Text, Value};
+use std::alloc::{AllocError, Global};
+use thiserror::Error;
+
+/// Why bytes state no literal template.
+#[derive(Debug, Drop, Error)]
+pub enum TemplateFault {
+    /// The bytes state no literal template.
+    #[error("no literal template")]
+    NotLiteral,
+    /// Want of memory.
+    #[error("out of memory")]
+    OutOfMemory,
+}
+
+impl From<AllocError> for TemplateFault {
+    ghost use Rattle.std.specs.Prelude.{◌≡◌};
+    ghost use Rattle.literal_template.specs.declared.reader.TemplateFault.TheVariants.{OutOfMemory};
+
+    ghost from_gives = { λ _ e. e ≡ OutOfMemory };
+
+    fn from(_refused: AllocError) -> TemplateFault {
+        TemplateFault::OutOfMemory
+    }
+}
 
 // The text that the value is, where it is one.
 fn as_text(value: &Value) -> Option<&Text>
@@ -196,8 +221,8 @@ fn template_with(alloc: Global, fields: &Fields) -> Result<Option<Vec<Resource>>
     }
 }
 
-/// The resources that the value states as a template, where it is a literal one.
-pub fn template_of(alloc: Global, value: &Value) -> Result<Option<Vec<Resource>>, OutOfMemory>
+// The resources that the value states as a template, where it is a literal one.
+fn template_of(alloc: Global, value: &Value) -> Result<Option<Vec<Resource>>, OutOfMemory>
     ensures { IfOk result (λ o. option_map (λ rs. rs.items) o ≡ template_of (json value.now)) }
 {
     match value {
@@ -207,5 +232,35 @@ pub fn template_of(alloc: Global, value: &Value) -> Result<Option<Vec<Resource>>
         Value::Int(_) => Ok(None),
         Value::Text(_) => Ok(None),
         Value::Array(_) => Ok(None),
+    }
+}
+
+/// The resources that a literal template states, in their order.
+///
+/// A literal template is JSON as `Value::from_json` reads it: an object with a `$schema`, a
+/// `contentVersion` and an array of `resources`, and nothing else. Each resource has its `type`,
+/// `apiVersion` and `name` as texts, no directive such as `condition` or `copy`, and values in
+/// which no text is an expression and no object has a member `copy` or one in brackets. A text
+/// that begins with `[[` and ends with `]` is read without its first `[`; any other text in
+/// brackets is an expression. Names of members are found in letters of any case.
+///
+/// `NotLiteral` is answered exactly to bytes that state no literal template.
+pub fn read(alloc: Global, bytes: &[u8]) -> Result<Vec<Resource>, TemplateFault>
+    ensures stated { IfOk result (λ rs. StatedBy bytes.now rs.items) }
+    ensures refused { IfErr result (λ f. f ≡ NotLiteral → (rs : List Resource)
+        → StatedBy bytes.now rs → ⊥) }
+
+    // What states resources, as what `write` gave does, is read as these, unless memory runs out.
+    ensures written { (p : List Resource) → StatedBy bytes.now p
+        → IfOk result (λ rs. rs.items ≡ p) × IfErr result (λ f. f ≡ OutOfMemory) }
+{
+    let value = match Value::from_json(alloc, bytes) {
+        Ok(value) => value,
+        Err(JsonFault::OutOfMemory) => return Err(TemplateFault::OutOfMemory),
+        Err(_) => return Err(TemplateFault::NotLiteral),
+    };
+    match template_of(alloc, &value)? {
+        Some(resources) => Ok(resources),
+        None => Err(TemplateFault::NotLiteral),
     }
 }

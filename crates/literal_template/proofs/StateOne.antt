@@ -1,0 +1,151 @@
+-- No bytes state two lists of resources.
+use Rattle.std.proofs.Common.{◌≡◌, ◌≤◌, ◌<◌, ℕ, suc, ℤ, pos, negsuc, Bool, true, false, true≢false, List, [], ◌∷◌, Option, Some, None, encode_utf8_all, refl, sym, ap, ap₂, ◌∙◌, subst, arith}
+use Rattle.std.specs.Prelude.{IsSomeAnd}
+use Rattle.std.proofs.lemmas.Str.{encodes_same}
+use Rattle.serde_json.specs.Data as d
+use Rattle.serde_json.specs.Data.{Data, depth}
+use Rattle.serde_json.specs.Find.{of_integer}
+use Rattle.arm_value.specs.Json.{Json, null, bool, int, text, array, object, Row, no_items, item, Pairs, no_pairs, pair}
+use Rattle.arm_value.specs.Reading.{data_of, row_data, pairs_data, reading, not_whole}
+use Rattle.arm_value.specs.Fault.{Gives, Explains}
+use Rattle.arm_value.specs.declared.read.JsonFault.{JsonFault}
+use Rattle.arm_value.specs.declared.read.JsonFault.TheVariants.{NotJson, NotWhole, TooDeep, OutOfMemory}
+use Rattle.literal_template.specs.Template.{template_of, States, StatedBy, StateOneList}
+use Rattle.literal_template.specs.declared.resource.Resource.{Resource}
+
+-- ---- a tree is told by its data
+
+integer_in : d.Num → ℤ
+integer_in (d.unsigned n) = pos n
+integer_in (d.negative z) = z
+integer_in (d.float x) = pos 0
+
+integer_back : (z : ℤ) → integer_in (of_integer z) ≡ z
+integer_back (pos n) = refl
+integer_back (negsuc n) = refl
+
+bool_in : Data → Bool
+bool_in (d.boolean b) = b
+bool_in _ = false
+
+number_in : Data → ℤ
+number_in (d.number n) = integer_in n
+number_in _ = pos 0
+
+text_in : Data → List ℕ
+text_in (d.string s) = s
+text_in _ = []
+
+items_in : Data → d.Items
+items_in (d.array ds) = ds
+items_in _ = d.no_items
+
+members_in : Data → d.Members
+members_in (d.object ms) = ms
+members_in _ = d.no_members
+
+same_kind : Data → Data → Bool
+same_kind d.null d.null = true
+same_kind (d.boolean a) (d.boolean b) = true
+same_kind (d.number a) (d.number b) = true
+same_kind (d.string a) (d.string b) = true
+same_kind (d.array a) (d.array b) = true
+same_kind (d.object a) (d.object b) = true
+same_kind _ _ = false
+
+kind_itself : (x : Data) → same_kind x x ≡ true
+kind_itself d.null = refl
+kind_itself (d.boolean b) = refl
+kind_itself (d.number n) = refl
+kind_itself (d.string s) = refl
+kind_itself (d.array ds) = refl
+kind_itself (d.object ms) = refl
+
+item_in : Data → d.Items → Data
+item_in x d.no_items = x
+item_in x (d.item y ds) = y
+
+later_items : d.Items → d.Items
+later_items d.no_items = d.no_items
+later_items (d.item y ds) = ds
+
+has_item : d.Items → Bool
+has_item d.no_items = false
+has_item (d.item y ds) = true
+
+key_in : d.Members → List ℕ
+key_in d.no_members = []
+key_in (d.member k x ms) = k
+
+value_in : Data → d.Members → Data
+value_in y d.no_members = y
+value_in y (d.member k x ms) = x
+
+later_members : d.Members → d.Members
+later_members d.no_members = d.no_members
+later_members (d.member k x ms) = ms
+
+has_member : d.Members → Bool
+has_member d.no_members = false
+has_member (d.member k x ms) = true
+
+mutual
+  pub data_tells : (v w : Json) → data_of v ≡ data_of w → v ≡ w
+  data_tells null null e = refl
+  data_tells (bool a) (bool b) e = ap bool (ap bool_in e)
+  data_tells (int a) (int b) e = ap int (sym (integer_back a) ∙ ap number_in e ∙ integer_back b)
+  data_tells (text a) (text b) e = ap text (encodes_same a b (ap text_in e))
+  data_tells (array a) (array b) e = ap array (row_tells a b (ap items_in e))
+  data_tells (object a) (object b) e = ap object (pairs_tell a b (ap members_in e))
+  data_tells v w e = absurd (true≢false (sym (kind_itself (data_of v)) ∙ ap (same_kind (data_of v)) e))
+
+  row_tells : (js ks : Row) → row_data js ≡ row_data ks → js ≡ ks
+  row_tells no_items no_items e = refl
+  row_tells no_items (item k ks) e = absurd (true≢false (sym (ap has_item e)))
+  row_tells (item j js) no_items e = absurd (true≢false (ap has_item e))
+  row_tells (item j js) (item k ks) e = ap₂ item (data_tells j k (ap (item_in d.null) e)) (row_tells js ks (ap later_items e))
+
+  pairs_tell : (ms ns : Pairs) → pairs_data ms ≡ pairs_data ns → ms ≡ ns
+  pairs_tell no_pairs no_pairs e = refl
+  pairs_tell no_pairs (pair l k ns) e = absurd (true≢false (sym (ap has_member e)))
+  pairs_tell (pair k j ms) no_pairs e = absurd (true≢false (ap has_member e))
+  pairs_tell (pair k j ms) (pair l i ns) e =
+      let key = encodes_same k l (ap key_in e) in
+      let value = data_tells j i (ap (value_in d.null) e) in
+      let rest = pairs_tell ms ns (ap later_members e) in
+      λ i. pair (key i) (value i) (rest i)
+
+-- ---- bytes
+
+some_in : Data → Option Data → Data
+some_in x None = x
+some_in x (Some y) = y
+
+pub one_value : (o : Option Data) (v w : Json) → Gives o v → Gives o w → v ≡ w
+one_value o v w g h = data_tells v w (ap (some_in d.null) (sym g.0 ∙ h.0))
+
+list_in : Option (List Resource) → List Resource
+list_in None = []
+list_in (Some rs) = rs
+
+-- the value that bytes give states what they state
+pub value_states : (bytes : List ℕ) (v : Json) (rs : List Resource) → Gives (reading bytes) v → StatedBy bytes rs → template_of v ≡ Some rs
+value_states bytes v rs g s = ap template_of (one_value (reading bytes) v s.0 g s.1) ∙ s.2
+
+pub state_one_list : StateOneList
+state_one_list bytes rs ps s t = ap list_in (sym (value_states bytes s.0 rs s.1 s) ∙ value_states bytes s.0 ps s.1 t)
+
+-- ---- bytes that give no value
+
+some_is : (o : Option Data) (x : Data) (P : Data → Type 0) → o ≡ Some x → IsSomeAnd o P → P x
+some_is None x P e h = absurd (cc)
+some_is (Some y) x P e h = subst P (ap (some_in d.null) e) h
+
+-- bytes that have a fault other than want of memory state no resources
+pub no_value : (bytes : List ℕ) (f : JsonFault) (rs : List Resource) → Explains (reading bytes) f → (f ≡ OutOfMemory → ⊥) → StatedBy bytes rs → ⊥
+no_value bytes NotJson rs h n s = let e = sym h ∙ s.1.0 in cc
+no_value bytes TooDeep rs h n s = let deep = some_is (reading bytes) (data_of s.0) (λ x. 120 < depth x) s.1.0 h in omega (arith, deep, s.1.1)
+no_value bytes (NotWhole path) rs h n s =
+    let found = some_is (reading bytes) (data_of s.0) (λ x. (depth x ≤ 120) × (not_whole x ≡ Some path)) s.1.0 h in
+    let e = sym found.1 ∙ s.1.2 in cc
+no_value bytes OutOfMemory rs h n s = n refl

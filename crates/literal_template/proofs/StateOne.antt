@@ -15,7 +15,7 @@ use Rattle.literal_template.specs.declared.resource.Resource.{Resource}
 
 -- ---- a tree is told by its data
 
-integer_in : d.Num → ℤ
+abbrev integer_in : d.Num → ℤ
 integer_in (d.unsigned n) = pos n
 integer_in (d.negative z) = z
 integer_in (d.float x) = pos 0
@@ -24,27 +24,27 @@ integer_back : (z : ℤ) → integer_in (of_integer z) ≡ z
 integer_back (pos n) = refl
 integer_back (negsuc n) = refl
 
-bool_in : Data → Bool
+abbrev bool_in : Data → Bool
 bool_in (d.boolean b) = b
 bool_in _ = false
 
-number_in : Data → ℤ
+abbrev number_in : Data → ℤ
 number_in (d.number n) = integer_in n
 number_in _ = pos 0
 
-text_in : Data → List ℕ
+abbrev text_in : Data → List ℕ
 text_in (d.string s) = s
 text_in _ = []
 
-items_in : Data → d.Items
+abbrev items_in : Data → d.Items
 items_in (d.array ds) = ds
 items_in _ = d.no_items
 
-members_in : Data → d.Members
+abbrev members_in : Data → d.Members
 members_in (d.object ms) = ms
 members_in _ = d.no_members
 
-same_kind : Data → Data → Bool
+abbrev same_kind : Data → Data → Bool
 same_kind d.null d.null = true
 same_kind (d.boolean a) (d.boolean b) = true
 same_kind (d.number a) (d.number b) = true
@@ -61,31 +61,31 @@ kind_itself (d.string s) = refl
 kind_itself (d.array ds) = refl
 kind_itself (d.object ms) = refl
 
-item_in : Data → d.Items → Data
+abbrev item_in : Data → d.Items → Data
 item_in x d.no_items = x
 item_in x (d.item y ds) = y
 
-later_items : d.Items → d.Items
+abbrev later_items : d.Items → d.Items
 later_items d.no_items = d.no_items
 later_items (d.item y ds) = ds
 
-has_item : d.Items → Bool
+abbrev has_item : d.Items → Bool
 has_item d.no_items = false
 has_item (d.item y ds) = true
 
-key_in : d.Members → List ℕ
+abbrev key_in : d.Members → List ℕ
 key_in d.no_members = []
 key_in (d.member k x ms) = k
 
-value_in : Data → d.Members → Data
+abbrev value_in : Data → d.Members → Data
 value_in y d.no_members = y
 value_in y (d.member k x ms) = x
 
-later_members : d.Members → d.Members
+abbrev later_members : d.Members → d.Members
 later_members d.no_members = d.no_members
 later_members (d.member k x ms) = ms
 
-has_member : d.Members → Bool
+abbrev has_member : d.Members → Bool
 has_member d.no_members = false
 has_member (d.member k x ms) = true
 
@@ -117,14 +117,14 @@ mutual
 
 -- ---- bytes
 
-some_in : Data → Option Data → Data
+abbrev some_in : Data → Option Data → Data
 some_in x None = x
 some_in x (Some y) = y
 
 pub one_value : (o : Option Data) (v w : Json) → Gives o v → Gives o w → v ≡ w
 one_value o v w g h = data_tells v w (ap (some_in d.null) (sym g.0 ∙ h.0))
 
-list_in : Option (List Resource) → List Resource
+abbrev list_in : Option (List Resource) → List Resource
 list_in None = []
 list_in (Some rs) = rs
 
@@ -149,3 +149,13 @@ no_value bytes (NotWhole path) rs h n s =
     let found = some_is (reading bytes) (data_of s.0) (λ x. (depth x ≤ 120) × (not_whole x ≡ Some path)) s.1.0 h in
     let e = sym found.1 ∙ s.1.2 in cc
 no_value bytes OutOfMemory rs h n s = n refl
+
+-- ---- what is answered
+
+-- a value that states no template
+pub states_none : (bytes : List ℕ) (v : Json) (o : Option (List Resource)) (rs : List Resource) → Gives (reading bytes) v → o ≡ template_of v → o ≡ None → StatedBy bytes rs → ⊥
+states_none bytes v o rs g e n s = let h = sym n ∙ e ∙ value_states bytes v rs g s in cc
+
+-- a value that states these
+pub states_these : (bytes : List ℕ) (v : Json) (o : Option (List Resource)) (found rs : List Resource) → Gives (reading bytes) v → o ≡ template_of v → o ≡ Some found → StatedBy bytes rs → found ≡ rs
+states_these bytes v o found rs g e n s = ap list_in (sym n ∙ e ∙ value_states bytes v rs g s)

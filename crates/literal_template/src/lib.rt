@@ -8,12 +8,14 @@
 mod brackets;
 mod literals;
 pub mod laws;
+mod plain;
 mod reader;
 mod resources;
 mod schema;
 mod writer;
 mod resource;
 
+pub use plain::are_literal;
 pub use reader::{TemplateFault, read};
 pub use resource::Resource;
 pub use writer::write;

@@ -20,7 +20,7 @@ use std::alloc::{AllocError, Global};
 use thiserror::Error;
 
 /// Why bytes state no literal template.
-#[derive(Debug, Drop, Error)]
+#[derive(Clone, Copy, Debug, PartialEq, Eq, Error)]
 pub enum TemplateFault {
     /// The bytes state no literal template.
     #[error("no literal template")]
@@ -251,8 +251,9 @@ pub fn read(alloc: Global, bytes: &[u8]) -> Result<Vec<Resource>, TemplateFault>
         → StatedBy bytes.now rs → ⊥) }
 
     // What states resources, as what `write` gave does, is read as these, unless memory runs out.
-    ensures written { (p : List Resource) → StatedBy bytes.now p
-        → IfOk result (λ rs. rs.items ≡ p) × IfErr result (λ f. f ≡ OutOfMemory) }
+    ensures written { (p : List Resource) → StatedBy bytes.now p → IfOk result (λ rs. rs.items ≡ p) }
+    ensures unrefused { (p : List Resource) → StatedBy bytes.now p
+        → IfErr result (λ f. f ≡ OutOfMemory) }
 {
     let value = match Value::from_json(alloc, bytes) {
         Ok(value) => value,

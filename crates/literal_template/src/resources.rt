@@ -64,6 +64,18 @@ pub fn is_deployment(kind: &Text) -> bool
     is_same(kind.as_str(), "Microsoft.Resources/deployments")
 }
 
+/// Whether one of the members is no part of a body.
+pub fn has_head(fields: &Fields) -> bool
+    ensures { result ≡ list_any is_head (pair_keys (pairs fields.now)) }
+{
+    for field in fields.as_slice() {
+        if is_head(&field.name) {
+            return true;
+        }
+    }
+    false
+}
+
 /// Whether one of the members is a directive.
 pub fn has_directive(fields: &Fields) -> bool
     ensures { result ≡ list_any is_directive (pair_keys (pairs fields.now)) }

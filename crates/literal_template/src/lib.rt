@@ -1,21 +1,25 @@
 //! Templates whose resources are literals: how they are written, and what they state.
 //!
-//! A caller may rely on it that a written template states the resources that it was written for.
-//! How a text is written that would be taken for an expression is in `specs/Brackets.antt`, what a template
-//! states in `specs/Template.antt`.
+//! A caller may rely on it that what is written for resources states these and no others, and that
+//! what bytes state is read from them. How a text is written that would be taken for an expression
+//! is in `specs/Brackets.antt`, which resources can be written in `specs/Resources.antt`, and what
+//! a template states in `specs/Template.antt`. What holds of all templates is in `laws`.
 #![tactic(auto)]
 
 mod brackets;
-mod literals;
 pub mod laws;
+mod literals;
 mod plain;
 mod reader;
+mod resource;
 mod resources;
 mod schema;
 mod writer;
-mod resource;
 
 pub use plain::are_literal;
 pub use reader::{TemplateFault, read};
 pub use resource::Resource;
 pub use writer::write;
+
+#[cfg(test)]
+mod tests;

@@ -12,7 +12,8 @@ fn ends_as_schema(address: &[u8]) -> bool
     ensures { result ≡ (ends_with nat_eq address.now (codes "/deploymenttemplate.json")
         || ends_with nat_eq address.now (codes "/deploymenttemplate.json#")) }
 {
-    address.ends_with(b"/deploymenttemplate.json") || address.ends_with(b"/deploymenttemplate.json#")
+    address.ends_with(b"/deploymenttemplate.json")
+        || address.ends_with(b"/deploymenttemplate.json#")
 }
 
 // The text in small letters.

@@ -32,27 +32,60 @@ fn template(alloc: Global, resources: &[Resource]) -> Result<String, Fail> {
     Ok(String::from_utf8(bytes.into_vec())?)
 }
 
+// The template of one resource, or that there is none.
+fn template_of(
+    alloc: Global,
+    kind: &str,
+    api: &str,
+    name: &str,
+    body: &str,
+) -> Result<String, Fail> {
+    let mut resources = Vec::new(alloc);
+    resources.push(resource(alloc, kind, api, name, body)?)?;
+    template(alloc, resources.as_slice())
+}
+
+// The members as JSON.
+fn json_of(alloc: Global, members: Fields) -> Result<String, Fail> {
+    let bytes = Value::Object(members).to_json(alloc)?;
+    Ok(String::from_utf8(bytes.into_vec())?)
+}
+
+// The texts, with a blank behind each.
+fn spaced(alloc: Global, kind: &str, api: &str, name: &str) -> Result<String, Fail> {
+    Ok(format!(in alloc; "{kind} {api} {name} ")?)
+}
+
 // Type, version, name and body of the resource, as text.
 fn shown(alloc: Global, resource: Resource) -> Result<String, Fail> {
-    let body = Value::Object(resource.body).to_json(alloc)?;
-    let body = String::from_utf8(body.into_vec())?;
-    let kind = resource.kind.into_string();
-    let api = resource.api.into_string();
-    let name = resource.name.into_string();
-    Ok(format!(in alloc; "{kind} {api} {name} {body};")?)
+    let mut shown = spaced(
+        alloc,
+        resource.kind.as_str(),
+        resource.api.as_str(),
+        resource.name.as_str(),
+    )?;
+    let body = json_of(alloc, resource.body)?;
+    shown.push_str(body.as_str())?;
+    shown.push(';')?;
+    Ok(shown)
+}
+
+// The resources as text.
+fn all_shown(alloc: Global, resources: Vec<Resource>) -> Result<String, Fail> {
+    let mut all = String::new(alloc);
+    for resource in resources {
+        let shown = shown(alloc, resource)?;
+        all.push_str(shown.as_str())?;
+    }
+    Ok(all)
 }
 
 // What the bytes state, as text, or the fault's message.
 fn told(alloc: Global, bytes: &[u8]) -> Result<String, Fail> {
-    let resources = match read(alloc, bytes) {
-        Ok(resources) => resources,
-        Err(fault) => return Ok(format!(in alloc; "{fault}")?),
-    };
-    let mut told = String::new(alloc);
-    for resource in resources {
-        told.push_str(shown(alloc, resource)?.as_str())?;
+    match read(alloc, bytes) {
+        Ok(resources) => all_shown(alloc, resources),
+        Err(fault) => Ok(format!(in alloc; "{fault}")?),
     }
-    Ok(told)
 }
 
 // What a template of this one resource states.
@@ -66,26 +99,14 @@ fn told_of_one(alloc: Global, resource: &str) -> Result<String, Fail> {
 #[test]
 fn a_template_is_written(rt: HostRuntime) -> Result<(), Fail> {
     let alloc = rt.alloc();
-    let none = template(alloc, &[])?;
     assert_eq!(rt;
-        none.as_str(),
+        template(alloc, &[])?.as_str(),
         "{\"$schema\":\"https://schema.management.azure.com/schemas/2019-04-01/deploymentTemplate.json#\",\"contentVersion\":\"1.0.0.0\",\"resources\":[]}"
     );
-    let one = resource(
-        alloc,
-        "Demo.Lab/things",
-        "2024-01-01",
-        "a",
-        "{\"size\":2}",
-    )?;
-    let written = template(alloc, &[one])?;
+    let written = template_of(alloc, "Demo.Lab/things", "2024-01-01", "a", "{\"size\":2}")?;
     assert_eq!(rt;
         written.as_str(),
         "{\"$schema\":\"https://schema.management.azure.com/schemas/2019-04-01/deploymentTemplate.json#\",\"contentVersion\":\"1.0.0.0\",\"resources\":[{\"apiVersion\":\"2024-01-01\",\"name\":\"a\",\"size\":2,\"type\":\"Demo.Lab/things\"}]}"
-    );
-    assert_eq!(rt;
-        told(alloc, written.as_bytes())?.as_str(),
-        "Demo.Lab/things 2024-01-01 a {\"size\":2};"
     );
     Ok(())
 }
@@ -100,8 +121,8 @@ fn bodies_that_no_template_states_are_told(rt: HostRuntime) -> Result<(), Fail> 
         ("t", "{\"a\":[{\"copy\":1}]}"),
         ("t", "{\"a\":{\"[b]\":1}}"),
     ] {
-        let one = resource(alloc, kind, "1", "n", body)?;
-        assert_eq!(rt; template(alloc, &[one])?.as_str(), "no literals", "at {body}");
+        let written = template_of(alloc, kind, "1", "n", body)?;
+        assert_eq!(rt; written.as_str(), "no literals", "at {body}");
     }
     Ok(())
 }
@@ -111,36 +132,53 @@ fn body_of(alloc: Global, text: &str) -> Result<String, Fail> {
     Ok(format!(in alloc; "{{\"a\":\"{text}\",\"b\":[\"{text}\",{{\"c\":\"{text}\"}}]}}")?)
 }
 
-// What is written where the text is the name and stands in the body, and what that states.
-fn back(alloc: Global, text: &str) -> Result<(String, String), Fail> {
+// The name as it is spelled in the template of a resource with this name, with a quote before it.
+fn spelled(alloc: Global, text: &str) -> Result<String, Fail> {
     let body = body_of(alloc, text)?;
-    let one = resource(alloc, "t", "1", text, body.as_str())?;
-    let written = template(alloc, &[one])?;
-    let told = told(alloc, written.as_bytes())?;
-    Ok((written, told))
+    let written = template_of(alloc, "t", "1", text, body.as_str())?;
+    match written.as_str().split_once("\"name\":") {
+        Some((_before, name)) => match name.split_once("\",") {
+            Some((name, _behind)) => Ok(String::from_str(alloc, name)?),
+            None => Ok(String::new(alloc)),
+        },
+        None => Ok(String::new(alloc)),
+    }
+}
+
+// What is read of the template of a resource whose name is the text, and whose body holds it.
+fn back(alloc: Global, text: &str) -> Result<String, Fail> {
+    let body = body_of(alloc, text)?;
+    let written = template_of(alloc, "t", "1", text, body.as_str())?;
+    told(alloc, written.as_bytes())
+}
+
+// What is to be read of it.
+fn wanted(alloc: Global, text: &str) -> Result<String, Fail> {
+    let body = body_of(alloc, text)?;
+    Ok(format!(in alloc; "t 1 {text} {body};")?)
 }
 
 #[test]
 fn texts_in_brackets_are_written_and_read_back(rt: HostRuntime) -> Result<(), Fail> {
     let alloc = rt.alloc();
-    for (text, spelled) in [
-        ("[a]", "[[a]"),
-        ("[[a]", "[[[a]"),
-        ("[]", "[[]"),
-        ("[", "["),
-        ("]", "]"),
-        ("[a", "[a"),
-        ("a]", "a]"),
-        ("[[a", "[[a"),
-        ("[\u{e4}]", "[[\u{e4}]"),
-        ("", ""),
+    for (text, name) in [
+        ("[a]", "\"[[a]"),
+        ("[[a]", "\"[[[a]"),
+        ("[]", "\"[[]"),
+        ("[", "\"["),
+        ("]", "\"]"),
+        ("[a", "\"[a"),
+        ("a]", "\"a]"),
+        ("[[a", "\"[[a"),
+        ("[\u{e4}]", "\"[[\u{e4}]"),
+        ("", "\""),
     ] {
-        let (written, told) = back(alloc, text)?;
-        let spelled = format!(in alloc; "\"name\":\"{spelled}\",\"type\"")?;
-        assert!(rt; written.as_str().contains(spelled.as_str()), "at {text}");
-        let body = body_of(alloc, text)?;
-        let wanted = format!(in alloc; "t 1 {text} {body};")?;
-        assert_eq!(rt; told.as_str(), wanted.as_str(), "at {text}");
+        assert_eq!(rt; spelled(alloc, text)?.as_str(), name, "at {text}");
+        assert_eq!(rt;
+            back(alloc, text)?.as_str(),
+            wanted(alloc, text)?.as_str(),
+            "at {text}"
+        );
     }
     Ok(())
 }
@@ -249,20 +287,22 @@ fn templates_are_read(rt: HostRuntime) -> Result<(), Fail> {
     Ok(())
 }
 
+// A body with an object of this many members, and one more.
+fn large_body(alloc: Global, members: u32) -> Result<String, Fail> {
+    let mut body = String::from_str(alloc, "{\"all\":{")?;
+    for i in 0..members {
+        body.push_str(format!(in alloc; "\"k{i}\":1,")?.as_str())?;
+    }
+    body.push_str("\"z\":0}}")?;
+    Ok(body)
+}
+
 #[test]
 fn an_object_of_400000_members_is_written_and_read(rt: HostRuntime) -> Result<(), Fail> {
     let alloc = rt.alloc();
-    let mut body = String::from_str(alloc, "{\"all\":{")?;
-    for i in 0..400_000u32 {
-        let number = 100_000 + i;
-        body.push_str(format!(in alloc; "\"{number}\":1,")?.as_str())?;
-    }
-    body.push_str("\"last\":0}}")?;
-    let one = resource(alloc, "t", "1", "n", body.as_str())?;
-    let written = template(alloc, &[one])?;
-    assert_eq!(rt;
-        told(alloc, written.as_bytes())?.len(),
-        body.len() + 7
-    );
+    let body = large_body(alloc, 400_000)?;
+    let written = template_of(alloc, "t", "1", "n", body.as_str())?;
+    let told = told(alloc, written.as_bytes())?;
+    assert_eq!(rt; told.len(), body.len() + 7);
     Ok(())
 }

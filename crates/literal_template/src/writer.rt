@@ -19,12 +19,7 @@ const SCHEMA: &str =
     "https://schema.management.azure.com/schemas/2019-04-01/deploymentTemplate.json#";
 
 // Puts a text at the name.
-fn set_text(
-    alloc: Global,
-    members: &mut Fields,
-    name: &str,
-    value: Text,
-) -> Result<(), OutOfMemory>
+fn set_text(alloc: Global, members: &mut Fields, name: &str, value: Text) -> Result<(), OutOfMemory>
     ensures { OnOk result (members.new ≡ put (chars name.now) (json_text value) members.old) }
 {
     members.set(alloc, name, Value::Text(value))?;

@@ -1,10 +1,10 @@
 -- Texts in brackets, in bytes and in characters.
-use Rattle.std.proofs.Common.{◌≡◌, ◌≢◌, ◌<◌, ◌==◌, ◌&&◌, ℕ, zero, suc, Bool, true, false, true≢false, List, [], ◌∷◌, ◌++◌, Option, Some, None, codes, refl, ap, sym, ◌∙◌, lit<, arith}
+use Rattle.std.proofs.Common.{◌≡◌, ◌≢◌, ◌<◌, ◌==◌, ◌&&◌, ℕ, zero, suc, Bool, true, false, true≢false, List, [], ◌∷◌, ◌++◌, Some, codes, refl, ap, sym, ◌∙◌, lit<, arith}
 use Rattle.std.specs.Str.{chars, IsUtf8, IsAscii}
 use Rattle.std.proofs.lemmas.Str.{chars-append, chars-IsAscii, encodes-chars, encodes-append, IsUtf8-from_ascii}
 use Rattle.std.proofs.lemmas.Bool.Decides.{nat_tests}
 use lib.Utf8.{encodes}
-use Rattle.literal_template.specs.Brackets.{opens, closes, is_bracketed, escaped, without_first, stated_text}
+use Rattle.literal_template.specs.Brackets.{opens, closes, is_bracketed, escaped, stated_text}
 
 one_ascii : (c : ℕ) → c < 128 → IsAscii (c ∷ [])
 one_ascii c h zero = h

@@ -1,12 +1,8 @@
 -- What is written, and what is stated, part by part.
-use Rattle.std.proofs.Common.{◌≡◌, ◌≤◌, ◌<◌, ℕ, zero, suc, max, length, get_or, take, drop, drop-cons, add-one, ◌+◌, Bool, true, false, true≢false, List, [], ◌∷◌, ◌++◌, map, Option, Some, None, option_map, if◌then◌else◌, Less, refl, sym, ap, ap₂, ◌∙◌, arith, subst}
+use Rattle.std.proofs.Common.{◌≡◌, ℕ, suc, max, Bool, true, false, true≢false, List, [], ◌∷◌, ◌++◌, Option, Some, None, option_map, if◌then◌else◌, refl, sym, ap, ap₂, ◌∙◌, subst}
 use Rattle.std.specs.List.{AllByRecursion}
 use Rattle.std.specs.List.Sorted.{IsStrictlySortedBy}
-use Rattle.arm_value.specs.Json.{Json, null, bool, int, text, array, object, Row, no_items, item, Pairs, no_pairs, pair, Member, row, pairs, pair_keys, keys, nesting, row_nesting, pairs_nesting, items_nesting, members_nesting, key_cmp, IsInOrder}
-use Rattle.arm_value.specs.View.{json, member}
-use Rattle.arm_value.specs.declared.value.Value.{Value}
-use Rattle.arm_value.specs.declared.value.Field.{Field}
-use Rattle.arm_value.proofs.SetLemmas.{drop_from}
+use Rattle.arm_value.specs.Json.{Json, null, bool, int, text, array, object, Row, no_items, item, Pairs, no_pairs, pair, Member, row, pairs, keys, nesting, row_nesting, pairs_nesting, key_cmp, IsInOrder}
 use Rattle.literal_template.specs.Brackets.{escaped, stated_text}
 use Rattle.literal_template.specs.Literals.{is_special, written, row_written, pairs_written, item_before, pair_before, stated, row_stated, pairs_stated, is_plain, row_is_plain, pairs_are_plain}
 use Rattle.literal_template.proofs.BracketLemmas.{stated-escaped}

@@ -1,7 +1,7 @@
 -- What the loops over items and members have come to.
-use Rattle.std.proofs.Common.{◌≡◌, ◌≤◌, ◌<◌, ◌+◌, ℕ, zero, suc, length, get_or, drop, Bool, true, false, List, [], ◌∷◌, ◌++◌, map, Option, Some, None, if◌then◌else◌, refl, sym, ap, ap₂, ◌∙◌, arith, subst}
+use Rattle.std.proofs.Common.{◌≡◌, ◌≤◌, ◌<◌, ◌+◌, ℕ, length, get_or, drop, false, List, [], ◌∷◌, ◌++◌, map, Option, Some, None, if◌then◌else◌, sym, ap, ap₂, ◌∙◌, arith, subst}
 use Rattle.std.proofs.lemmas.List.{drop_all}
-use Rattle.arm_value.specs.Json.{Json, Row, no_items, item, Pairs, no_pairs, pair, Member, row, pairs, nesting, items_nesting, members_nesting, IsInOrder}
+use Rattle.arm_value.specs.Json.{Json, Row, item, Pairs, pair, Member, row, pairs, nesting, items_nesting, members_nesting, IsInOrder}
 use Rattle.arm_value.specs.View.{json, member}
 use Rattle.arm_value.specs.declared.value.Value.{Value}
 use Rattle.arm_value.specs.declared.value.Field.{Field}

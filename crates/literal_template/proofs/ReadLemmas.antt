@@ -1,9 +1,9 @@
 -- What the members of a template and of a resource state.
-use Rattle.std.proofs.Common.{◌≡◌, ◌≤◌, ◌<◌, ◌+◌, ◌==◌, ◌&&◌, ℕ, zero, suc, length, get_or, drop, Bool, true, false, true≢false, nat_eq, List, [], ◌∷◌, ◌++◌, map, Option, Some, None, option_map, is_some, codes, if◌then◌else◌, refl, sym, ap, ap₂, ◌∙◌, arith, subst, append-nil}
+use Rattle.std.proofs.Common.{◌≡◌, ◌≤◌, ◌<◌, ◌+◌, ◌==◌, ◌&&◌, ℕ, suc, length, get_or, drop, Bool, true, false, nat_eq, List, [], ◌∷◌, ◌++◌, map, Option, Some, None, option_map, is_some, codes, if◌then◌else◌, refl, sym, ap, ap₂, ◌∙◌, arith, subst, append-nil}
 use Rattle.std.specs.List.{list_any}
 use Rattle.std.proofs.lemmas.List.{drop_all}
 use Rattle.std.proofs.lemmas.Bool.Decides.{nat_tests}
-use Rattle.arm_value.specs.Json.{Json, Row, no_items, item, Pairs, no_pairs, pair, Member, row, pairs, pair_keys, members, IsInOrder}
+use Rattle.arm_value.specs.Json.{Json, Pairs, pair, Member, row, pairs, pair_keys, members, IsInOrder}
 use Rattle.arm_value.specs.Look.{look_in}
 use Rattle.arm_value.specs.View.{json, member}
 use Rattle.arm_value.specs.declared.value.Value.{Value}
@@ -12,7 +12,7 @@ use Rattle.arm_value.proofs.SetLemmas.{drop_from}
 use Rattle.literal_template.specs.Brackets.{stated_text}
 use Rattle.literal_template.specs.Literals.{is_special, pair_before, stated, pairs_stated}
 use Rattle.literal_template.specs.Resources.{is_head, is_directive, is_deployment}
-use Rattle.literal_template.specs.Template.{text_of, count, body_members, with_parts, with_heads, resource_with, resource_of, resource_before, resources_of, resources_in, is_schema, names_schema, has_three, template_with}
+use Rattle.literal_template.specs.Template.{text_of, count, body_members, with_parts, with_heads, resource_with, resource_of, resource_before, resources_of, resources_in, names_schema, has_three, template_with}
 use Rattle.literal_template.specs.declared.resource.Resource.{Resource}
 use Rattle.literal_template.proofs.LiteralLemmas.{with_pairs, with_pairs-push, without_one, then_pairs-none}
 use Rattle.literal_template.proofs.WriteLemmas.{members-pairs}

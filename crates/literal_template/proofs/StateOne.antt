@@ -1,5 +1,5 @@
 -- No bytes state two lists of resources.
-use Rattle.std.proofs.Common.{◌≡◌, ◌≤◌, ◌<◌, ℕ, suc, ℤ, pos, negsuc, Bool, true, false, true≢false, List, [], ◌∷◌, Option, Some, None, encode_utf8_all, refl, sym, ap, ap₂, ◌∙◌, subst, arith}
+use Rattle.std.proofs.Common.{◌≡◌, ◌≤◌, ◌<◌, ℕ, ℤ, pos, negsuc, Bool, true, false, true≢false, List, [], Option, Some, None, refl, sym, ap, ap₂, ◌∙◌, subst, arith}
 use Rattle.std.specs.Prelude.{IsSomeAnd}
 use Rattle.std.proofs.lemmas.Str.{encodes_same}
 use Rattle.serde_json.specs.Data as d
@@ -10,7 +10,7 @@ use Rattle.arm_value.specs.Reading.{data_of, row_data, pairs_data, reading, not_
 use Rattle.arm_value.specs.Fault.{Gives, Explains}
 use Rattle.arm_value.specs.declared.read.JsonFault.{JsonFault}
 use Rattle.arm_value.specs.declared.read.JsonFault.TheVariants.{NotJson, NotWhole, TooDeep, OutOfMemory}
-use Rattle.literal_template.specs.Template.{template_of, States, StatedBy, StateOneList}
+use Rattle.literal_template.specs.Template.{template_of, StatedBy, StateOneList}
 use Rattle.literal_template.specs.declared.resource.Resource.{Resource}
 
 -- ---- a tree is told by its data

@@ -1,5 +1,5 @@
 -- Whole values, and the data that they are written as.
-use Rattle.std.proofs.Common.{◌≡◌, ◌<◌, ◌^◌, ℕ, suc, ℤ, pos, negsuc, Bool, true, false, nat_lt, List, [], ◌∷◌, ◌++◌, map, Option, Some, None, option_map, if◌then◌else◌, SFits, w64, Ordering, Less, Equal, Greater, decimal, chars, encode_utf8_all, refl, sym, ap, ap₂, ◌∙◌, subst, arith}
+use Rattle.std.proofs.Common.{◌≡◌, ◌<◌, ◌^◌, ℕ, suc, ℤ, pos, negsuc, true, nat_lt, List, [], ◌∷◌, ◌++◌, Some, None, option_map, if◌then◌else◌, SFits, w64, Ordering, Less, Equal, Greater, decimal, chars, encode_utf8_all, refl, sym, ap, ap₂, subst, arith}
 use Rattle.std.specs.Ordering.{match_ordering}
 use Rattle.std.proofs.lemmas.Bool.Decides.{nat_tests}
 use Rattle.serde_json.specs.Find.{as_i64, of_integer}

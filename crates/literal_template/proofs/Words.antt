@@ -1,7 +1,6 @@
 -- Words of ASCII characters are their own characters.
-use Rattle.std.proofs.Common.{◌≡◌, ◌<◌, ℕ, zero, suc, get_or, Bool, true, false, ◌&&◌, nat_lt, List, [], ◌∷◌, chars, bytes_eq, IsUtf8, refl, sym, ap, ap₂, ◌∙◌, arith, true≢false}
+use Rattle.std.proofs.Common.{◌≡◌, ◌<◌, ℕ, zero, suc, get_or, Bool, true, false, ◌&&◌, nat_lt, List, [], ◌∷◌, chars, bytes_eq, IsUtf8, refl, sym, ap₂, ◌∙◌, arith, true≢false}
 use Rattle.std.specs.List.{list_all}
-use Rattle.std.specs.Str.{IsAscii}
 use Rattle.std.proofs.lemmas.Bool.Decides.{nat_tests}
 use Rattle.std.proofs.lemmas.Str.{chars-IsAscii, IsUtf8-from_ascii}
 use Rattle.arm_value.proofs.TextLemmas.{bytes_eq-chars}

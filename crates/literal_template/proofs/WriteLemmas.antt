@@ -1,9 +1,9 @@
 -- The values that are written for resources.
-use Rattle.std.proofs.Common.{◌≡◌, ◌≤◌, ◌<◌, ◌+◌, ℕ, suc, length, get_or, drop, List, [], ◌∷◌, ◌++◌, map, chars, codes, Ordering, Less, Equal, Greater, refl, sym, ap, ap₂, ◌∙◌, arith, subst, append-nil, append_assoc}
+use Rattle.std.proofs.Common.{◌≡◌, ◌≤◌, ◌<◌, ◌+◌, ℕ, length, get_or, drop, List, [], ◌∷◌, ◌++◌, map, codes, Ordering, Less, Equal, Greater, refl, sym, ap, ◌∙◌, arith, subst, append-nil, append_assoc}
 use Rattle.std.specs.Ordering.{match_ordering}
 use Rattle.std.specs.List.{AllByRecursion}
 use Rattle.std.proofs.lemmas.List.{drop_all}
-use Rattle.arm_value.specs.Json.{Json, text, array, object, Row, Pairs, no_pairs, pair, Member, row, pairs, members, nesting, items_nesting, members_nesting, pairs_nesting, key_cmp, put}
+use Rattle.arm_value.specs.Json.{Json, text, array, object, Pairs, no_pairs, pair, Member, row, pairs, members, nesting, items_nesting, members_nesting, pairs_nesting, key_cmp, put}
 use Rattle.arm_value.proofs.SetLemmas.{drop_from}
 use Rattle.literal_template.specs.Brackets.{escaped}
 use Rattle.literal_template.specs.Literals.{pairs_written}

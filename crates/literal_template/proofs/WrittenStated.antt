@@ -1,18 +1,18 @@
 -- A written template states the resources that it was written for.
-use Rattle.std.proofs.Common.{◌≡◌, ◌≤◌, ℕ, suc, ◌||◌, Bool, true, false, true≢false, List, [], ◌∷◌, map, bytes_eq, Option, Some, None, is_some, codes, if◌then◌else◌, Ordering, Less, Equal, Greater, encode_utf8_all, refl, sym, ap, ap₂, ◌∙◌, subst, arith}
+use Rattle.std.proofs.Common.{◌≡◌, ◌≤◌, ℕ, suc, ◌||◌, Bool, true, false, true≢false, List, [], ◌∷◌, map, bytes_eq, Option, Some, None, codes, if◌then◌else◌, Ordering, Less, Equal, Greater, encode_utf8_all, refl, sym, ap, ap₂, ◌∙◌, subst, arith}
 use Rattle.std.specs.Ordering.{match_ordering, ordering_reverse}
 use Rattle.std.specs.List.{list_any, AllByRecursion}
 use Rattle.std.proofs.lemmas.Cmp.{nat_list_cmp_total}
 use Rattle.std.proofs.lemmas.Slice.Eq.{bytes_eq-Decides}
-use Rattle.arm_value.specs.Json.{Json, text, array, object, Row, Pairs, no_pairs, pair, Member, row, pairs, pair_keys, keys, members, nesting, key_cmp, put}
+use Rattle.arm_value.specs.Json.{Json, text, Pairs, no_pairs, pair, Member, row, pairs, pair_keys, keys, members, nesting, key_cmp, put}
 use Rattle.arm_value.specs.Look.{first_by, is_same_folded, or_else, look_in}
 use Rattle.arm_value.specs.Reading.{data_of, reading}
 use Rattle.arm_value.proofs.SetLemmas.{equal_keys}
 use Rattle.arm_value.proofs.DataLemmas.{depth-data_of}
 use Rattle.literal_template.specs.Brackets.{escaped}
-use Rattle.literal_template.specs.Literals.{written, pairs_written, pairs_stated}
+use Rattle.literal_template.specs.Literals.{pairs_written, pairs_stated}
 use Rattle.literal_template.specs.Resources.{is_head, is_directive, IsLiteral}
-use Rattle.literal_template.specs.Template.{schema, resource_value, template_value, text_of, count, body_members, with_parts, with_heads, resource_with, resource_of, resource_before, resources_of, resources_in, is_schema, names_schema, template_of, StatedBy, WrittenIsStated}
+use Rattle.literal_template.specs.Template.{schema, resource_value, template_value, text_of, count, body_members, with_heads, resource_with, resource_of, resource_before, resources_of, is_schema, template_of, StatedBy, WrittenIsStated}
 use Rattle.literal_template.specs.Whole.{IsWhole}
 use Rattle.literal_template.specs.declared.resource.Resource.{Resource}
 use Rattle.literal_template.proofs.BracketLemmas.{stated-escaped}

@@ -1,5 +1,5 @@
 -- Which texts of a template are expressions, and how the others are written (Microsoft Learn, "Template expressions", escape characters).
-use Rattle.std.specs.Prelude.{ℕ, ◌==◌, ◌&&◌, Bool, true, false, List, [], ◌∷◌, Option, Some, None, if◌then◌else◌}
+use Rattle.std.specs.Prelude.{ℕ, ◌==◌, ◌&&◌, Bool, false, List, [], ◌∷◌, Option, Some, None, if◌then◌else◌}
 
 -- whether the text begins with `[`
 abbrev pub opens : List ℕ → Bool

@@ -1,5 +1,5 @@
 -- How values are written in a template, and which values it states.
-use Rattle.std.specs.Prelude.{ℕ, ◌||◌, Bool, true, false, List, bytes_eq, Option, Some, None, option_map, option_and_then, codes, if◌then◌else◌}
+use Rattle.std.specs.Prelude.{ℕ, ◌||◌, Bool, true, false, List, bytes_eq, Option, Some, None, option_map, codes, if◌then◌else◌}
 use Rattle.arm_value.specs.Json.{Json, null, bool, int, text, array, object, Row, no_items, item, Pairs, no_pairs, pair}
 use Rattle.literal_template.specs.Brackets.{is_bracketed, escaped, stated_text}
 

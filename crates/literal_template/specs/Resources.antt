@@ -1,7 +1,7 @@
 -- Resources whose members are literals.
 use Rattle.std.specs.Prelude.{◌≡◌, ℕ, ◌≤◌, Bool, true, false, List, [], ◌∷◌, codes}
 use Rattle.std.specs.List.{list_any}
-use Rattle.arm_value.specs.Json.{Member, pairs, pair_keys, keys, members_nesting, AreMembers}
+use Rattle.arm_value.specs.Json.{pairs, keys, members_nesting, AreMembers}
 use Rattle.arm_value.specs.Look.{is_same_folded}
 use Rattle.literal_template.specs.Literals.{pairs_are_plain}
 use Rattle.literal_template.specs.declared.resource.Resource.{Resource}

@@ -2,7 +2,7 @@
 use Rattle.std.specs.Prelude.{◌≡◌, ℕ, suc, ◌==◌, ◌&&◌, ◌||◌, Bool, true, false, List, [], ◌∷◌, map, nat_eq, Option, Some, None, is_some, codes, encode_utf8_all, if◌then◌else◌}
 use Rattle.std.specs.List.{list_any, ends_with, AllByRecursion}
 use Rattle.serde_json.specs.Written.{compact_text}
-use Rattle.arm_value.specs.Json.{Json, null, bool, int, text, array, object, Row, no_items, item, Pairs, no_pairs, pair, Member, row, pairs, pair_keys, members, put}
+use Rattle.arm_value.specs.Json.{Json, text, array, object, Row, no_items, item, Pairs, no_pairs, pair, row, pairs, pair_keys, members, put}
 use Rattle.arm_value.specs.Look.{fold, look_in}
 use Rattle.arm_value.specs.Reading.{data_of, reading}
 use Rattle.arm_value.specs.Fault.{Gives}

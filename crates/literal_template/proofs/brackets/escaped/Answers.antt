@@ -1,5 +1,5 @@
-use Rattle.std.proofs.Common.{◌∙◌, ◌∷◌, ap, sym}
-use Rattle.literal_template.proofs.BracketLemmas.{chars_behind, written_in_brackets}
+use Rattle.std.proofs.Common.{◌∙◌, sym}
+use Rattle.literal_template.proofs.BracketLemmas.{written_in_brackets}
 use Rattle.literal_template.proofs.brackets.escaped.Goals as goal
 
 pub returns-then-is_bracketed : goal.returns-then-is_bracketed

@@ -1,5 +1,4 @@
-use Rattle.std.proofs.Common.{◌≤◌, option_map, ap, sym, ◌∙◌, arith}
-use Rattle.arm_value.specs.Json.{nesting}
+use Rattle.std.proofs.Common.{option_map, ap, sym, ◌∙◌, arith}
 use Rattle.arm_value.specs.View.{json}
 use Rattle.literal_template.proofs.LoopLemmas.{item_within, member_within, stated_within, stated_item, stated_items, member_last, members_ordered, stated_member, stated_members}
 use Rattle.literal_template.proofs.literals.+stated.Goals as goal

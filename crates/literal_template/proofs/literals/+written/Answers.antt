@@ -1,5 +1,5 @@
-use Rattle.std.proofs.Common.{◌≤◌, arith, subst, sym}
-use Rattle.arm_value.specs.Json.{nesting, row, pairs}
+use Rattle.std.proofs.Common.{arith, subst, sym}
+use Rattle.arm_value.specs.Json.{row, pairs}
 use Rattle.arm_value.specs.View.{json}
 use Rattle.literal_template.specs.Whole.{RowIsWhole, PairsAreWhole}
 use Rattle.literal_template.proofs.WholeLemmas.{RowIsWhole-push, PairsAreWhole-push}

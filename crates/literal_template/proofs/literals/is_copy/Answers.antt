@@ -1,5 +1,5 @@
-use Rattle.std.proofs.Common.{ℕ, List, codes, ◌∙◌, ◌≡◌, ap, ap₂, bytes_eq, chars, refl, sym}
-use Rattle.literal_template.proofs.Words.{word, same_bytes}
+use Rattle.std.proofs.Common.{codes, ◌∙◌, refl}
+use Rattle.literal_template.proofs.Words.{same_bytes}
 use Rattle.literal_template.proofs.literals.is_copy.Goals as goal
 
 pub returns : goal.returns

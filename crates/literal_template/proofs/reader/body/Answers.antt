@@ -1,5 +1,4 @@
-use Rattle.std.proofs.Common.{◌≤◌, option_map, ap, sym, ◌∙◌, arith}
-use Rattle.arm_value.specs.Json.{nesting}
+use Rattle.std.proofs.Common.{option_map, ap, sym, ◌∙◌, arith}
 use Rattle.arm_value.specs.View.{json}
 use Rattle.literal_template.proofs.LoopLemmas.{member_within, stated_within, member_last, members_ordered}
 use Rattle.literal_template.proofs.ReadLemmas.{head_passed, order_passed, body_member, body_end}

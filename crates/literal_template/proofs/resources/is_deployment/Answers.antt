@@ -1,4 +1,4 @@
-use Rattle.std.proofs.Common.{◌∙◌, ap, ap₂, codes, refl}
+use Rattle.std.proofs.Common.{◌∙◌, ap₂, codes, refl}
 use Rattle.arm_value.specs.Look.{is_same_folded}
 use Rattle.literal_template.specs.Resources.{is_deployment}
 use Rattle.literal_template.proofs.Words.{word}

@@ -1,6 +1,4 @@
-use Rattle.std.proofs.Common.{codes, refl, subst, sym}
-use Rattle.arm_value.specs.Json.{pairs}
-use Rattle.literal_template.specs.Whole.{PairsAreWhole}
+use Rattle.std.proofs.Common.{codes, refl}
 use Rattle.literal_template.proofs.Words.{word}
 use Rattle.literal_template.proofs.WriteLemmas.{resource_made}
 use Rattle.literal_template.proofs.WholeLemmas.{whole_text}

@@ -1,4 +1,4 @@
-use Rattle.std.proofs.Common.{◌≤◌, ◌∙◌, ap, codes, refl, arith}
+use Rattle.std.proofs.Common.{◌∙◌, ap, codes, refl, arith}
 use Rattle.arm_value.specs.Json.{items_nesting}
 use Rattle.literal_template.specs.Template.{schema}
 use Rattle.literal_template.proofs.Words.{word}

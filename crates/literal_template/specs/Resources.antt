@@ -19,9 +19,11 @@ abbrev pub directives : List (List ℕ)
 directives =
     codes "condition" ∷ codes "dependsOn" ∷ codes "copy" ∷ codes "resources" ∷ codes "comments" ∷ codes "metadata" ∷ codes "scope" ∷ codes "subscriptionId" ∷ codes "resourceGroup" ∷ []
 
+-- whether a member of this name is its resource's type, version or name
 unfoldable pub is_head : List ℕ → Bool
 is_head name = is_among heads name
 
+-- whether a resource of a literal template has no member of this name
 unfoldable pub is_directive : List ℕ → Bool
 is_directive name = is_among directives name
 

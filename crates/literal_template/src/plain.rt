@@ -74,8 +74,8 @@ fn is_literal(resource: &Resource) -> bool
 
 /// Whether a literal template can state these resources.
 ///
-/// Each of them has a type other than `Microsoft.Resources/deployments`, and a body that nests at
-/// most 90 deep below its members. None of the body's members is called, in letters of any case,
+/// Each of them has a type other than `Microsoft.Resources/deployments`, and the values of its
+/// body's members nest at most 90 deep. None of these members is called, in letters of any case,
 /// `type`, `apiVersion`, `name` or as a directive, such as `condition`, `dependsOn` or `scope`.
 /// No member at any depth is called `copy`, or begins with `[` and ends with `]`.
 pub fn are_literal(resources: &[Resource]) -> bool

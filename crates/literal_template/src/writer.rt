@@ -74,7 +74,8 @@ fn template_value(alloc: Global, resources: &[Resource]) -> Result<Value, OutOfM
 /// order of their names.
 ///
 /// A text that begins with `[` and ends with `]` is written with one `[` more, but types and
-/// versions, which are written as they are. What is written states the resources. It takes time in proportion to what is written.
+/// versions, which are written as they are. What is written states the resources. It takes time
+/// in proportion to what is written.
 pub fn write(alloc: Global, resources: &[Resource]) -> Result<Bytes, OutOfMemory>
     requires { AllByRecursion IsLiteral resources.now }
     ensures text { IfOk result (λ b. b ≡ template_bytes resources.now) }

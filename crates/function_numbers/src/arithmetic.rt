@@ -54,7 +54,11 @@ fn quotient(x: i64, y: i64) -> Option<i64>
 fn rest_of(x: i64, y: i64) -> Option<i64>
     ensures { result ≡ rest_of x y }
 {
-    if y == 0 { None } else { Some(x.wrapping_rem(y)) }
+    if y == 0 {
+        None
+    } else {
+        Some(x.wrapping_rem(y))
+    }
 }
 
 /// `add`: the sum of two numbers; none beyond 64 bits.

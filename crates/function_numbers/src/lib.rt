@@ -10,6 +10,7 @@ mod arithmetic;
 mod comparison;
 mod extremes;
 pub mod kinds;
+pub mod laws;
 mod logic;
 mod numeral;
 mod sequence;
@@ -20,3 +21,6 @@ pub use extremes::{max, min};
 pub use logic::{always_false, always_null, always_true, not, to_bool};
 pub use numeral::to_int;
 pub use sequence::range;
+
+#[cfg(test)]
+mod tests;

@@ -1,5 +1,5 @@
 -- Numbers of at most 64 bits, the best of numbers, and numbers in a row.
-use Rattle.std.proofs.Common.{◌≡◌, ℕ, zero, suc, ◌+◌, ◌-◌, ◌^◌, ◌<◌, ◌≤◌, ℤ, pos, negsuc, ◌+ℤ◌, ◌≤ℤ◌, Bool, true, false, Option, Some, None, option_map, option_and_then, nat_lt, List, [], ◌∷◌, ◌++◌, length, get_or, drop, take, map, refl, ap, sym, ◌∙◌, arith, w64, append_assoc, append-nil}
+use Rattle.std.proofs.Common.{◌≡◌, ℕ, suc, ◌+◌, ◌-◌, ◌<◌, ◌≤◌, ℤ, pos, negsuc, ◌+ℤ◌, ◌≤ℤ◌, true, false, Option, Some, None, option_map, option_and_then, List, [], ◌∷◌, ◌++◌, length, get_or, drop, take, map, refl, ap, sym, ◌∙◌, arith, w64, append_assoc, append-nil}
 use Rattle.std.specs.Option.{SomeIff}
 use Rattle.std.specs.Prelude.{FitsSigned}
 use Rattle.std.specs.List.{fold}

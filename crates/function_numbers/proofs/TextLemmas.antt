@@ -1,12 +1,12 @@
 -- Characters and digits.
-use Rattle.std.proofs.Common.{◌≡◌, ℕ, suc, ◌+◌, ◌*◌, ◌-◌, ◌^◌, ◌<◌, ◌≤◌, Bool, true, false, Option, Some, None, option_map, option_and_then, nat_lt, nat_eq, List, [], ◌∷◌, ◌++◌, length, get_or, drop, IsUtf8, refl, ap, sym, subst, ◌∙◌, arith, add-one}
+use Rattle.std.proofs.Common.{◌≡◌, ℕ, suc, ◌+◌, ◌*◌, ◌-◌, ◌^◌, ◌<◌, ◌≤◌, Bool, true, false, Option, Some, None, option_and_then, nat_lt, List, [], ◌∷◌, ◌++◌, length, get_or, drop, IsUtf8, refl, ap, sym, ◌∙◌, arith, add-one}
 use Rattle.std.specs.Str.{chars}
 use Rattle.std.specs.Prelude.{◌==◌, if◌then◌else◌}
 use Rattle.std.proofs.Math.Seq.{drop-cons}
 use Rattle.std.proofs.lemmas.List.{drop_all, length_push}
 use Rattle.std.proofs.lemmas.Bool.Decides.{nat_tests}
-use Rattle.std.proofs.lemmas.Str.{encodes-chars, chars-nil, chars_past_char}
-use lib.Utf8.{encode, encodes}
+use Rattle.std.proofs.lemmas.Str.{encodes-chars, chars-nil}
+use lib.Utf8.{encodes}
 use Rattle.function_numbers.specs.Numbers.{is_digit, with_digit, read_on, small, numeral, behind_minus}
 
 some_characters : (b : ℕ) (bs cs : List ℕ) → encodes cs ≡ b ∷ bs → false ≡ (length cs == 0)

@@ -1,6 +1,6 @@
 -- What a tree is: a number, a text, a truth value, an array or an object.
 use Rattle.std.specs.Prelude.{ℕ, ℤ, Bool, List, [], ◌∷◌, Option, Some, None, option_map, option_and_then}
-use Rattle.arm_value.specs.Json.{Json, null, bool, int, text, array, object, items, members, Member}
+use Rattle.arm_value.specs.Json.{Json, bool, int, text, array, object, items, members, Member}
 
 abbrev pub number_of : Json → Option ℤ
 number_of (int z) = Some z

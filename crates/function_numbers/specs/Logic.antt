@@ -3,7 +3,7 @@ use Rattle.std.specs.Prelude.{ℕ, ℤ, pos, Bool, true, false, codes, List, [],
 use Rattle.std.specs.Prelude as prelude
 use Rattle.std.specs.declared.cmp.Ordering.{Ordering}
 use Rattle.std.specs.Ordering.{int_cmp, is_lt, is_le, is_gt, is_ge}
-use Rattle.arm_value.specs.Json.{Json, null, bool, int, text, array, object, key_cmp}
+use Rattle.arm_value.specs.Json.{Json, null, bool, int, text, key_cmp}
 use Rattle.arm_value.specs.Look.{is_same_folded}
 use Rattle.arm_value.specs.Same.{is_same}
 use Rattle.function_numbers.specs.Kinds.{truth_of, of_none, of_one, of_two}

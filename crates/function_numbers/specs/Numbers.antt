@@ -1,11 +1,11 @@
 -- The functions on numbers (Microsoft Learn: ARM template functions, numeric).
-use Rattle.std.specs.Prelude.{ℕ, zero, suc, ◌+◌, ◌*◌, ◌-◌, ◌^◌, ◌&&◌, ◌==◌, nat_lt, nat_le, ℤ, pos, negsuc, ◌+ℤ◌, ◌-ℤ◌, ◌*ℤ◌, neg_ℤ, int_div, int_rem, int_le, unsigned_abs, Bool, true, false, List, [], ◌∷◌, length, Option, Some, None, option_map, option_and_then, unwrap_or, if◌then◌else◌}
+use Rattle.std.specs.Prelude.{ℕ, zero, suc, ◌+◌, ◌*◌, ◌-◌, ◌^◌, ◌&&◌, ◌==◌, nat_lt, nat_le, ℤ, pos, negsuc, ◌+ℤ◌, ◌-ℤ◌, ◌*ℤ◌, neg_ℤ, int_div, int_rem, int_le, unsigned_abs, Bool, false, List, [], ◌∷◌, length, Option, Some, None, option_map, option_and_then, unwrap_or, if◌then◌else◌}
 use Rattle.std.specs.Int.{int_min, int_max}
 use Rattle.std.specs.List.{fold}
 use Rattle.function_numbers.specs.declared.extremes.Extreme.{Extreme}
 use Rattle.function_numbers.specs.declared.extremes.Extreme.TheVariants.{Least, Greatest}
 use Rattle.arm_value.specs.Json.{Json, int, text, array, row}
-use Rattle.function_numbers.specs.Kinds.{number_of, text_of, items_of, numbers_in, of_one, of_two}
+use Rattle.function_numbers.specs.Kinds.{number_of, items_of, numbers_in, of_one}
 
 -- whether a number has at most 64 bits
 abbrev pub has_64_bits : ℤ → Bool

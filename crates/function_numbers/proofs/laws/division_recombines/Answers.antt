@@ -1,8 +1,8 @@
-use Rattle.std.proofs.Common.{◌≡◌, ℤ, pos, negsuc, ◌+ℤ◌, ◌*ℤ◌, Bool, true, false, Option, Some, None, option_map, List, [], ◌∷◌, refl}
+use Rattle.std.proofs.Common.{◌≡◌, ℤ, ◌+ℤ◌, ◌*ℤ◌, Bool, true, false, Some, None, option_map}
 use Rattle.std.specs.Prelude.{int_div, int_rem, if◌then◌else◌}
 use Rattle.std.proofs.lemmas.Int.{quot-rem}
-use Rattle.arm_value.specs.Json.{Json, int}
-use Rattle.function_numbers.specs.Numbers.{div, remainder, is_zero, has_64_bits}
+use Rattle.arm_value.specs.Json.{int}
+use Rattle.function_numbers.specs.Numbers.{is_zero, has_64_bits}
 use Rattle.function_numbers.proofs.laws.division_recombines.Goals as goal
 
 recombine : (zero fits : Bool) (x y q r : ℤ) → option_map int (if zero then None else (if fits then Some (int_div x y) else None)) ≡ Some (int q) → option_map int (if zero then None else Some (int_rem x y)) ≡ Some (int r) → ((q *ℤ y) +ℤ r) ≡ x

@@ -1,4 +1,4 @@
-use Rattle.std.proofs.Common.{◌≡◌, ◌+ℤ◌, pos, w64, to_z, of_z, arith, rules}
+use Rattle.std.proofs.Common.{w64, arith}
 use Rattle.std.specs.Prelude.{FitsSigned}
 use Rattle.std.proofs.lemmas.Int.{to_z-of_z, ints}
 use Rattle.function_numbers.proofs.NumberLemmas.{counted_more, counted_ends, range_bounds}

@@ -50,10 +50,11 @@ abbrev pub without : List ℕ → List HeldResource → List HeldResource
 without id [] = []
 without id (r ∷ rs) = if bytes_eq id (held_by r) then rs else r ∷ without id rs
 
--- these ids are below this one, or above it
+-- these ids are below this one
 abbrev pub AllBelow : List ℕ → List (List ℕ) → Type 0
 AllBelow id ids = AllByRecursion (λ other. id_cmp other id ≡ Less) ids
 
+-- these ids are above this one
 abbrev pub AllAbove : List ℕ → List (List ℕ) → Type 0
 AllAbove id ids = AllByRecursion (λ other. id_cmp id other ≡ Less) ids
 

@@ -10,6 +10,7 @@ pub record Standing : Type 0 where
   pub length : ℕ
   pub faults : ℕ
 
+-- where a journal stands, from its parts
 abbrev pub standing : Bool → ℕ → ℕ → Standing
 standing must_reopen length faults = record { must_reopen = must_reopen; length = length; faults = faults }
 

@@ -1,7 +1,8 @@
 ghost use Rattle.std.specs.Prelude.{◌≤◌};
 
 use crate::{AppendFault, FormatFault, Journal, NotOpened, OpenFault, Record};
-use arm_edges::{Contents, Disk, MemDisk, Part, RealDisk, Room};
+use arm_edges::{Disk, Part, RealDisk};
+use mem_disk::{Contents, MemDisk, Room};
 use std::alloc::Global;
 use std::fs;
 use std::test::Fail;

@@ -1,5 +1,4 @@
 -- What an entry of the code stands for.
-use Rattle.std.specs.Prelude.{ℕ, List}
 use Rattle.arm_value.specs.View.{json}
 use Rattle.arm_ids.specs.Held.{HeldResource}
 use Rattle.arm_ids.specs.declared.entry.Entry.{Entry}

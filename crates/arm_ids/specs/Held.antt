@@ -1,5 +1,5 @@
 -- The resources that a store holds: at most one of each key.
-use Rattle.std.specs.Prelude.{◌≡◌, ℕ, suc, ◌<◌, ◌≤◌, List, [], ◌∷◌, ◌++◌, map, length, take, drop, slice_index_or, bytes_eq, encode_utf8_all, Bool, true, false, Option, Some, None, Result, Ok, Err, if◌then◌else◌, refl}
+use Rattle.std.specs.Prelude.{◌≡◌, ℕ, ◌<◌, ◌≤◌, List, [], ◌∷◌, map, length, take, drop, slice_index_or, bytes_eq, encode_utf8_all, Option, Some, None, Result, Ok, Err, if◌then◌else◌, refl}
 use Rattle.std.specs.declared.cmp.Ordering.{Ordering}
 use Rattle.std.specs.declared.cmp.Ordering.TheVariants.{Less}
 use Rattle.std.specs.Ordering.{nat_cmp, match_ordering}

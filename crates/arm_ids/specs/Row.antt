@@ -1,6 +1,5 @@
 -- The rows behind what is held.
-use Rattle.std.specs.Prelude.{◌≡◌, List, [], ◌∷◌, ℕ, map}
-use Rattle.arm_value.specs.Look.{fold}
+use Rattle.std.specs.Prelude.{◌≡◌, List, ℕ, map}
 use Rattle.arm_ids.specs.Held.{HeldResource, IsInOrder, held_by}
 use Rattle.arm_ids.specs.Entry.{as_held}
 use Rattle.arm_ids.specs.declared.row.Row.{Row}

@@ -1,5 +1,5 @@
 -- What the adding of a record answers, and when.
-use Rattle.std.specs.Prelude.{◌≡◌, ℕ, ◌+◌, ◌<◌, ◌≤◌, min, Bool, true, false, Result, Ok, Err}
+use Rattle.std.specs.Prelude.{◌≡◌, ℕ, ◌<◌, ◌≤◌, min, Bool, true, false, Result, Ok, Err}
 use Rattle.arm_edges.specs.Faults.{Rose}
 use Rattle.deploy_journal.specs.declared.journal.AppendFault.{AppendFault}
 use Rattle.deploy_journal.specs.declared.journal.AppendFault.TheVariants.{Full, DiskFault, MustReopen}

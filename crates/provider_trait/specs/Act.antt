@@ -1,7 +1,7 @@
 -- What each act asks for.
-use Rattle.std.specs.Prelude.{◌≡◌, ◌≤◌, ℕ, Bool, true, false, refl}
+use Rattle.std.specs.Prelude.{◌≡◌, ◌≤◌, Bool, true, false, refl}
 use Rattle.std.specs.Coded.{Coded, code_by, coded_bool}
-use Rattle.arm_value.specs.Json.{Json, null, bool, int, text, array, object, nesting}
+use Rattle.arm_value.specs.Json.{Json, null, object, nesting}
 use Rattle.provider_trait.specs.declared.act.Act.{Act}
 use Rattle.provider_trait.specs.declared.act.Act.TheVariants.{Put, Delete}
 

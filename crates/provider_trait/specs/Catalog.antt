@@ -1,7 +1,7 @@
 -- What the catalogue answers.
 use Rattle.std.specs.Prelude.{◌≡◌, ℕ, ◌&&◌, ◌||◌, not, nat_le, Bool, true, false, List, length, bytes_eq, Option, Some, None, option_and_then, codes, if◌then◌else◌}
 use Rattle.std.specs.List.{list_all}
-use Rattle.arm_value.specs.Json.{Json, null, bool, int, text, array, object}
+use Rattle.arm_value.specs.Json.{Json, text, object}
 use Rattle.arm_value.specs.Look.{fold, look}
 use Rattle.provider_trait.specs.Plain.{is_storage, full_type, full_name, plain_state}
 use Rattle.provider_trait.specs.declared.act.Act.{Act}

@@ -1,5 +1,5 @@
 -- The plain state of a put: what a resource is in after it was stored, when nothing else is known of its type.
-use Rattle.std.specs.Prelude.{◌≡◌, ℕ, List, [], ◌∷◌, ◌++◌, Bool, true, false, bytes_eq, Option, Some, None, codes}
+use Rattle.std.specs.Prelude.{ℕ, List, [], ◌++◌, Bool, true, false, bytes_eq, Option, Some, None, codes}
 use Rattle.arm_value.specs.Json.{Json, text, object, pairs, members, Member, put}
 use Rattle.arm_value.specs.Look.{fold, look}
 use Rattle.arm_ids.specs.Segments.{joined}

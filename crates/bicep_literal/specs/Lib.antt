@@ -1,3 +1,6 @@
 pub mod Forms
 pub mod Grammar
-pub mod Declared
+pub mod Source
+pub mod Lexemes
+pub mod Machine
+pub mod Views

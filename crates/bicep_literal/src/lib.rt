@@ -5,3 +5,11 @@
 //! what holds beside it in `specs/Declared.antt`.
 #![tactic(auto)]
 
+mod brackets;
+mod frame;
+mod lexeme;
+mod number;
+mod object;
+mod place;
+mod stop;
+mod words;

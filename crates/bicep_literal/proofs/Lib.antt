@@ -1,0 +1,4 @@
+pub mod ViewLemmas
+pub mod WordLemmas
+pub mod NumberLemmas
+pub mod BracketLemmas

@@ -2,3 +2,9 @@ pub mod ViewLemmas
 pub mod WordLemmas
 pub mod NumberLemmas
 pub mod BracketLemmas
+pub mod DividedLemmas
+pub mod Putting
+pub mod Ordered
+pub mod Leaves
+pub mod Remains
+pub mod SoundPlaces

@@ -1,6 +1,6 @@
 -- Words of ASCII characters are their own characters.
-use Rattle.std.proofs.Common.{◌≡◌, ◌<◌, ℕ, zero, suc, get_or, Bool, true, false, ◌&&◌, nat_lt, List, [], ◌∷◌, chars, IsUtf8, bytes_eq, refl, ap, sym, ◌∙◌, arith, true≢false}
-use Rattle.std.specs.List.{list_all}
+use Rattle.std.proofs.Common.{◌≡◌, ◌<◌, ℕ, zero, suc, get_or, Bool, true, false, ◌&&◌, nat_lt, List, [], ◌∷◌, chars, IsUtf8, bytes_eq, refl, ap, sym, ◌∙◌, arith, true≢false, ◌||◌}
+use Rattle.std.specs.List.{list_all, list_any}
 use Rattle.std.proofs.lemmas.Bool.Decides.{nat_tests}
 use Rattle.std.proofs.lemmas.Str.{chars-IsAscii, IsUtf8-from_ascii}
 use Rattle.std.specs.Str.{IsAscii}
@@ -27,3 +27,15 @@ pub is_word : (text word : List ℕ) → IsUtf8 text → list_all (λ b. nat_lt 
 unfolding is_ascii
 is_word text word u e =
     bytes_eq-chars text word u (IsUtf8-from_ascii word (ascii_at word e)) ∙ ap (bytes_eq (chars text)) (chars-IsAscii word (ascii_at word e))
+
+-- a word of ASCII is its own characters
+pub word : (word : List ℕ) → list_all (λ b. nat_lt b 128) word ≡ true → chars word ≡ word
+unfolding is_ascii
+word w e = chars-IsAscii w (ascii_at w e)
+
+-- a test of each of the words
+pub any_word : (q : List ℕ → Bool) (ws : List (List ℕ)) → list_all (λ w. list_all (λ b. nat_lt b 128) w) ws ≡ true → list_any (λ w. q (chars w)) ws ≡ list_any q ws
+any_word q [] e = refl
+any_word q (w ∷ ws) e =
+    let p = both (list_all (λ b. nat_lt b 128) w) (list_all (λ w. list_all (λ b. nat_lt b 128) w) ws) e in
+    ap (λ x. q x || list_any (λ w. q (chars w)) ws) (word w p.0) ∙ ap (λ b. q w || b) (any_word q ws p.1)

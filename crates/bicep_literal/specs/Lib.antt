@@ -4,3 +4,8 @@ pub mod Source
 pub mod Lexemes
 pub mod Machine
 pub mod Views
+pub mod Entries
+pub mod Stages
+pub mod StageViews
+pub mod Checks
+pub mod Refused

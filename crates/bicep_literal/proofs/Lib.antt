@@ -8,3 +8,8 @@ pub mod Ordered
 pub mod Leaves
 pub mod Remains
 pub mod SoundPlaces
+pub mod EntryLemmas
+pub mod CompletePlaces
+pub mod FileRemains
+pub mod SoundFile
+pub mod CompleteFile

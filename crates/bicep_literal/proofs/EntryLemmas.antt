@@ -57,15 +57,15 @@ divided_sound (c ∷ cs) kind api h = by (c == 64) (divided cs) refl refl h (div
         let p = r q.0 q.1 d in
         (subst (λ k. c ∷ cs ≡ k ++ 64 ∷ api) front (ap (λ x. c ∷ x) p.0 ∙ ap (λ a. c ∷ (q.0 ++ 64 ∷ a)) back), subst (λ k. HasAt k ≡ false) front (rw e p.1))
 
-or_parts : (a b : Bool) → (a || b) ≡ false → (a ≡ false) × (b ≡ false)
+pub or_parts : (a b : Bool) → (a || b) ≡ false → (a ≡ false) × (b ≡ false)
 or_parts true b e = absurd (true≢false e)
 or_parts false b e = (refl, e)
 
-and_parts : (a b : Bool) → (a && b) ≡ true → (a ≡ true) × (b ≡ true)
+pub and_parts : (a b : Bool) → (a && b) ≡ true → (a ≡ true) × (b ≡ true)
 and_parts true b e = (refl, e)
 and_parts false b e = absurd (true≢false (sym e))
 
-not_true : (a : Bool) → not a ≡ true → a ≡ false
+pub not_true : (a : Bool) → not a ≡ true → a ≡ false
 not_true true e = absurd (true≢false (sym e))
 not_true false e = refl
 
@@ -96,11 +96,11 @@ first_yes k j ps e = rw (sym (name_first k) ∙ e) refl
 first_no : (k : List ℕ) (j : Json) (ps : Pairs) → is_name k ≡ false → first_by (bytes_eq (codes "name")) (pair k j ps) ≡ first_by (bytes_eq (codes "name")) ps
 first_no k j ps e = rw (sym (name_first k) ∙ e) refl
 
-without_yes : (k : List ℕ) (j : Json) (ps : Pairs) → is_name k ≡ true → without_name (pair k j ps) ≡ without_name ps
+pub without_yes : (k : List ℕ) (j : Json) (ps : Pairs) → is_name k ≡ true → without_name (pair k j ps) ≡ without_name ps
 unfolding is_name
 without_yes k j ps e = rw e refl
 
-without_no : (k : List ℕ) (j : Json) (ps : Pairs) → is_name k ≡ false → without_name (pair k j ps) ≡ pair k j (without_name ps)
+pub without_no : (k : List ℕ) (j : Json) (ps : Pairs) → is_name k ≡ false → without_name (pair k j ps) ≡ pair k j (without_name ps)
 unfolding is_name
 without_no k j ps e = rw e refl
 
@@ -216,7 +216,7 @@ parting_complete (pair k j ps) n others h d = by (is_name k) refl (parting_compl
 
 -- ---- members in order
 
-without_each : (ps : Pairs) → each_in_order (without_name ps) ≡ without_name (each_in_order ps)
+pub without_each : (ps : Pairs) → each_in_order (without_name ps) ≡ without_name (each_in_order ps)
 without_each no_pairs = refl
 without_each (pair k j ps) = by (is_name k) refl (without_each ps)
   where
@@ -298,10 +298,10 @@ proper_complete kind api name p = rw (version_some api p.versioned) (rw p.no_dep
 
 -- ---- the body
 
-within : (n m : ℕ) → nat_le n m ≡ true → n ≤ m
+pub within : (n m : ℕ) → nat_le n m ≡ true → n ≤ m
 within n m e = grind (arith, nat_tests)
 
-below : (n m : ℕ) → n ≤ m → nat_le n m ≡ true
+pub below : (n m : ℕ) → n ≤ m → nat_le n m ≡ true
 below n m h = grind (arith, nat_tests)
 
 record Bodied (others body : List Member) : Type 0 where
@@ -425,7 +425,7 @@ differ_without (pair k j ps) h = by (is_name k) refl (differ_without ps h.1)
     by true e r = subst (λ x. Differ (pair_keys x)) (sym (without_yes k j ps e)) r
     by false e r = subst (λ x. Differ (pair_keys x)) (sym (without_no k j ps e)) (all_without (λ o. k ≢ o) ps h.0, r)
 
-nesting_without : (ps : Pairs) (n : ℕ) → pairs_nesting ps ≤ n → pairs_nesting (without_name ps) ≤ n
+pub nesting_without : (ps : Pairs) (n : ℕ) → pairs_nesting ps ≤ n → pairs_nesting (without_name ps) ≤ n
 nesting_without no_pairs n h = h
 nesting_without (pair k j ps) n h = by (is_name k) refl (nesting_without ps n (omega arith))
   where

@@ -13,3 +13,6 @@ pub mod CompletePlaces
 pub mod FileRemains
 pub mod SoundFile
 pub mod CompleteFile
+pub mod CheckLemmas
+pub mod LiteralLemmas
+pub mod Answering

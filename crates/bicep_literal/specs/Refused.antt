@@ -18,3 +18,8 @@ abbrev pub IsRefused : List ℕ → SourceFault → Type 0
 IsRefused source (Lexical f) = Refuses source f × (f ≢ lexical.OutOfMemory) × DeclaresNone source
 IsRefused source NotLiteral = ((ts : List Standing) × Spells source ts) × DeclaresNone source
 IsRefused source OutOfMemory = Unit {0}
+
+-- what is told of a fault of the lexer
+abbrev pub told : LexFault → SourceFault
+told lexical.OutOfMemory = OutOfMemory
+told f = Lexical f

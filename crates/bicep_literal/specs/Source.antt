@@ -119,3 +119,7 @@ pub record FileDeclares (ds : List Declaration) (rs : List Resource) : Type 0 wh
 abbrev pub SourceDeclares : List ℕ → List Resource → Type 0
 SourceDeclares source rs =
     (tokens : List Standing) × (ds : List Declaration) × lexer.Spells source tokens × SpellFile tokens ds × FileDeclares ds rs
+
+-- no source declares two lists of resources
+abbrev pub DeclareOneList : Type 0
+DeclareOneList = (source : List ℕ) (p q : List Resource) → SourceDeclares source p → SourceDeclares source q → p ≡ q

@@ -10,13 +10,17 @@ mod compare;
 mod entry;
 mod fault;
 mod frame;
+mod laws;
 mod lexeme;
 mod number;
 mod object;
 mod place;
 mod proper;
+mod reading;
 mod stage;
 mod stop;
 mod words;
 
 pub use fault::SourceFault;
+pub use laws::a_source_declares_one_list;
+pub use reading::resources;

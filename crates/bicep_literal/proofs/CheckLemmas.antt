@@ -73,7 +73,7 @@ pair_of x y = (x, y)
 pairs_apart : (a b : Entry) → kind_and_name a.resource ≢ kind_and_name b.resource → is_same_key a b ≡ false
 pairs_apart a b ne =
     unless _ (λ e. let p = and_parts (is_same_folded a.resource.kind b.resource.kind) (is_same_folded a.resource.name b.resource.name) e in
-        ne (ap₂ pair_of (eq_word (fold a.resource.kind) (fold b.resource.kind) p.0) (eq_word (fold a.resource.name) (fold b.resource.name) p.1)))
+    ne (ap₂ pair_of (eq_word (fold a.resource.kind) (fold b.resource.kind) p.0) (eq_word (fold a.resource.name) (fold b.resource.name) p.1)))
 
 nor : (a b : Bool) → a ≡ false → b ≡ false → (a || b) ≡ false
 nor a b p q = rw p q

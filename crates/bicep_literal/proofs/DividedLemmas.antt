@@ -52,7 +52,7 @@ divided_here (x ∷ xs) ys h = by (x == 64) (divided xs) refl refl h (divided_he
 pub divided_there : (bs kind api : List ℕ) → IsUtf8 kind → bs ≡ kind ++ 64 ∷ api → Lacks kind → divided (chars bs) ≡ Some (chars kind, chars api)
 divided_there bs kind api u is h =
     ap divided
-      (ap chars is
-      ∙ chars-append kind (64 ∷ api) u
-      ∙ ap (λ x. chars kind ++ x) (chars-append (64 ∷ []) api (IsUtf8-from_ascii (64 ∷ []) (one_ascii 64 (lit< tt))) ∙ ap (λ x. x ++ chars api) (chars-IsAscii (64 ∷ []) (one_ascii 64 (lit< tt)))))
+    (ap chars is
+    ∙ chars-append kind (64 ∷ api) u
+    ∙ ap (λ x. chars kind ++ x) (chars-append (64 ∷ []) api (IsUtf8-from_ascii (64 ∷ []) (one_ascii 64 (lit< tt))) ∙ ap (λ x. x ++ chars api) (chars-IsAscii (64 ∷ []) (one_ascii 64 (lit< tt)))))
     ∙ divided_here (chars kind) (chars api) (undivided kind u h)

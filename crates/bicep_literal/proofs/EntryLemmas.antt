@@ -389,8 +389,7 @@ declares symbol path raw e fine h =
     let out : members (each_in_order (without_name raw)) ≡ d.others = ap members (without_each raw) ∙ p.all in
     let out_keys : pair_keys (without_name (each_in_order raw)) ≡ keys d.others = ap pair_keys (sym (pairs-members (without_name (each_in_order raw))) ∙ ap pairs p.all) in
     let name : first_by (bytes_eq (codes "name")) raw ≡ Some (text d.name) = name_stays (first_by (bytes_eq (codes "name")) raw) d.name (sym (first_each (bytes_eq (codes "name")) raw) ∙ p.named) in
-    let deep : pairs_nesting (without_name (each_in_order raw)) ≤ 90 = subst (λ x. x ≤ 90) (sym (ap pairs_nesting (sym (pairs-members (without_name (each_in_order raw))) ∙ ap pairs p.all))) b.shallow in
-    (
+    let deep : pairs_nesting (without_name (each_in_order raw)) ≤ 90 = subst (λ x. x ≤ 90) (sym (ap pairs_nesting (sym (pairs-members (without_name (each_in_order raw))) ∙ ap pairs p.all))) b.shallow in (
       sym s.0,
       record {
         path = t.0 ∙ ap (λ x. x ++ 64 ∷ d.api) w.kind_is ∙ ap (λ x. e.resource.kind ++ 64 ∷ x) w.api_is;

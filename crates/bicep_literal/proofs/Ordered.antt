@@ -43,7 +43,7 @@ mutual
   nesting_stays (int z) h = refl
   nesting_stays (text s) h = refl
   nesting_stays (array js) h = ap suc (row_nesting_stays js h)
-  nesting_stays (object ms) h = 
+  nesting_stays (object ms) h =
       let a = nesting-put_each (each ms) [] (subst Differ (sym (keys-each ms)) h.0) (all_absent (keys (each ms))) in
       let b = nesting-each ms in
       let c = pairs_nesting_stays ms h.1 in

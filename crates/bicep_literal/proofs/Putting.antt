@@ -121,8 +121,7 @@ differing (n ∷ ns) ms o h =
     let more : length next ≡ suc (length ms) = omega arith in
     let all : length (put_each next ns) ≡ length next + length ns = omega arith in
     let r = differing ns next (in_order n.0 n.1 ms o) all in
-    let apart = all_map (λ k. Absent k next) (λ k. (k ≢ n.0) × Absent k ms) (keys ns) (λ k a. keys_of_put (λ other. k ≢ other) n.0 n.1 ms a) r.1 in
-    (
+    let apart = all_map (λ k. Absent k next) (λ k. (k ≢ n.0) × Absent k ms) (keys ns) (λ k a. keys_of_put (λ other. k ≢ other) n.0 n.1 ms a) r.1 in (
       (all_map (λ k. (k ≢ n.0) × Absent k ms) (λ other. n.0 ≢ other) (keys ns) (λ k a e. a.0 (sym e)) apart, r.0),
       (new_key n.0 n.1 ms o more, all_map (λ k. (k ≢ n.0) × Absent k ms) (λ k. Absent k ms) (keys ns) (λ k a. a.1) apart),
     )

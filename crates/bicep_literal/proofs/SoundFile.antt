@@ -44,8 +44,7 @@ statement all es w t ts e h b =
     let a = y.2 in
     let s = a.4 in
     let f = s.2 in
-    let d : Declaration = record { symbol = b.0; path = n.0; members = a.0 } in
-    (
+    let d : Declaration = record { symbol = b.0; path = n.0; members = a.0 } in (
       d ∷ f.0,
       s.0 ∷ f.1,
       (t ∷ ts, any_none is_newline (t ∷ ts), (a.1, (ts, subst (λ x. form.word x (t ∷ ts) ts) e h.0, (b.1, b.2, (n.1, n.2, (y.0, y.1, a.2)))), f.2)),

@@ -108,8 +108,7 @@ sound_begun B F S l.OpenBracket t ts h r =
     (array r.0, r.1, (ts, h ts, r.2), r.3, subst (λ x. Fills (λ g back. Ends B S g back) F x r.1) same e.2)
 sound_begun B F S l.OpenBrace t ts h r =
     let e = r.4 in
-    let o = object_is (each r.0) e.0 e.1 in
-    (
+    let o = object_is (each r.0) e.0 e.1 in (
       object r.0,
       r.1,
       (ts, h ts, r.2),
@@ -185,8 +184,7 @@ member_named B ms name S t ts h r = by (is_special name) refl r
     by true e g = absurd g
     by false e g =
         let b = g.2 in
-        let f = b.4 in
-        (
+        let f = b.4 in (
           pair name b.0 f.0,
           f.1,
           (t ∷ ts, any_none is_separator (t ∷ ts), (ts, h, (g.0, g.1, (b.1, b.2, f.2)))),

@@ -131,12 +131,7 @@ fn resource(
 }
 
 /// The resource that a statement with this symbol, type text and members declares.
-pub fn entry_of(
-    alloc: Global,
-    symbol: Text,
-    path: Text,
-    members: Vec<Field>,
-) -> Result<Entry, Stop>
+pub fn entry_of(alloc: Global, symbol: Text, path: Text, members: Vec<Field>) -> Result<Entry, Stop>
     ensures { Gives (λ e. e) result (entry_of symbol path (map member members.items)) }
 {
     let (kind, api) = divided(alloc, path.as_str())?;

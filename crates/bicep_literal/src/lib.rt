@@ -24,3 +24,6 @@ mod words;
 pub use fault::SourceFault;
 pub use laws::a_source_declares_one_list;
 pub use reading::resources;
+
+#[cfg(test)]
+mod tests;

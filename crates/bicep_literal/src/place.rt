@@ -40,12 +40,7 @@ pub enum Next {
 
 // A value begins.
 #[tactic(auto, using(crate::proofs::ViewLemmas::views))]
-fn begin(
-    alloc: Global,
-    frame: Frame,
-    stack: &mut Vec<Frame>,
-    lexeme: Lexeme,
-) -> Result<Place, Stop>
+fn begin(alloc: Global, frame: Frame, stack: &mut Vec<Frame>, lexeme: Lexeme) -> Result<Place, Stop>
     ensures { Gives (λ p. at (place_of p) (frames_of stack.new.items)) result
         (begun (frame_of frame) (frames_of stack.old.items) lexeme) }
 {
@@ -76,11 +71,7 @@ fn close_array(items: Vec<Value>, stack: &mut Vec<Frame>) -> Result<Place, Stop>
     }
 }
 
-fn close_object(
-    alloc: Global,
-    members: Vec<Field>,
-    stack: &mut Vec<Frame>,
-) -> Result<Next, Stop>
+fn close_object(alloc: Global, members: Vec<Field>, stack: &mut Vec<Frame>) -> Result<Next, Stop>
     ensures { Gives (λ n. next_of n stack.new.items) result
         (object_closed (map member members.items) (frames_of stack.old.items)) }
 {
@@ -119,11 +110,7 @@ fn to_item(
     }
 }
 
-fn past_item(
-    items: Vec<Value>,
-    stack: &mut Vec<Frame>,
-    lexeme: Lexeme,
-) -> Result<Place, Stop>
+fn past_item(items: Vec<Value>, stack: &mut Vec<Frame>, lexeme: Lexeme) -> Result<Place, Stop>
     ensures { Gives (λ p. at (place_of p) (frames_of stack.new.items)) result
         (past_item_step (map json items.items) (frames_of stack.old.items) lexeme) }
 {

@@ -110,12 +110,7 @@ fn assigned(alloc: Global, symbol: Text, path: Text, lexeme: Lexeme) -> Result<S
 }
 
 // One token.
-fn turn(
-    alloc: Global,
-    stage: Stage,
-    found: &mut Vec<Entry>,
-    lexeme: Lexeme,
-) -> Result<Stage, Stop>
+fn turn(alloc: Global, stage: Stage, found: &mut Vec<Entry>, lexeme: Lexeme) -> Result<Stage, Stop>
     ensures { Gives (λ s. (stage_of s, found.new.items)) result
         (turn (stage_of stage) found.old.items lexeme) }
 {

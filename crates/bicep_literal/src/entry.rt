@@ -19,6 +19,7 @@ use std::alloc::Global;
 /// A resource, and the symbol that its statement gives it.
 #[derive(Drop)]
 pub struct Entry {
+    /// The name by which the file speaks of it.
     pub symbol: Text,
     pub resource: Resource,
 }

@@ -5,7 +5,9 @@ use std::alloc::{AllocError, AllocFailed};
 /// Why a part of a source is not read.
 #[derive(Drop)]
 pub enum Stop {
+    /// No source that goes on so is in the literal form.
     NotLiteral,
+    /// Memory was refused.
     OutOfMemory,
 }
 

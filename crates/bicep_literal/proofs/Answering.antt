@@ -1,7 +1,7 @@
 -- What the answer to a source says of it.
-use Rattle.std.proofs.Common.{◌≡◌, ◌≢◌, ℕ, List, map, Bool, true, false, true≢false, Option, Some, None, option_and_then, cond, Result, Ok, Err, refl, sym, ap, ◌∙◌, subst}
+use Rattle.std.proofs.Common.{◌≡◌, ◌≢◌, ℕ, List, map, Bool, true, false, Option, Some, None, option_and_then, cond, Ok, refl, sym, ap, ◌∙◌, subst}
 use Rattle.std.specs.List.{AllByRecursion}
-use Rattle.bicep_lexer.specs.Reading.{Standing, Outcome, reading}
+use Rattle.bicep_lexer.specs.Reading.{Standing}
 use Rattle.bicep_lexer.specs.Grammar as lexer
 use Rattle.bicep_lexer.specs.Faults.{Refuses}
 use Rattle.bicep_lexer.specs.declared.fault.LexFault.{LexFault}

@@ -1,5 +1,5 @@
 -- Which resources may stand in one file.
-use Rattle.std.proofs.Common.{◌≡◌, ◌≢◌, ◌≤◌, ℕ, List, [], ◌∷◌, ◌++◌, length, map, Bool, true, false, true≢false, not, ◌&&◌, ◌||◌, nat_le, bytes_eq, codes, refl, sym, ap, ap₂, ◌∙◌, arith, subst}
+use Rattle.std.proofs.Common.{◌≡◌, ◌≢◌, ◌≤◌, ℕ, List, [], ◌∷◌, ◌++◌, length, map, Bool, true, false, true≢false, not, ◌&&◌, ◌||◌, nat_le, bytes_eq, refl, sym, ap, ap₂, ◌∙◌, arith, subst}
 use Rattle.std.specs.List.{AllByRecursion, list_any}
 use Rattle.arm_value.specs.Look.{fold, is_same_folded}
 use Rattle.literal_template.specs.declared.resource.Resource.{Resource}
@@ -10,7 +10,7 @@ use Rattle.bicep_literal.specs.declared.entry.Entry.{Entry}
 use Rattle.bicep_literal.proofs.Leaves.{eq_word, word_eq}
 use Rattle.bicep_literal.proofs.Putting.{all_map}
 use Rattle.bicep_literal.proofs.EntryLemmas.{or_parts, and_parts, not_true, within, below}
-use Rattle.bicep_literal.proofs.FileRemains.{Enters, EnterEach}
+use Rattle.bicep_literal.proofs.FileRemains.{EnterEach}
 
 abbrev pub folded_symbol : Entry → List ℕ
 folded_symbol e = fold e.symbol

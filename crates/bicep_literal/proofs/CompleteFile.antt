@@ -1,21 +1,16 @@
 -- What is spelled is read.
-use Rattle.std.proofs.Common.{◌≡◌, ℕ, List, [], ◌∷◌, ◌++◌, Bool, true, false, true≢false, Option, Some, None, option_map, option_and_then, cond, bytes_eq, codes, refl, sym, ap, ◌∙◌, subst, append-nil, append_assoc}
+use Rattle.std.proofs.Common.{◌≡◌, ℕ, List, [], ◌∷◌, ◌++◌, true, Option, Some, option_map, option_and_then, codes, refl, sym, ap, ◌∙◌, subst, append-nil, append_assoc}
 use Rattle.std.specs.List.{AllByRecursion}
-use Rattle.arm_value.specs.Json.{object, Pairs, Member}
 use Rattle.bicep_lexer.specs.Reading.{Standing}
 use Rattle.bicep_lexer.specs.declared.kind.TokenKind.TheVariants as k
-use Rattle.bicep_literal.specs.Forms as form
-use Rattle.bicep_literal.specs.Forms.{◌▹◌, is_newline, one, any}
-use Rattle.bicep_literal.specs.Grammar.{literal, Declaration, declaration, file, further, SpellFile}
-use Rattle.bicep_literal.specs.Entries.{entry_of}
-use Rattle.bicep_literal.specs.Lexemes.{word_lexeme, kind_lexeme, lexeme_of}
+use Rattle.bicep_literal.specs.Forms.{is_newline, one, any}
+use Rattle.bicep_literal.specs.Grammar.{Declaration, declaration, file, further, SpellFile}
+use Rattle.bicep_literal.specs.Lexemes.{word_lexeme}
 use Rattle.bicep_literal.specs.declared.lexeme.Lexeme.{Lexeme}
 use Rattle.bicep_literal.specs.declared.lexeme.Lexeme.TheVariants as l
-use Rattle.bicep_literal.specs.Machine.{object_closed}
-use Rattle.bicep_literal.specs.Stages.{Stage, between, behind, begun, named, typed, assigned, inside, Point, is_resource, turn, run, read}
+use Rattle.bicep_literal.specs.Stages.{Stage, between, behind, begun, named, typed, assigned, Point, is_resource, turn, run, read}
 use Rattle.bicep_literal.specs.declared.entry.Entry.{Entry}
-use Rattle.bicep_literal.proofs.Leaves.{Leads, lead_word, lead_name, lead_text, word_eq}
-use Rattle.bicep_literal.proofs.Ordered.{each}
+use Rattle.bicep_literal.proofs.Leaves.{Leads, lead_word, lead_name, lead_text}
 use Rattle.bicep_literal.proofs.EntryLemmas.{computed}
 use Rattle.bicep_literal.proofs.CompletePlaces.{lead_mark, newline_lexeme, complete_body}
 use Rattle.bicep_literal.proofs.FileRemains.{Enters, EnterEach}

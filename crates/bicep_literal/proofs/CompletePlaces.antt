@@ -1,5 +1,5 @@
 -- Inside a body, what is spelled is read, whatever follows it.
-use Rattle.std.proofs.Common.{◌≡◌, ◌≤◌, ◌+◌, ℕ, ℤ, pos, negsuc, List, [], ◌∷◌, ◌++◌, length, Bool, true, false, true≢false, ◌⊎◌, inl, inr, Option, Some, None, option_map, option_and_then, cond, nat_le, codes, refl, sym, ap, ◌∙◌, subst, append-nil, append_assoc, arith}
+use Rattle.std.proofs.Common.{◌≡◌, ◌≤◌, ℕ, ℤ, pos, negsuc, List, [], ◌∷◌, ◌++◌, Bool, true, false, true≢false, ◌⊎◌, inl, inr, Option, Some, None, option_map, option_and_then, nat_le, codes, refl, sym, ap, ◌∙◌, subst, append-nil, append_assoc, arith}
 use Rattle.std.specs.List.{AllByRecursion}
 use Rattle.std.proofs.lemmas.Bool.Decides.{nat_tests}
 use Rattle.arm_value.specs.Json as v
@@ -10,13 +10,13 @@ use Rattle.bicep_lexer.specs.declared.kind.TokenKind.{TokenKind}
 use Rattle.bicep_lexer.specs.declared.kind.TokenKind.TheVariants as k
 use Rattle.bicep_literal.specs.Forms.{◌▹◌, mark, is_newline, is_separator, one, any}
 use Rattle.bicep_literal.specs.Grammar.{literal, items, further_items, members, further_members, member_name}
-use Rattle.bicep_literal.specs.Source.{in_order, row_in_order, each_in_order, Differ}
+use Rattle.bicep_literal.specs.Source.{in_order, row_in_order, Differ}
 use Rattle.bicep_literal.specs.declared.lexeme.Lexeme.{Lexeme}
 use Rattle.bicep_literal.specs.declared.lexeme.Lexeme.TheVariants as l
 use Rattle.bicep_literal.specs.declared.entry.Entry.{Entry}
 use Rattle.bicep_literal.specs.Lexemes.{kind_lexeme, lexeme_of}
 use Rattle.bicep_literal.specs.Machine.{Frame, in_array, in_object, Place, to_item, past_item, to_member, past_member, to_colon, to_value, Next, at, filled, array_of, object_of, begun, array_closed, object_closed, name_read, item_step, step}
-use Rattle.bicep_literal.specs.Stages.{Stage, inside, went, run}
+use Rattle.bicep_literal.specs.Stages.{inside, went, run}
 use Rattle.bicep_literal.proofs.Leaves.{Leads, lead_word, true_lexeme, false_lexeme, null_lexeme, lead_name, lead_text, lead_number}
 use Rattle.bicep_literal.proofs.Ordered.{each, row-items, keys-each, nesting-each, item_plain, pair_plain, row_nesting_stays, pairs_nesting_stays}
 use Rattle.bicep_literal.proofs.Remains.{Fine, FineRow, FinePairs}

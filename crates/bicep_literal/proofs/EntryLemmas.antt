@@ -1,18 +1,16 @@
 -- A statement declares a resource exactly where the computation has it.
-use Rattle.std.proofs.Common.{◌≡◌, ◌≢◌, ◌≤◌, ◌<◌, ◌+◌, ◌==◌, ◌&&◌, ◌||◌, ℕ, suc, max, length, List, [], ◌∷◌, ◌++◌, Bool, true, false, true≢false, not, Option, Some, None, option_map, option_and_then, cond, nat_le, nat_eq, bytes_eq, codes, refl, sym, ap, ◌∙◌, arith, subst, append-nil, append_assoc}
+use Rattle.std.proofs.Common.{◌≡◌, ◌≢◌, ◌≤◌, ◌==◌, ◌&&◌, ◌||◌, ℕ, suc, length, List, [], ◌∷◌, ◌++◌, Bool, true, false, true≢false, not, Option, Some, None, option_map, option_and_then, cond, nat_le, nat_eq, bytes_eq, codes, refl, sym, ap, ◌∙◌, arith, subst, append-nil, append_assoc}
 use Rattle.std.specs.List.{AllByRecursion, list_any}
 use Rattle.std.proofs.lemmas.Bool.Decides.{nat_tests}
-use Rattle.arm_value.specs.Json as v
-use Rattle.arm_value.specs.Json.{Json, null, bool, int, text, array, object, Pairs, no_pairs, pair, Member, pairs, members, nesting, pairs_nesting, members_nesting, pair_keys, keys, put_each}
+use Rattle.arm_value.specs.Json.{Json, null, bool, int, text, array, object, Pairs, no_pairs, pair, Member, pairs, members, pairs_nesting, members_nesting, pair_keys, keys, put_each}
 use Rattle.arm_value.specs.Look.{first_by}
 use Rattle.arm_ids.specs.Segments.{segments, is_empty}
-use Rattle.literal_template.specs.Literals.{pairs_are_plain}
 use Rattle.literal_template.specs.Resources.{is_deployment}
 use Rattle.literal_template.specs.declared.resource.Resource.{Resource}
 use Rattle.bicep_literal.specs.Grammar.{Declaration}
-use Rattle.bicep_literal.specs.Source.{in_order, each_in_order, Differ, NamesDifferInPairs, without_name, is_reserved, Fits, Declares}
+use Rattle.bicep_literal.specs.Source.{in_order, each_in_order, Differ, without_name, is_reserved, Fits, Declares}
 use Rattle.bicep_literal.specs.Machine.{distinct}
-use Rattle.bicep_literal.specs.Entries.{divided, name_text, parted_by, is_name, part, parting, parted, is_fit, is_proper, body_of, resource_of, with_parts, entry_of}
+use Rattle.bicep_literal.specs.Entries.{divided, name_text, parted_by, is_name, parting, parted, is_fit, is_proper, body_of, resource_of, with_parts, entry_of}
 use Rattle.bicep_literal.specs.declared.entry.Entry.{Entry}
 use Rattle.bicep_literal.proofs.Leaves.{eq_word, word_eq}
 use Rattle.bicep_literal.proofs.Putting.{all_map, all_absent, length-put_each}

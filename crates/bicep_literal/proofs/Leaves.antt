@@ -1,5 +1,5 @@
 -- Single tokens: which form a token has, by what it is taken as.
-use Rattle.std.proofs.Common.{◌≡◌, ◌<◌, ◌^◌, ◌||◌, ℕ, ℤ, pos, negsuc, List, [], ◌∷◌, ◌++◌, Bool, true, false, true≢false, nat_lt, bytes_eq, chars, codes, cond, refl, sym, ap, ap₂, ◌∙◌, arith, subst}
+use Rattle.std.proofs.Common.{◌≡◌, ◌<◌, ◌^◌, ◌||◌, ℕ, pos, List, ◌∷◌, Bool, true, false, true≢false, nat_lt, bytes_eq, chars, codes, cond, refl, sym, ap, ◌∙◌, arith, subst}
 use Rattle.std.proofs.lemmas.Slice.Eq.{bytes_eq-Decides}
 use Rattle.std.proofs.lemmas.Bool.Decides.{nat_tests}
 use Rattle.bicep_lexer.specs.Bytes.{number_from}
@@ -7,7 +7,7 @@ use Rattle.bicep_lexer.specs.Reading.{Standing}
 use Rattle.bicep_lexer.specs.Values.{value_of}
 use Rattle.bicep_lexer.specs.declared.kind.TokenKind.{TokenKind}
 use Rattle.bicep_lexer.specs.declared.kind.TokenKind.TheVariants as k
-use Rattle.bicep_literal.specs.Forms.{Form, mark, word, is_value_word, named, is_text_kind, quoted, number}
+use Rattle.bicep_literal.specs.Forms.{mark, word, is_value_word, named, is_text_kind, quoted, number}
 use Rattle.bicep_literal.specs.Grammar.{whole, truth}
 use Rattle.bicep_literal.specs.declared.lexeme.Lexeme.{Lexeme}
 use Rattle.bicep_literal.specs.declared.lexeme.Lexeme.TheVariants as l

@@ -1,15 +1,15 @@
 -- What is declared can be stated by a literal template.
 use Rattle.std.proofs.Common.{◌≡◌, ◌≤◌, ℕ, List, [], ◌∷◌, ◌++◌, Bool, true, false, ◌||◌, refl, sym, ap, ◌∙◌, subst}
 use Rattle.std.specs.List.{AllByRecursion, list_any}
-use Rattle.arm_value.specs.Json.{Json, Pairs, no_pairs, pair, Member, pairs, members, pairs_nesting, members_nesting, pair_keys, keys, put_each, AreMembers}
+use Rattle.arm_value.specs.Json.{Pairs, no_pairs, pair, pairs, pairs_nesting, members_nesting, pair_keys, keys, put_each, AreMembers}
 use Rattle.arm_value.specs.Look.{is_same_folded}
 use Rattle.literal_template.specs.Literals.{pairs_are_plain}
-use Rattle.literal_template.specs.Resources.{is_among, heads, directives, is_head, is_directive, IsLiteral}
+use Rattle.literal_template.specs.Resources.{heads, directives, is_head, is_directive, IsLiteral}
 use Rattle.literal_template.specs.declared.resource.Resource.{Resource}
 use Rattle.bicep_literal.specs.Grammar.{Declaration}
 use Rattle.bicep_literal.specs.Source.{each_in_order, without_name, is_reserved, Declares, DeclareEach}
 use Rattle.bicep_literal.specs.Entries.{is_name}
-use Rattle.bicep_literal.proofs.Ordered.{each, pairs-members, each-keys, keys-each, pair_plain, plain_pair, put_plain, put_without, put_shallow, are_members, pairs_nesting_stays, pairs_plain_stay}
+use Rattle.bicep_literal.proofs.Ordered.{each, pairs-members, keys-each, pair_plain, plain_pair, put_plain, put_without, put_shallow, are_members, pairs_nesting_stays, pairs_plain_stay}
 use Rattle.bicep_literal.proofs.EntryLemmas.{or_parts, nesting_without, without_each, without_yes, without_no}
 
 any_front : (q : List ℕ → Bool) (xs ys : List (List ℕ)) → list_any q (xs ++ ys) ≡ false → (list_any q xs ≡ false) × (list_any q ys ≡ false)

@@ -1,5 +1,5 @@
 -- Numbers that are too large.
-use Rattle.std.proofs.Common.{◌≡◌, ◌≤◌, ◌^◌, ℕ, Bool, false, nat_lt, refl, arith}
+use Rattle.std.proofs.Common.{◌≡◌, ◌≤◌, ◌^◌, ℕ, false, nat_lt, refl, arith}
 use Rattle.std.proofs.lemmas.Bool.Decides.{nat_tests}
 use Rattle.bicep_literal.specs.declared.lexeme.Lexeme.TheVariants.{Other}
 use Rattle.bicep_literal.specs.Lexemes.{counted}

@@ -1,14 +1,12 @@
 -- Values with their members in order.
-use Rattle.std.proofs.Common.{◌≡◌, ◌≢◌, ◌≤◌, ◌+◌, ℕ, suc, max, length, List, [], ◌∷◌, ◌||◌, Bool, true, false, true≢false, Option, Some, None, option_map, cond, nat_le, nat_eq, refl, sym, ap, ◌∙◌, arith, subst}
+use Rattle.std.proofs.Common.{◌≡◌, ◌≤◌, ℕ, suc, List, [], ◌∷◌, ◌||◌, Bool, true, false, true≢false, cond, refl, sym, ap, ◌∙◌, arith, subst}
 use Rattle.std.specs.List.{AllByRecursion, list_any}
-use Rattle.std.specs.List.Sorted.{IsStrictlySortedBy}
-use Rattle.std.proofs.lemmas.Bool.Decides.{nat_tests}
-use Rattle.arm_value.specs.Json.{Json, null, bool, int, text, array, object, Row, no_items, item, Pairs, no_pairs, pair, Member, row, pairs, items, members, nesting, row_nesting, pairs_nesting, items_nesting, members_nesting, pair_keys, keys, key_cmp, put_each, put, IsInOrder, IsOrderly, RowIsOrderly, PairsAreOrderly, AreMembers}
+use Rattle.arm_value.specs.Json.{Json, null, bool, int, text, array, object, Row, no_items, item, Pairs, no_pairs, pair, Member, row, pairs, items, members, nesting, row_nesting, pairs_nesting, members_nesting, pair_keys, keys, put_each, put, IsInOrder, IsOrderly, RowIsOrderly, PairsAreOrderly, AreMembers}
 use Rattle.arm_value.proofs.SetLemmas as set
 use Rattle.arm_value.proofs.JsonLemmas.{IsInOrder-nil}
 use Rattle.literal_template.specs.Literals.{is_special, is_plain, row_is_plain, pairs_are_plain}
 use Rattle.bicep_literal.specs.Source.{in_order, row_in_order, each_in_order, Differ, NamesDiffer, NamesDifferInRow, NamesDifferInPairs}
-use Rattle.bicep_literal.proofs.Putting.{members_put_each, differing, length-put_each, nesting-put_each, all_absent}
+use Rattle.bicep_literal.proofs.Putting.{members_put_each, nesting-put_each, all_absent}
 
 -- ---- lists and rows
 

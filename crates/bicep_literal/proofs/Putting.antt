@@ -1,10 +1,10 @@
 -- Members put among others: what holds of each, how many there are, and how deep they nest.
-use Rattle.std.proofs.Common.{◌≡◌, ◌≢◌, ◌≤◌, ◌<◌, ◌+◌, ℕ, suc, max, length, List, [], ◌∷◌, ◌++◌, Bool, true, false, Ordering, Less, Equal, Greater, encode_utf8_all, refl, sym, ap, ◌∙◌, arith, subst}
+use Rattle.std.proofs.Common.{◌≡◌, ◌≢◌, ◌≤◌, ◌+◌, ℕ, suc, max, length, List, [], ◌∷◌, Ordering, Less, Equal, Greater, encode_utf8_all, refl, sym, ap, ◌∙◌, arith, subst}
 use Rattle.std.proofs.lemmas.Cmp.{nat_list_cmp_total}
 use Rattle.std.specs.Ordering.{ordering_reverse, match_ordering}
 use Rattle.std.specs.List.{AllByRecursion}
 use Rattle.std.specs.List.Sorted.{IsStrictlySortedBy}
-use Rattle.arm_value.specs.Json.{Json, Member, nesting, members_nesting, pairs, keys, put, put_each, key_cmp, IsInOrder}
+use Rattle.arm_value.specs.Json.{Json, Member, nesting, members_nesting, keys, put, put_each, key_cmp, IsInOrder}
 use Rattle.arm_value.proofs.SetLemmas.{equal_keys, in_order}
 use Rattle.bicep_literal.specs.Source.{Differ}
 

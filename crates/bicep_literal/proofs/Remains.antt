@@ -1,5 +1,5 @@
 -- What is still to come, at each place that a reading can be at.
-use Rattle.std.proofs.Common.{◌≡◌, ℕ, List, [], ◌∷◌, ◌++◌, Bool, true, false, Option, Some, None}
+use Rattle.std.proofs.Common.{◌≡◌, List, [], ◌∷◌, ◌++◌, true, Option, Some, None}
 use Rattle.arm_value.specs.Json as v
 use Rattle.arm_value.specs.Json.{Json, Row, Pairs, Member}
 use Rattle.bicep_lexer.specs.Reading.{Standing}
@@ -7,7 +7,7 @@ use Rattle.bicep_lexer.specs.declared.kind.TokenKind.TheVariants as k
 use Rattle.literal_template.specs.Literals.{is_plain, row_is_plain, pairs_are_plain}
 use Rattle.bicep_literal.specs.Forms.{◌▹◌, mark, is_separator, any}
 use Rattle.bicep_literal.specs.Grammar.{literal, items, further_items, members, further_members}
-use Rattle.bicep_literal.specs.Source.{in_order, row_in_order, each_in_order, NamesDiffer, NamesDifferInRow, NamesDifferInPairs}
+use Rattle.bicep_literal.specs.Source.{in_order, row_in_order, NamesDiffer, NamesDifferInRow, NamesDifferInPairs}
 use Rattle.bicep_literal.specs.Machine.{Frame, in_array, in_object, Place, to_item, past_item, to_member, past_member, to_colon, to_value, Next, at, ended, array_of, object_of}
 use Rattle.bicep_literal.proofs.Ordered.{each}
 

@@ -1,24 +1,22 @@
 -- What is read is spelled.
-use Rattle.std.proofs.Common.{◌≡◌, ℕ, List, [], ◌∷◌, ◌++◌, Bool, true, false, Option, Some, None, option_map, option_and_then, cond, bytes_eq, codes, refl, sym, ap, ◌∙◌, subst, append-nil, append_assoc}
-use Rattle.arm_value.specs.Json.{object, Pairs, Member}
+use Rattle.std.proofs.Common.{◌≡◌, ℕ, List, [], ◌∷◌, ◌++◌, Bool, true, false, Option, Some, None, option_map, option_and_then, cond, codes, refl, sym, ap, ◌∙◌, subst, append-nil, append_assoc}
 use Rattle.bicep_lexer.specs.Reading.{Standing}
 use Rattle.bicep_lexer.specs.declared.kind.TokenKind.TheVariants as k
 use Rattle.bicep_literal.specs.Forms as form
 use Rattle.bicep_literal.specs.Forms.{◌▹◌, is_newline, any}
-use Rattle.bicep_literal.specs.Grammar.{literal, Declaration, file, further, SpellFile}
+use Rattle.bicep_literal.specs.Grammar.{Declaration, file, further, SpellFile}
 use Rattle.bicep_literal.specs.Entries.{entry_of}
 use Rattle.bicep_literal.specs.Lexemes.{lexeme_of}
 use Rattle.bicep_literal.specs.declared.lexeme.Lexeme.{Lexeme}
 use Rattle.bicep_literal.specs.declared.lexeme.Lexeme.TheVariants as l
-use Rattle.bicep_literal.specs.Machine.{Frame, Place, to_member, Next, at, ended, step}
+use Rattle.bicep_literal.specs.Machine.{Next, at, ended, step}
 use Rattle.bicep_literal.specs.Stages.{Stage, between, behind, begun, named, typed, assigned, inside, Point, went, is_resource, turn, finished, run, read}
 use Rattle.bicep_literal.specs.declared.entry.Entry.{Entry}
 use Rattle.bicep_literal.proofs.Leaves.{Told, told, eq_word}
-use Rattle.bicep_literal.proofs.Ordered.{each}
-use Rattle.bicep_literal.proofs.Remains.{FinePairs, Remains, Goes}
+use Rattle.bicep_literal.proofs.Remains.{Goes}
 use Rattle.bicep_literal.proofs.SoundPlaces.{any_none, any_more, one_of, sound_step}
 use Rattle.bicep_literal.proofs.EntryLemmas.{declares}
-use Rattle.bicep_literal.proofs.FileRemains.{EnterEach, Follow, Stated, IsBegun, FileRemains, GoesOn}
+use Rattle.bicep_literal.proofs.FileRemains.{EnterEach, Stated, IsBegun, FileRemains, GoesOn}
 
 newline_is : (t : Standing) → t.0 ≡ k.Newline → is_newline t.0 ≡ true
 newline_is t e = ap is_newline e

@@ -1,6 +1,5 @@
 -- A step inside a body reads its token: what remains behind it remains, with the token, before it.
-use Rattle.std.proofs.Common.{◌≡◌, ◌+◌, ◌≤◌, ℕ, List, [], ◌∷◌, ◌++◌, length, Bool, true, false, true≢false, ◌⊎◌, inl, inr, Option, Some, None, option_map, cond, nat_le, nat_eq, refl, sym, ap, ◌∙◌, subst, append-nil, append_assoc, arith, codes}
-use Rattle.std.specs.List.{AllByRecursion}
+use Rattle.std.proofs.Common.{◌≡◌, ℕ, List, [], ◌∷◌, ◌++◌, length, Bool, true, false, inl, inr, Option, Some, None, option_map, cond, nat_le, nat_eq, refl, sym, ap, ◌∙◌, subst, append-nil, append_assoc, arith}
 use Rattle.std.proofs.lemmas.Bool.Decides.{nat_tests}
 use Rattle.arm_value.specs.Json as v
 use Rattle.arm_value.specs.Json.{Json, null, bool, int, text, array, object, Row, no_items, item, Pairs, no_pairs, pair, Member, pairs, put_each, keys, members_nesting}
@@ -11,14 +10,14 @@ use Rattle.bicep_lexer.specs.declared.kind.TokenKind.{TokenKind}
 use Rattle.bicep_lexer.specs.declared.kind.TokenKind.TheVariants as k
 use Rattle.bicep_literal.specs.Forms.{◌▹◌, is_separator, one, any}
 use Rattle.bicep_literal.specs.Grammar.{literal, items, further_items, members, further_members, member_name}
-use Rattle.bicep_literal.specs.Source.{in_order, row_in_order, each_in_order, Differ}
+use Rattle.bicep_literal.specs.Source.{in_order, row_in_order, Differ}
 use Rattle.bicep_literal.specs.declared.lexeme.Lexeme.{Lexeme}
 use Rattle.bicep_literal.specs.declared.lexeme.Lexeme.TheVariants as l
-use Rattle.bicep_literal.specs.Machine.{Frame, in_array, in_object, Place, to_item, past_item, to_member, past_member, to_colon, to_value, Next, at, ended, filled, distinct, array_of, object_of, begun, array_closed, object_closed, name_read, item_step, past_item_step, member_step, past_member_step, colon_step, step}
+use Rattle.bicep_literal.specs.Machine.{Frame, in_array, in_object, Place, to_item, past_item, to_member, past_member, to_colon, to_value, at, filled, distinct, array_of, object_of, begun, array_closed, object_closed, name_read, item_step, past_item_step, member_step, past_member_step, colon_step, step}
 use Rattle.bicep_literal.proofs.Leaves.{Told}
 use Rattle.bicep_literal.proofs.Putting.{differing}
-use Rattle.bicep_literal.proofs.Ordered.{each, row-items, pairs-members, keys-each, plain_item, plain_pair}
-use Rattle.bicep_literal.proofs.Remains.{Held, an_array, an_object, value_held, Fine, FineRow, FinePairs, Fills, Ends, Begins, Remains, Goes}
+use Rattle.bicep_literal.proofs.Ordered.{each, row-items, keys-each, plain_item, plain_pair}
+use Rattle.bicep_literal.proofs.Remains.{an_array, an_object, Fine, Fills, Ends, Begins, Remains, Goes}
 
 abbrev pub Body : Type 1
 Body = List Member → List Standing → Type 0

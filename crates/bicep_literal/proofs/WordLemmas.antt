@@ -1,5 +1,5 @@
 -- Words of ASCII characters are their own characters.
-use Rattle.std.proofs.Common.{◌≡◌, ◌<◌, ℕ, zero, suc, get_or, Bool, true, false, ◌&&◌, nat_lt, List, [], ◌∷◌, chars, IsUtf8, bytes_eq, refl, ap, sym, ◌∙◌, arith, true≢false, ◌||◌}
+use Rattle.std.proofs.Common.{◌≡◌, ◌<◌, ℕ, zero, suc, Bool, true, false, ◌&&◌, nat_lt, List, [], ◌∷◌, chars, IsUtf8, bytes_eq, refl, ap, sym, ◌∙◌, arith, true≢false, ◌||◌}
 use Rattle.std.specs.List.{list_all, list_any}
 use Rattle.std.proofs.lemmas.Bool.Decides.{nat_tests}
 use Rattle.std.proofs.lemmas.Str.{chars-IsAscii, IsUtf8-from_ascii}

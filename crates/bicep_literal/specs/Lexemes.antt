@@ -1,5 +1,5 @@
 -- What the literal form makes of a token.
-use Rattle.std.specs.Prelude.{ℕ, pos, ◌^◌, nat_lt, Bool, true, false, List, bytes_eq, chars, codes, if◌then◌else◌}
+use Rattle.std.specs.Prelude.{ℕ, pos, ◌^◌, nat_lt, true, false, List, bytes_eq, chars, codes, if◌then◌else◌}
 use Rattle.bicep_lexer.specs.Bytes.{number_from}
 use Rattle.bicep_lexer.specs.Reading.{Standing}
 use Rattle.bicep_lexer.specs.Values.{value_of}

@@ -1,5 +1,5 @@
 -- Reading the members of a resource, one token after another, with what is open on a stack.
-use Rattle.std.specs.Prelude.{ℕ, nat_le, nat_eq, ◌&&◌, List, [], ◌∷◌, ◌++◌, length, Option, Some, None, option_map, option_and_then, if◌then◌else◌}
+use Rattle.std.specs.Prelude.{ℕ, nat_le, nat_eq, List, [], ◌∷◌, ◌++◌, length, Option, Some, None, option_map, if◌then◌else◌}
 use Rattle.arm_value.specs.Json.{Json, null, bool, int, text, array, object, Member, row, pairs, put_each, items_nesting, members_nesting}
 use Rattle.literal_template.specs.Literals.{is_special}
 use Rattle.bicep_literal.specs.declared.lexeme.Lexeme.{Lexeme}

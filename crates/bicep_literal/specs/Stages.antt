@@ -1,6 +1,5 @@
 -- Reading a file, one token after another.
 use Rattle.std.specs.Prelude.{ℕ, Bool, List, [], ◌∷◌, ◌++◌, bytes_eq, Option, Some, None, option_map, option_and_then, codes, if◌then◌else◌}
-use Rattle.arm_value.specs.Json.{Member}
 use Rattle.bicep_lexer.specs.Reading.{Standing}
 use Rattle.bicep_literal.specs.declared.lexeme.Lexeme.{Lexeme}
 use Rattle.bicep_literal.specs.declared.lexeme.Lexeme.TheVariants as lexeme

@@ -1,5 +1,5 @@
 -- What the values of the code stand for.
-use Rattle.std.specs.Prelude.{ℕ, List, [], ◌∷◌, map, Option, Some, None, Result, Ok, Err, ◌≡◌}
+use Rattle.std.specs.Prelude.{List, [], ◌∷◌, map, Option, Some, None, Result, Ok, Err, ◌≡◌}
 use Rattle.arm_value.specs.View.{json, member}
 use Rattle.bicep_literal.specs.declared.frame.Frame as frames
 use Rattle.bicep_literal.specs.declared.frame.Frame.TheVariants as frame

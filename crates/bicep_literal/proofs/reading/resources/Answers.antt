@@ -1,4 +1,4 @@
-use Rattle.std.proofs.Common.{◌≡◌, Some, map, ap, sym, ◌∙◌, subst, List}
+use Rattle.std.proofs.Common.{map, ap, sym, ◌∙◌, subst, List}
 use Rattle.bicep_lexer.specs.declared.token.Token.{Token}
 use Rattle.bicep_lexer.specs.Reading.{standing}
 use Rattle.bicep_literal.specs.Checks.{declared}

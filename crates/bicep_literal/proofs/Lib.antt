@@ -8,6 +8,7 @@ pub mod Ordered
 pub mod Leaves
 pub mod Remains
 pub mod SoundPlaces
+pub mod PartedLemmas
 pub mod EntryLemmas
 pub mod CompletePlaces
 pub mod FileRemains

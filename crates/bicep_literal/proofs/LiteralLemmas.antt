@@ -10,7 +10,8 @@ use Rattle.bicep_literal.specs.Grammar.{Declaration}
 use Rattle.bicep_literal.specs.Source.{each_in_order, without_name, is_reserved, Declares, DeclareEach}
 use Rattle.bicep_literal.specs.Entries.{is_name}
 use Rattle.bicep_literal.proofs.Ordered.{each, pairs-members, keys-each, pair_plain, plain_pair, put_plain, put_without, put_shallow, are_members, pairs_nesting_stays, pairs_plain_stay}
-use Rattle.bicep_literal.proofs.EntryLemmas.{or_parts, nesting_without, without_each, without_yes, without_no}
+use Rattle.bicep_literal.proofs.EntryLemmas.{or_parts, nesting_without}
+use Rattle.bicep_literal.proofs.PartedLemmas.{without_each, without_yes, without_no}
 
 any_front : (q : List ℕ → Bool) (xs ys : List (List ℕ)) → list_any q (xs ++ ys) ≡ false → (list_any q xs ≡ false) × (list_any q ys ≡ false)
 any_front q [] ys h = (refl, h)

@@ -98,7 +98,8 @@ fn inside(
 }
 
 fn assigned(alloc: Global, symbol: Text, path: Text, lexeme: Lexeme) -> Result<Stage, Stop>
-    ensures { (es : List Entry) → Gives (λ s. (stage_of s, es)) result (assigned_turn symbol path es lexeme) }
+    ensures { (es : List Entry) → Gives (λ s. (stage_of s, es)) result
+        (assigned_turn symbol path es lexeme) }
 {
     match lexeme {
         Lexeme::OpenBrace => {

@@ -1,5 +1,5 @@
 -- Forms of tokens.
-use Rattle.std.specs.Prelude.{◌≡◌, ℕ, ◌<◌, ◌^◌, ◌||◌, Bool, true, false, List, [], ◌∷◌, ◌++◌, length, bytes_eq, chars, codes}
+use Rattle.std.specs.Prelude.{◌≡◌, ℕ, ◌<◌, ◌^◌, ◌||◌, Bool, true, false, List, ◌∷◌, ◌++◌, bytes_eq, chars, codes}
 use Rattle.std.specs.List.{AllByRecursion}
 use Rattle.bicep_lexer.specs.Bytes.{number_from}
 use Rattle.bicep_lexer.specs.Reading.{Standing}

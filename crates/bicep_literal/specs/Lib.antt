@@ -1,3 +1,11 @@
 pub mod Forms
 pub mod Grammar
-pub mod Declared
+pub mod Source
+pub mod Lexemes
+pub mod Machine
+pub mod Views
+pub mod Entries
+pub mod Stages
+pub mod StageViews
+pub mod Checks
+pub mod Refused

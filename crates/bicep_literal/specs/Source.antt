@@ -1,12 +1,12 @@
 -- Which resources a source in the literal form declares.
-use Rattle.std.specs.Prelude.{◌≡◌, ◌≢◌, ℕ, suc, ◌≤◌, ◌==◌, ◌&&◌, Bool, true, false, List, [], ◌∷◌, ◌++◌, map, length, bytes_eq, Option, Some, None, codes, if◌then◌else◌}
+use Rattle.std.specs.Prelude.{◌≡◌, ◌≢◌, ℕ, suc, ◌≤◌, ◌==◌, Bool, true, false, List, [], ◌∷◌, ◌++◌, map, length, bytes_eq, Some, codes, if◌then◌else◌}
 use Rattle.std.specs.List.{list_any, AllByRecursion}
 use Rattle.arm_value.specs.Json.{Json, null, bool, int, text, array, object, Row, no_items, item, Pairs, no_pairs, pair, pairs, pair_keys, pairs_nesting, members, put_each}
 use Rattle.arm_value.specs.Look.{fold, first_by}
 use Rattle.arm_ids.specs.Segments.{segments, is_empty}
 use Rattle.bicep_lexer.specs.Reading.{Standing}
 use Rattle.bicep_lexer.specs.Grammar as lexer
-use Rattle.literal_template.specs.Literals.{is_special, pairs_are_plain}
+use Rattle.literal_template.specs.Literals.{pairs_are_plain}
 use Rattle.literal_template.specs.Resources.{is_among, heads, directives, is_deployment}
 use Rattle.literal_template.specs.declared.resource.Resource.{Resource}
 use Rattle.bicep_literal.specs.Grammar.{Declaration, SpellFile}
@@ -119,3 +119,7 @@ pub record FileDeclares (ds : List Declaration) (rs : List Resource) : Type 0 wh
 abbrev pub SourceDeclares : List ℕ → List Resource → Type 0
 SourceDeclares source rs =
     (tokens : List Standing) × (ds : List Declaration) × lexer.Spells source tokens × SpellFile tokens ds × FileDeclares ds rs
+
+-- no source declares two lists of resources
+abbrev pub DeclareOneList : Type 0
+DeclareOneList = (source : List ℕ) (p q : List Resource) → SourceDeclares source p → SourceDeclares source q → p ≡ q

@@ -1,0 +1,58 @@
+-- Texts at their first `@`, in bytes and in characters.
+use Rattle.std.proofs.Common.{◌≡◌, ◌≢◌, ◌<◌, ◌+◌, ◌==◌, ℕ, suc, Bool, true, false, List, [], ◌∷◌, ◌++◌, length, get_or, Option, Some, None, subst, refl, ap, sym, ◌∙◌, lit<, arith, length-append}
+use Rattle.std.specs.Str.{chars, IsUtf8}
+use Rattle.std.proofs.lemmas.Str.{chars-append, chars-IsAscii, encodes-chars, encode_ascii, IsUtf8-from_ascii}
+use Rattle.std.proofs.lemmas.Bool.Decides.{nat_tests}
+use lib.Utf8.{encode, encodes}
+use Rattle.bicep_literal.specs.Entries.{divided}
+use Rattle.bicep_literal.proofs.BracketLemmas.{one_ascii}
+
+is_at : (c : ℕ) → (c == 64) ≡ true → c ≡ 64
+is_at c e = grind (arith, nat_tests)
+
+abbrev Lacks : List ℕ → Type 0
+Lacks bs = (i : ℕ) → i < length bs → get_or bs i 0 ≢ 64
+
+behind_front : (xs ys : List ℕ) (i : ℕ) → get_or (xs ++ ys) (length xs + i) 0 ≡ get_or ys i 0
+behind_front [] ys i = ap (λ k. get_or ys k 0) (omega arith)
+behind_front (x ∷ xs) ys i = ap (λ k. get_or (x ∷ (xs ++ ys)) k 0) unary ∙ behind_front xs ys i
+  where
+    unary : suc (length xs) + i ≡ suc (length xs + i)
+    unary = omega arith
+
+lacks_rest : (xs ys : List ℕ) → Lacks (xs ++ ys) → Lacks ys
+lacks_rest xs ys h = λ i l e. h (length xs + i) (omega (arith, length-append xs ys)) (behind_front xs ys i ∙ e)
+
+first_is : (c : ℕ) (cs : List ℕ) → c ≡ 64 → encodes (c ∷ cs) ≡ 64 ∷ encodes cs
+first_is c cs e = ap (λ x. encodes (x ∷ cs)) e ∙ ap (λ x. x ++ encodes cs) (encode_ascii 64 (lit< tt))
+
+lacks_first : (bs : List ℕ) → Lacks (64 ∷ bs) → ⊥
+lacks_first bs h = h 0 (omega arith) refl
+
+undivided_at : (cs : List ℕ) → Lacks (encodes cs) → divided cs ≡ None
+undivided_at [] h = refl
+undivided_at (c ∷ cs) h = by (c == 64) refl (undivided_at cs (lacks_rest (encode c) (encodes cs) h))
+  where
+    by : (b : Bool) → (c == 64) ≡ b → divided cs ≡ None → divided (c ∷ cs) ≡ None
+    by true e r = absurd (lacks_first (encodes cs) (λ i. subst Lacks (first_is c cs (is_at c e)) h i))
+    by false e r = rw e (rw r refl)
+
+pub undivided : (bs : List ℕ) → IsUtf8 bs → Lacks bs → divided (chars bs) ≡ None
+undivided bs u h = undivided_at (chars bs) (λ i. subst Lacks (sym (encodes-chars bs u)) h i)
+
+pub divided_here : (xs ys : List ℕ) → divided xs ≡ None → divided (xs ++ 64 ∷ ys) ≡ Some (xs, ys)
+divided_here [] ys h = refl
+divided_here (x ∷ xs) ys h = by (x == 64) (divided xs) refl refl h (divided_here xs ys)
+  where
+    by : (b : Bool) (o : Option (List ℕ × List ℕ)) → (x == 64) ≡ b → divided xs ≡ o → divided (x ∷ xs) ≡ None → (divided xs ≡ None → divided (xs ++ 64 ∷ ys) ≡ Some (xs, ys)) → divided (x ∷ (xs ++ 64 ∷ ys)) ≡ Some (x ∷ xs, ys)
+    by true o e d n r = let some : Some ([], xs) ≡ None = (rw e at n) in absurd cc
+    by false None e d n r = rw e (rw (r d) refl)
+    by false (Some q) e d n r = let some : Some (x ∷ q.0, q.1) ≡ None = (rw d at (rw e at n)) in absurd cc
+
+pub divided_there : (bs kind api : List ℕ) → IsUtf8 kind → bs ≡ kind ++ 64 ∷ api → Lacks kind → divided (chars bs) ≡ Some (chars kind, chars api)
+divided_there bs kind api u is h =
+    ap divided
+    (ap chars is
+    ∙ chars-append kind (64 ∷ api) u
+    ∙ ap (λ x. chars kind ++ x) (chars-append (64 ∷ []) api (IsUtf8-from_ascii (64 ∷ []) (one_ascii 64 (lit< tt))) ∙ ap (λ x. x ++ chars api) (chars-IsAscii (64 ∷ []) (one_ascii 64 (lit< tt)))))
+    ∙ divided_here (chars kind) (chars api) (undivided kind u h)

@@ -1,0 +1,142 @@
+// The resource that a statement declares.
+
+ghost use Rattle.std.specs.Prelude.{◌≡◌, map, chars};
+ghost use Rattle.arm_value.specs.View.{member, json};
+ghost use Rattle.bicep_literal.specs.Entries.{divided, is_name, name_text, part, parted, body_of, resource_of, entry_of};
+ghost use Rattle.bicep_literal.specs.Source.{is_reserved};
+ghost use Rattle.std.specs.List.{list_any};
+ghost use Rattle.arm_value.specs.Json.{keys};
+ghost use Rattle.bicep_literal.specs.Views.{Gives};
+
+use crate::object::{MOST_NESTING, distinct};
+use crate::proper::{is_proper, is_reserved};
+use crate::stop::Stop;
+use crate::words::is_word;
+use arm_value::{Field, Fields, Text, Value, deepest_member};
+use literal_template::Resource;
+use std::alloc::Global;
+
+/// A resource, and the symbol that its statement gives it.
+#[derive(Drop)]
+pub struct Entry {
+    /// The name by which the file speaks of it.
+    pub symbol: Text,
+    pub resource: Resource,
+}
+
+// What stands before the first `@` of a text and behind it.
+fn divided(alloc: Global, path: &str) -> Result<(Text, Text), Stop>
+    ensures { Gives (λ p. p) result (divided (chars path.now)) }
+{
+    match path.split_once('@') {
+        None => Err(Stop::NotLiteral),
+        Some((kind, api)) => Ok((Text::of(alloc, kind)?, Text::of(alloc, api)?)),
+    }
+}
+
+#[tactic(auto, unfolding(crate::specs::Entries::is_name))]
+fn is_name(name: &Text) -> bool
+    ensures { result ≡ is_name name.now }
+{
+    is_word(name.as_str(), "name")
+}
+
+// The text of a member called `name`, of which there is one at most.
+fn name_text(name: Option<Text>, value: Value) -> Result<Text, Stop>
+    ensures { Gives (λ t. t) result (name_text name (json value)) }
+{
+    match name {
+        Some(_) => Err(Stop::NotLiteral),
+        None => match value {
+            Value::Text(text) => Ok(text),
+            _ => Err(Stop::NotLiteral),
+        },
+    }
+}
+
+// A member more: it is the name, or one of the others.
+#[tactic(auto, using(crate::proofs::ViewLemmas::views))]
+fn part(name: Option<Text>, others: &mut Vec<Field>, field: Field) -> Result<Option<Text>, Stop>
+    ensures { Gives (λ n. (n, map member others.new.items)) result
+        (part name (map member others.old.items) (member field)) }
+{
+    if is_name(&field.name) {
+        Ok(Some(name_text(name, field.value)?))
+    } else {
+        others.push(field)?;
+        Ok(name)
+    }
+}
+
+// The name of a resource, and its other members.
+fn parted(alloc: Global, members: Vec<Field>) -> Result<(Text, Vec<Field>), Stop>
+    ensures { Gives (λ p. (p.0, map member p.1.items)) result (parted (map member members.items)) }
+{
+    let mut name = None;
+    let mut others = Vec::new(alloc);
+    for field in members {
+        name = part(name, &mut others, field)?;
+    }
+    match name {
+        None => Err(Stop::NotLiteral),
+        Some(name) => Ok((name, others)),
+    }
+}
+
+// Whether one of the members has a reserved name.
+fn has_reserved(fields: &[Field]) -> bool
+    ensures { result ≡ list_any is_reserved (keys (map member fields.now)) }
+{
+    for field in fields {
+        if is_reserved(&field.name) {
+            return true;
+        }
+    }
+    false
+}
+
+// The body of these members, where they may form one.
+#[tactic(auto, unfolding(crate::specs::Entries::body_of))]
+fn body(alloc: Global, others: Vec<Field>) -> Result<Fields, Stop>
+    ensures { Gives (λ f. f) result (body_of (map member others.items)) }
+{
+    if deepest_member(others.as_slice()) > MOST_NESTING {
+        return Err(Stop::NotLiteral);
+    }
+    if has_reserved(others.as_slice()) {
+        return Err(Stop::NotLiteral);
+    }
+    distinct(alloc, others)
+}
+
+#[tactic(auto, unfolding(crate::specs::Entries::resource_of))]
+fn resource(
+    alloc: Global,
+    kind: Text,
+    api: Text,
+    name: Text,
+    others: Vec<Field>,
+) -> Result<Resource, Stop>
+    ensures { Gives (λ r. r) result (resource_of kind api name (map member others.items)) }
+{
+    if !is_proper(alloc, &kind, &api, &name)? {
+        return Err(Stop::NotLiteral);
+    }
+    let body = body(alloc, others)?;
+    Ok(Resource {
+        kind,
+        api,
+        name,
+        body,
+    })
+}
+
+/// The resource that a statement with this symbol, type text and members declares.
+pub fn entry_of(alloc: Global, symbol: Text, path: Text, members: Vec<Field>) -> Result<Entry, Stop>
+    ensures { Gives (λ e. e) result (entry_of symbol path (map member members.items)) }
+{
+    let (kind, api) = divided(alloc, path.as_str())?;
+    let (name, others) = parted(alloc, members)?;
+    let resource = resource(alloc, kind, api, name, others)?;
+    Ok(Entry { symbol, resource })
+}

@@ -1,0 +1,8 @@
+//! What holds of the literal form.
+
+ghost use Rattle.bicep_literal.specs.Source.{DeclareOneList};
+
+/// No source declares two lists of resources.
+pub fn a_source_declares_one_list()
+    ensures { DeclareOneList }
+{}

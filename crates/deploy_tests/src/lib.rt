@@ -5,5 +5,7 @@
 #![tactic(auto)]
 
 #[cfg(test)]
+mod first_path;
+#[cfg(test)]
 mod graphs;
 pub mod plain_graph;

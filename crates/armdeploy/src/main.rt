@@ -1,0 +1,73 @@
+//! The program `armdeploy`: it makes the real objects, calls `run`, and ends with its status.
+//!
+//! Nothing is decided here. Where the words are not all text, `run` is called with none.
+#![tactic(auto)]
+
+use arm_edges::{RealDisk, RealLink, RealOut, RealTree, Sink};
+use deploy_cli::run;
+use provider_trait::{Catalog, Seat};
+use std::alloc::{AllocError, Global};
+use std::env;
+use std::process::ExitCode;
+use std::rt::Env;
+
+// What takes memory to make.
+#[derive(Drop)]
+struct Parts {
+    words: Vec<String>,
+    crew: Vec<Seat<Catalog>>,
+    folder: String,
+    journal_a: String,
+    journal_b: String,
+}
+
+// The words, four seats over the catalogue, and the names of the working folder and its journal.
+fn parts<R: Env + Alloc<A = Global>>(rt: &R) -> Result<Parts, AllocError> {
+    let alloc = rt.alloc();
+    Ok(Parts {
+        words: words(rt)?,
+        crew: crew(alloc)?,
+        folder: String::from_str(alloc, ".")?,
+        journal_a: String::from_str(alloc, "armdeploy.journal")?,
+        journal_b: String::from_str(alloc, "armdeploy.journal.b")?,
+    })
+}
+
+// The words behind the program's own name.
+fn words<R: Env + Alloc<A = Global>>(rt: &R) -> Result<Vec<String>, AllocError> {
+    match env::args(rt) {
+        Ok(args) => args.skip(1).collect(rt.alloc()),
+        Err(_) => Ok(Vec::new(rt.alloc())),
+    }
+}
+
+fn crew(alloc: Global) -> Result<Vec<Seat<Catalog>>, AllocError> {
+    let mut crew = Vec::with_capacity(alloc, 4)?;
+    for _ in 0..4 {
+        crew.push(Seat::new(Catalog::new(alloc)))?;
+    }
+    Ok(crew)
+}
+
+fn main(rt: HostRuntime) -> ExitCode {
+    let mut out = RealOut::new(rt);
+    let Ok(parts) = parts(&rt) else {
+        let _said = out.write(b"fault memory\n");
+        return ExitCode::from(9);
+    };
+    let mut crew = parts.crew;
+    let mut tree = RealTree::new(rt, parts.folder);
+    let mut disk = RealDisk::new(rt, parts.journal_a, parts.journal_b);
+    let mut link = RealLink::new(rt);
+    let ran = run(
+        &rt,
+        rt.alloc(),
+        &parts.words,
+        &mut tree,
+        &mut disk,
+        &mut crew,
+        &mut link,
+        &mut out,
+    );
+    ExitCode::from(ran.status)
+}

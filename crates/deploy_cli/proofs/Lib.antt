@@ -1,0 +1,9 @@
+mod Parts
+mod Ascii
+mod Members
+mod Courses
+mod Preparing
+mod Placing
+mod Saying
+mod Theorem
+mod Programs

@@ -1,0 +1,9 @@
+pub mod Words
+pub mod Names
+pub mod Puts
+pub mod Program
+pub mod Report
+pub mod Course
+pub mod Prepared
+pub mod Desired
+pub mod Run

@@ -1,0 +1,87 @@
+//! From the bytes of a file to the resources that are planned.
+
+ghost use Rattle.std.specs.Prelude.{◌≡◌, ℕ, List, IfOk, IfErr, IfSome, decimal};
+ghost use Rattle.std.specs.Str.{IsUtf8};
+ghost use Rattle.std.specs.List.{AllByRecursion};
+ghost use Rattle.literal_template.specs.Resources.{IsLiteral};
+ghost use Rattle.literal_template.specs.Template.{StatedBy, template_bytes};
+ghost use Rattle.bicep_literal.specs.Refused.{IsRefused as IsNoSource};
+ghost use Rattle.deploy_cli.specs.Program.{IsProgram, place_of_fault};
+ghost use Rattle.deploy_cli.specs.Prepared.{IsRefused};
+
+use crate::ending::Ending;
+use arm_value::{Bytes, Text};
+use bicep_lexer::LexFault;
+use bicep_literal::{SourceFault, a_source_declares_one_list, resources};
+use literal_template::{Resource, TemplateFault, read, write};
+use std::alloc::Global;
+
+/// The most bytes that a template may have.
+const LARGEST_TEMPLATE: usize = 4_194_304;
+
+/// The resources that the template of a program states: what is planned is read back from its bytes.
+pub(crate) fn program(alloc: Global, bytes: &Bytes) -> Result<Vec<Resource>, Ending>
+    ensures program { IfOk result (λ rs. IsProgram bytes.now rs.items) }
+    ensures literal { IfOk result (λ rs. AllByRecursion IsLiteral rs.items) }
+    ensures stated { IfOk result (λ rs. StatedBy (template_bytes rs.items) rs.items) }
+    ensures refused { IfErr result (IsRefused bytes.now) }
+{
+    let source = match str::from_utf8(bytes.as_slice()) {
+        Ok(source) => source,
+        Err(_) => return Err(Ending::NotText),
+    };
+    let declared = match resources(alloc, source) {
+        Ok(declared) => declared,
+        Err(fault) => return Err(refusal(alloc, fault)),
+    };
+    let Ok(template) = write(alloc, declared.as_slice()) else {
+        return Err(Ending::OutOfMemory);
+    };
+    if template.as_slice().len() > LARGEST_TEMPLATE {
+        a_source_declares_one_list();
+        return Err(Ending::NotBuilt);
+    }
+    match read(alloc, template.as_slice()) {
+        Ok(planned) => Ok(planned),
+        Err(TemplateFault::OutOfMemory) => Err(Ending::OutOfMemory),
+        Err(TemplateFault::NotLiteral) => unreachable!(),
+    }
+}
+
+// How a source that declares no resources ends the deployment.
+fn refusal(alloc: Global, fault: SourceFault) -> Ending
+    ensures { (source : List ℕ) → IsUtf8 source → IsNoSource source fault → IsRefused source result }
+{
+    match fault {
+        SourceFault::Lexical(fault) => match digits(alloc, place_of_fault(fault)) {
+            Some(place) => Ending::Lexical(fault, place),
+            None => Ending::OutOfMemory,
+        },
+        SourceFault::NotLiteral => Ending::NotBuilt,
+        SourceFault::OutOfMemory => Ending::OutOfMemory,
+    }
+}
+
+// The number in decimal digits.
+fn digits(alloc: Global, number: usize) -> Option<Text>
+    ensures { IfSome result (λ text. text ≡ decimal number) }
+{
+    match format!(in alloc; "{number}") {
+        Ok(text) => Some(Text::from_string(text)),
+        Err(_) => None,
+    }
+}
+
+// Where in its source a fault of the lexer stands.
+fn place_of_fault(fault: LexFault) -> usize
+    ensures { result ≡ place_of_fault fault }
+{
+    match fault {
+        LexFault::BadCharacter(at)
+        | LexFault::OpenText(at)
+        | LexFault::BadEscape(at)
+        | LexFault::OpenComment(at)
+        | LexFault::BadNumber(at) => at,
+        LexFault::OutOfMemory => 0,
+    }
+}

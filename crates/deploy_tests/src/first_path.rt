@@ -152,7 +152,7 @@ fn files_and_words_come_to_their_lines(rt: HostRuntime) -> Result<(), Fail> {
         (
             "resource a 'T/t@1' = {\n  name: 'a'\n  n: 'open\n}\n",
             FIRST,
-            "1 error OpenText: main.bicep:39\n",
+            "1 error OpenText: main.bicep:40\n",
         ),
         (
             THING,
@@ -254,8 +254,8 @@ fn an_output_that_fails_turns_success_into_its_fault(rt: HostRuntime) -> Result<
     let alloc = rt.alloc();
     let mut tree = tree_of(alloc, THING, &[])?;
     let mut crew = catalog_crew(alloc)?;
-    let said = outcome(&rt, alloc, FIRST, &mut tree, &mut crew, 16)?;
-    assert_eq!(rt; said.as_str(), "5 Succeeded fir");
+    let said = outcome(&rt, alloc, FIRST, &mut tree, &mut crew, 15)?;
+    assert_eq!(rt; said.as_str(), "5 Succeeded first");
     assert_eq!(rt; crew[0].provider.calls().len(), 1);
     Ok(())
 }

@@ -1,0 +1,4 @@
+pub mod RowLemmas
+pub mod NumberLemmas
+pub mod WordLemmas
+pub mod TextLemmas

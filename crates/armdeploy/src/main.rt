@@ -22,7 +22,7 @@ struct Parts {
 }
 
 // The words, four seats over the catalogue, and the names of the working folder and its journal.
-fn parts<R: Env + Alloc<A = Global>>(rt: &R) -> Result<Parts, AllocError> {
+fn made<R: Env + Alloc<A = Global>>(rt: &R) -> Result<Parts, AllocError> {
     let alloc = rt.alloc();
     Ok(Parts {
         words: words(rt)?,
@@ -51,7 +51,7 @@ fn crew(alloc: Global) -> Result<Vec<Seat<Catalog>>, AllocError> {
 
 fn main(rt: HostRuntime) -> ExitCode {
     let mut out = RealOut::new(rt);
-    let Ok(parts) = parts(&rt) else {
+    let Ok(parts) = made(&rt) else {
         let _said = out.write(b"fault memory\n");
         return ExitCode::from(9);
     };

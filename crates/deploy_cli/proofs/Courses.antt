@@ -29,7 +29,7 @@ store_more may place (q ∷ rs) (t ∷ ss) r s kept at is = (kept.0, store_more 
 pub come_to_stop : (may : May) (place : Place) (rs : List Resource) (ss : List Json) (r : Resource) (e : Ending) → MayStore may place rs ss → slice_get rs (length ss) ≡ Some r → StoresNothing may place r e → ComeTo may place rs ss e
 come_to_stop may place rs ss r (ending.Refused code id) kept at is = (kept, (r, at, is.0, is.1))
 come_to_stop may place rs ss r ending.ProviderFault kept at is = (kept, slice_get_within rs (length ss) r at)
-come_to_stop may place rs ss r ending.OutOfMemory kept at is = kept
+come_to_stop may place rs ss r ending.OutOfMemory kept at is = (kept, slice_get_within rs (length ss) r at)
 come_to_stop may place rs ss r ending.Succeeded kept at is = absurd is
 come_to_stop may place rs ss r ending.Missing kept at is = is
 come_to_stop may place rs ss r ending.TooLarge kept at is = is

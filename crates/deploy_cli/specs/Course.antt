@@ -29,13 +29,13 @@ MayStore may place rs [] = Unit {0}
 MayStore may place [] (s ∷ ss) = ⊥
 MayStore may place (r ∷ rs) (s ∷ ss) = MayAnswer may place r (Stored s) × MayStore may place rs ss
 
--- the puts of these resources, of which the first were stored in these states, come to this ending: to success where they are all; to a refusal of the next of them, with its code and its id; to a fault at the next of them; to want of memory
+-- the puts of these resources, of which the first were stored in these states, come to this ending: to success where they are all; to a refusal of the next of them, with its code and its id; to a fault, or want of memory, at the next of them
 abbrev pub ComeTo : May → Place → List Resource → List Json → Ending → Type 0
 ComeTo may place rs states ending.Succeeded = MayStore may place rs states × (length states ≡ length rs)
 ComeTo may place rs states (ending.Refused code id) =
     MayStore may place rs states × ((r : Resource) × (slice_get rs (length states) ≡ Some r) × MayAnswer may place r (Refused code) × (id ≡ id_of place r))
 ComeTo may place rs states ending.ProviderFault = MayStore may place rs states × (length states < length rs)
-ComeTo may place rs states ending.OutOfMemory = MayStore may place rs states
+ComeTo may place rs states ending.OutOfMemory = MayStore may place rs states × (length states < length rs)
 ComeTo may place rs states _ = ⊥
 
 -- what a call gave that stored this state

@@ -3,6 +3,8 @@
 //! Nothing is decided here. Where the words are not all text, `run` is called with none.
 #![tactic(auto)]
 
+ghost use Rattle.std.specs.Prelude.{◌≡◌, length, IfOk};
+
 use arm_edges::{RealDisk, RealLink, RealOut, RealTree, Sink};
 use deploy_cli::run;
 use provider_trait::{Catalog, Seat};
@@ -22,7 +24,9 @@ struct Parts {
 }
 
 // The words, four seats over the catalogue, and the names of the working folder and its journal.
-fn made<R: Env + Alloc<A = Global>>(rt: &R) -> Result<Parts, AllocError> {
+fn made<R: Env + Alloc<A = Global>>(rt: &R) -> Result<Parts, AllocError>
+    ensures { IfOk result (λ parts. length parts.crew.items ≡ 4) }
+{
     let alloc = rt.alloc();
     Ok(Parts {
         words: words(rt)?,
@@ -41,11 +45,14 @@ fn words<R: Env + Alloc<A = Global>>(rt: &R) -> Result<Vec<String>, AllocError> 
     }
 }
 
-fn crew(alloc: Global) -> Result<Vec<Seat<Catalog>>, AllocError> {
+fn crew(alloc: Global) -> Result<Vec<Seat<Catalog>>, AllocError>
+    ensures { IfOk result (λ crew. length crew.items ≡ 4) }
+{
     let mut crew = Vec::with_capacity(alloc, 4)?;
-    for _ in 0..4 {
-        crew.push(Seat::new(Catalog::new(alloc)))?;
-    }
+    crew.push(Seat::new(Catalog::new(alloc)))?;
+    crew.push(Seat::new(Catalog::new(alloc)))?;
+    crew.push(Seat::new(Catalog::new(alloc)))?;
+    crew.push(Seat::new(Catalog::new(alloc)))?;
     Ok(crew)
 }
 

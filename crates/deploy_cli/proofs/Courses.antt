@@ -1,5 +1,5 @@
 -- Puts that are made one after the other.
-use Rattle.std.proofs.Common.{◌≡◌, ℕ, zero, suc, ◌+◌, ◌≤◌, ◌<◌, Bool, true, false, List, [], ◌∷◌, ◌++◌, map, length, slice_get, get_or, nat_lt, Option, Some, None, is_some, unwrap_or, refl, sym, ◌∙◌, ap, subst, arith, true≢false, append_assoc, length-append}
+use Rattle.std.proofs.Common.{◌≡◌, ℕ, suc, ◌+◌, ◌≤◌, ◌<◌, true, List, [], ◌∷◌, ◌++◌, map, length, slice_get, get_or, nat_lt, Option, Some, None, is_some, unwrap_or, refl, sym, ◌∙◌, ap, subst, arith, true≢false, append_assoc, length-append}
 use Rattle.std.proofs.lemmas.Bool.Decides.{nat_tests}
 use Rattle.std.proofs.lemmas.Option.{slice_get_within, slice_get_read}
 use Rattle.arm_value.specs.Json.{Json}

@@ -1,7 +1,6 @@
 -- Resources of a program can be put.
-use Rattle.std.proofs.Common.{◌≡◌, ℕ, ◌≤◌, ◌<◌, ◌==◌, ◌&&◌, ◌||◌, nat_lt, nat_le, Bool, true, false, List, [], ◌∷◌, length, chars, codes, refl, sym, ◌∙◌, ap, arith, true≢false}
+use Rattle.std.proofs.Common.{◌≡◌, ℕ, ◌&&◌, nat_lt, nat_le, Bool, true, false, List, [], ◌∷◌, length, chars, refl, sym, ◌∙◌, ap, arith, true≢false}
 use Rattle.std.specs.List.{list_all, AllByRecursion}
-use Rattle.std.specs.Char.{is_ascii_alphanumeric, is_ascii_alphabetic, is_ascii_digit}
 use Rattle.std.proofs.lemmas.Bool.Decides.{nat_tests}
 use Rattle.arm_ids.specs.Segments.{is_empty}
 use Rattle.arm_ids.specs.declared.id.Place.{Place}
@@ -10,10 +9,10 @@ use Rattle.literal_template.specs.declared.resource.Resource.{Resource}
 use Rattle.bicep_literal.specs.Grammar.{Declaration}
 use Rattle.bicep_literal.specs.Source.{DeclareEach}
 use Rattle.deploy_cli.specs.Words.{Deploy}
-use Rattle.deploy_cli.specs.Names.{is_name_byte, is_name, is_group_name}
+use Rattle.deploy_cli.specs.Names.{is_name_byte, is_group_name}
 use Rattle.deploy_cli.specs.Puts.{place_of}
 use Rattle.deploy_cli.specs.Course.{CanPut}
-use Rattle.deploy_cli.specs.Prepared.{Folder, IsReady, IsPrepared}
+use Rattle.deploy_cli.specs.Prepared.{Folder, IsPrepared}
 use Rattle.deploy_cli.proofs.Ascii.{word}
 
 -- a byte of a name is an ASCII character

@@ -1,6 +1,5 @@
 -- Why nothing is deployed.
 use Rattle.std.proofs.Common.{◌≡◌, ℕ, List}
-use Rattle.literal_template.specs.declared.resource.Resource.{Resource}
 use Rattle.deploy_cli.specs.Words.{Deploy}
 use Rattle.deploy_cli.specs.Prepared.{Folder, WasRead, IsRefused, FileEnds, IsNotPrepared, TreeCounts}
 use Rattle.deploy_cli.specs.declared.ending.Ending.{Ending}

@@ -1,12 +1,12 @@
 -- Sources that are no program.
-use Rattle.std.proofs.Common.{◌≡◌, ℕ, ◌<◌, ◌≤◌, List, length, sym, subst, ap, arith}
+use Rattle.std.proofs.Common.{ℕ, ◌<◌, List, length, ap, arith}
 use Rattle.std.specs.Str.{IsUtf8}
 use Rattle.literal_template.specs.Template.{template_bytes}
 use Rattle.literal_template.specs.declared.resource.Resource.{Resource}
 use Rattle.bicep_literal.specs.Source.{SourceDeclares, DeclareOneList}
 use Rattle.bicep_literal.specs.Refused.{IsRefused as IsNoSource}
 use Rattle.bicep_literal.specs.declared.fault.SourceFault.TheVariants.{NotLiteral}
-use Rattle.deploy_cli.specs.Program.{IsProgram, IsNotBuilt}
+use Rattle.deploy_cli.specs.Program.{IsNotBuilt}
 
 -- the template that a source would give is too large
 pub too_large : (bytes : List ℕ) (declared : List Resource) → DeclareOneList → IsUtf8 bytes → SourceDeclares bytes declared → 4194304 < length (template_bytes declared) → IsNotBuilt bytes

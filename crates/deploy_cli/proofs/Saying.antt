@@ -1,5 +1,5 @@
 -- What was printed, and the status.
-use Rattle.std.proofs.Common.{◌≡◌, ℕ, Bool, true, List, Result, Ok, Err, is_ok, if◌then◌else◌, inl, inr}
+use Rattle.std.proofs.Common.{◌≡◌, ℕ, Bool, List, Result, Ok, Err, is_ok, if◌then◌else◌, inl, inr}
 use Rattle.arm_edges.specs.Faults.{HasCause}
 use Rattle.arm_edges.specs.declared.faults.Failed.{Failed}
 use Rattle.deploy_cli.specs.Report.{Wrote, Reported, status_unsaid}

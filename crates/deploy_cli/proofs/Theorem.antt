@@ -1,5 +1,5 @@
 -- From what happened to what the status says.
-use Rattle.std.proofs.Common.{is_some, false, true≢false, ◌≡◌, ◌⊎◌, ℕ, Bool, true, List, [], ◌∷◌, ◌++◌, map, length, slice_get, Option, Some, None, inl, inr, refl, sym, ◌∙◌, ap, subst, arith, nat_le, if◌then◌else◌, ◌≤◌}
+use Rattle.std.proofs.Common.{is_some, false, true≢false, ◌≡◌, ◌⊎◌, ℕ, Bool, true, List, [], ◌∷◌, ◌++◌, map, length, Option, Some, None, inl, inr, refl, sym, ◌∙◌, ap, subst, arith, nat_le, if◌then◌else◌, ◌≤◌}
 use Rattle.std.proofs.lemmas.Bool.Decides.{nat_tests}
 use Rattle.std.proofs.lemmas.List.{append-nil}
 use Rattle.arm_edges.specs.Faults.{Rose}
@@ -10,9 +10,9 @@ use Rattle.deploy_cli.specs.Words.{Deploy, command_of}
 use Rattle.deploy_cli.specs.Puts.{place_of, puts, calls_of, Gave}
 use Rattle.deploy_cli.specs.Course.{May, MayStore, ComeTo, gave_by, stored_in}
 use Rattle.deploy_cli.specs.Desired.{AreThere, desired}
-use Rattle.deploy_cli.specs.Prepared.{IsNotPrepared, IsReady}
+use Rattle.deploy_cli.specs.Prepared.{IsReady}
 use Rattle.deploy_cli.specs.Report.{status_of, status_unsaid, line_of, usage as usage_text}
-use Rattle.deploy_cli.specs.Run.{Outside, Moment, NothingPut, WerePut, ComesTo, Says, IsDeployed, IsUsage, Runs, RunsAs, Succeeds, Fails, IsTurnedDown, DeploymentTheorem, WasPrinted, CallsAre}
+use Rattle.deploy_cli.specs.Run.{Outside, Moment, ComesTo, Says, IsUsage, Runs, RunsAs, Succeeds, Fails, IsTurnedDown, DeploymentTheorem, WasPrinted, CallsAre}
 use Rattle.deploy_cli.specs.declared.ending.Ending.{Ending}
 use Rattle.deploy_cli.specs.declared.ending.Ending.TheVariants as ending
 

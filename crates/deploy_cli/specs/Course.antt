@@ -9,7 +9,7 @@ use Rattle.bicep_literal.specs.Source.{Fits}
 use Rattle.provider_trait.specs.declared.act.Act.{Act}
 use Rattle.provider_trait.specs.declared.act.Act.TheVariants.{Put}
 use Rattle.provider_trait.specs.declared.answer.Answer.{Answer}
-use Rattle.provider_trait.specs.declared.answer.Answer.TheVariants.{Stored, Gone, Refused}
+use Rattle.provider_trait.specs.declared.answer.Answer.TheVariants.{Stored, Refused}
 use Rattle.provider_trait.specs.declared.answer.ProviderFault.TheVariants.{Fault}
 use Rattle.deploy_cli.specs.Puts.{id_of, body_of, Gave}
 use Rattle.deploy_cli.specs.declared.ending.Ending.{Ending}

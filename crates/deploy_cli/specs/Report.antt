@@ -1,5 +1,5 @@
 -- What is printed of an ending, and with which status the program ends.
-use Rattle.std.specs.Prelude.{◌≡◌, ℕ, ◌≤◌, nat_le, Bool, true, List, [], ◌∷◌, ◌++◌, take, encode_utf8_all, codes, Result, Ok, Err, ◌⊎◌, if◌then◌else◌}
+use Rattle.std.specs.Prelude.{◌≡◌, ℕ, nat_le, Bool, true, List, ◌++◌, take, encode_utf8_all, codes, Result, Ok, Err, ◌⊎◌, if◌then◌else◌}
 use Rattle.arm_edges.specs.Faults.{Rose}
 use Rattle.arm_edges.specs.declared.faults.Failed.{Failed}
 use Rattle.bicep_lexer.specs.declared.fault.LexFault.{LexFault}

@@ -1,5 +1,5 @@
 -- Which words are a command. Words are their bytes in UTF-8.
-use Rattle.std.specs.Prelude.{ℕ, ◌==◌, ◌&&◌, not, Bool, true, false, List, [], ◌∷◌, bytes_eq, Option, Some, None, codes, if◌then◌else◌}
+use Rattle.std.specs.Prelude.{ℕ, ◌==◌, ◌&&◌, not, Bool, false, List, [], ◌∷◌, bytes_eq, Option, Some, None, codes, if◌then◌else◌}
 use Rattle.deploy_cli.specs.declared.words.Command.{Command}
 
 -- what is to be deployed: the name of the source's file, and the names of the group and of the deployment

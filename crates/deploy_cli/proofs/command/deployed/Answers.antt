@@ -1,4 +1,3 @@
-use Rattle.std.proofs.Common.{◌≡◌}
 use Rattle.deploy_cli.specs.Words.{deploy_of}
 use Rattle.deploy_cli.specs.Report.{line_of, status_of}
 use Rattle.deploy_cli.proofs.Saying.{reported}

@@ -1,4 +1,4 @@
-use Rattle.std.proofs.Common.{◌≡◌, sym, subst, List}
+use Rattle.std.proofs.Common.{sym, subst, List}
 use Rattle.std.specs.List.{AllByRecursion}
 use Rattle.arm_ids.specs.declared.id.Place.{Place}
 use Rattle.literal_template.specs.declared.resource.Resource.{Resource}

@@ -1,8 +1,7 @@
-use Rattle.std.proofs.Common.{◌≡◌, ℕ, ◌+◌, ◌≤◌, List, [], ◌∷◌, ◌++◌, map, length, ◌∙◌, ap, sym, refl, subst, arith, length-append}
+use Rattle.std.proofs.Common.{List, [], ◌∷◌, ◌++◌, map, length, ◌∙◌, ap, sym, subst, arith, length-append}
 use Rattle.arm_value.specs.Json.{Json}
-use Rattle.deploy_cli.specs.Puts.{put_of, puts, calls_of, Gave}
+use Rattle.deploy_cli.specs.Puts.{puts, calls_of, Gave}
 use Rattle.deploy_cli.specs.Course.{stored_in, last_gave, MayStore}
-use Rattle.provider_trait.specs.declared.call.Call.{Call}
 use Rattle.deploy_cli.proofs.Courses.{store_more, come_to_stop, one_last, told_more, map_more, found_at, one_within}
 use Rattle.deploy_cli.proofs.puts.put_all.Goals as goal
 

@@ -1,5 +1,3 @@
-use Rattle.std.proofs.Common.{◌++◌, codes}
-use Rattle.deploy_cli.specs.Report.{three}
 use Rattle.deploy_cli.proofs.Parts.{wrote_then, wrote_short}
 use Rattle.deploy_cli.proofs.report.write_both.Goals as goal
 

@@ -1,5 +1,4 @@
-use Rattle.std.proofs.Common.{◌++◌, codes}
-use Rattle.deploy_cli.specs.Report.{three}
+use Rattle.std.proofs.Common.{◌++◌}
 use Rattle.deploy_cli.proofs.Parts.{wrote_then, wrote_short}
 use Rattle.deploy_cli.proofs.report.write_three.Goals as goal
 

@@ -1,6 +1,6 @@
-use Rattle.std.proofs.Common.{◌≡◌, ℕ, List, ◌∷◌, map, string_bytes, slice_set, slice_index_or, ◌∙◌, ap, subst}
+use Rattle.std.proofs.Common.{◌≡◌, List, ◌∷◌, map, string_bytes, slice_set, slice_index_or, ◌∙◌, ap, subst}
 use Rattle.provider_trait.specs.declared.seat.Seat.{Seat}
-use Rattle.deploy_cli.specs.Run.{Outside, Moment, DeploymentTheorem}
+use Rattle.deploy_cli.specs.Run.{DeploymentTheorem}
 use Rattle.deploy_cli.proofs.Theorem.{theorem}
 use Rattle.deploy_cli.proofs.top.run.Goals as goal
 

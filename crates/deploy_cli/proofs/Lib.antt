@@ -2,7 +2,6 @@ mod Parts
 mod Ascii
 mod Members
 mod Courses
-mod Preparing
 mod Placing
 mod Saying
 mod Theorem

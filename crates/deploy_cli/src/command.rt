@@ -22,9 +22,29 @@ pub(crate) fn command<T: Tree, P: Provider, O: Sink>(
     out: &mut O,
 ) -> u8
     ensures { Runs
-        (record { folder = record { tells = T.tells_files; file = T.file tree.old }; may = P.may; tells_calls = P.tells; tells_written = O.tells_written })
-        (record { tree_faults = T.faults tree.old; provider_faults = P.faults provider.old; calls = P.calls provider.old; out_faults = O.faults out.old; written = O.written out.old })
-        (record { tree_faults = T.faults tree.new; provider_faults = P.faults provider.new; calls = P.calls provider.new; out_faults = O.faults out.new; written = O.written out.new })
+        (record {
+          folder = record {
+            tells = T.tells_files;
+            file = T.file tree.old;
+          };
+          may = P.may;
+          tells_calls = P.tells;
+          tells_written = O.tells_written;
+        })
+        (record {
+          tree_faults = T.faults tree.old;
+          provider_faults = P.faults provider.old;
+          calls = P.calls provider.old;
+          out_faults = O.faults out.old;
+          written = O.written out.old;
+        })
+        (record {
+          tree_faults = T.faults tree.new;
+          provider_faults = P.faults provider.new;
+          calls = P.calls provider.new;
+          out_faults = O.faults out.new;
+          written = O.written out.new;
+        })
         (map string_bytes words.now) result }
 {
     match command_of(words) {
@@ -42,9 +62,29 @@ fn deployed<T: Tree, P: Provider, O: Sink>(
     out: &mut O,
 ) -> u8
     ensures { IsDeployed
-        (record { folder = record { tells = T.tells_files; file = T.file tree.old }; may = P.may; tells_calls = P.tells; tells_written = O.tells_written })
-        (record { tree_faults = T.faults tree.old; provider_faults = P.faults provider.old; calls = P.calls provider.old; out_faults = O.faults out.old; written = O.written out.old })
-        (record { tree_faults = T.faults tree.new; provider_faults = P.faults provider.new; calls = P.calls provider.new; out_faults = O.faults out.new; written = O.written out.new })
+        (record {
+          folder = record {
+            tells = T.tells_files;
+            file = T.file tree.old;
+          };
+          may = P.may;
+          tells_calls = P.tells;
+          tells_written = O.tells_written;
+        })
+        (record {
+          tree_faults = T.faults tree.old;
+          provider_faults = P.faults provider.old;
+          calls = P.calls provider.old;
+          out_faults = O.faults out.old;
+          written = O.written out.old;
+        })
+        (record {
+          tree_faults = T.faults tree.new;
+          provider_faults = P.faults provider.new;
+          calls = P.calls provider.new;
+          out_faults = O.faults out.new;
+          written = O.written out.new;
+        })
         (deploy_of command.now) result }
 {
     let course = deploy(alloc, command, tree, provider);

@@ -22,10 +22,31 @@ pub(crate) fn deploy<T: Tree, P: Provider>(
     tree: &mut T,
     provider: &mut P,
 ) -> Course
-    ensures { (tells_written : Bool) (out_before out_now : ℕ) (written_before written_now : List ℕ) → ComesTo
-        (record { folder = record { tells = T.tells_files; file = T.file tree.old }; may = P.may; tells_calls = P.tells; tells_written = tells_written })
-        (record { tree_faults = T.faults tree.old; provider_faults = P.faults provider.old; calls = P.calls provider.old; out_faults = out_before; written = written_before })
-        (record { tree_faults = T.faults tree.new; provider_faults = P.faults provider.new; calls = P.calls provider.new; out_faults = out_now; written = written_now })
+    ensures { (tells_written : Bool) (out_before out_now : ℕ) (written_before written_now : List ℕ) →
+        ComesTo
+        (record {
+          folder = record {
+            tells = T.tells_files;
+            file = T.file tree.old;
+          };
+          may = P.may;
+          tells_calls = P.tells;
+          tells_written = tells_written;
+        })
+        (record {
+          tree_faults = T.faults tree.old;
+          provider_faults = P.faults provider.old;
+          calls = P.calls provider.old;
+          out_faults = out_before;
+          written = written_before;
+        })
+        (record {
+          tree_faults = T.faults tree.new;
+          provider_faults = P.faults provider.new;
+          calls = P.calls provider.new;
+          out_faults = out_now;
+          written = written_now;
+        })
         (deploy_of command.now) result.states.items result.ending }
 {
     let resources = match prepared(alloc, command, tree) {

@@ -50,7 +50,10 @@ pub(crate) fn program(alloc: Global, bytes: &Bytes) -> Result<Vec<Resource>, End
 
 // How a source that declares no resources ends the deployment.
 fn refusal(alloc: Global, fault: SourceFault) -> Ending
-    ensures { (source : List ℕ) → IsUtf8 source → IsNoSource source fault → IsRefused source result }
+    ensures { (source : List ℕ) →
+        IsUtf8 source →
+        IsNoSource source fault →
+        IsRefused source result }
 {
     match fault {
         SourceFault::Lexical(fault) => match digits(alloc, place_of_fault(fault)) {

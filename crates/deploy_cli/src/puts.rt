@@ -36,7 +36,8 @@ pub(crate) fn put_all<P: Provider>(
     requires can { AllByRecursion (CanPut place.now) resources.now }
     requires few { length resources.now ≤ 800 }
     ensures comes { ComeTo P.may place.now resources.now result.states.items result.ending }
-    ensures told { P.tells ≡ true → P.calls provider.new ≡ P.calls provider.old ++ calls_of (puts place.now 1 resources.now) (gave_by result.states.items result.ending) }
+    ensures told { P.tells ≡ true →
+        P.calls provider.new ≡ P.calls provider.old ++ calls_of (puts place.now 1 resources.now) (gave_by result.states.items result.ending) }
     ensures count { CountsTo (P.faults provider.old) (P.faults provider.new) result.ending }
 {
     let Ok(mut states) = Vec::with_capacity(alloc, resources.len()) else {
@@ -89,7 +90,8 @@ fn put_one<P: Provider>(
     requires { CanPut place.now resource.now }
     ensures stored { IfOk result (λ s. MayAnswer P.may place.now resource.now (Stored s)) }
     ensures not_stored { IfErr result (StoresNothing P.may place.now resource.now) }
-    ensures told { P.tells ≡ true → P.calls provider.new ≡ P.calls provider.old ++ calls_of (put_of place.now task resource.now ∷ []) (gave_one result) }
+    ensures told { P.tells ≡ true →
+        P.calls provider.new ≡ P.calls provider.old ++ calls_of (put_of place.now task resource.now ∷ []) (gave_one result) }
     ensures count { CountsOne (P.faults provider.old) (P.faults provider.new) result }
 {
     let Ok(id) = id_of(alloc, place, resource) else {

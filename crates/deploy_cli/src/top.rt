@@ -48,9 +48,29 @@ pub fn run<R: Threads + Wait + Sync, T: Tree, D: Disk, P: Provider, L: Link, O: 
 ) -> Ran
     requires crew { 0 < length crew.old.items }
     ensures theorem { OfFirstSeat (λ before after. DeploymentTheorem
-        (record { folder = record { tells = T.tells_files; file = T.file tree.old }; may = P.may; tells_calls = P.tells; tells_written = O.tells_written })
-        (record { tree_faults = T.faults tree.old; provider_faults = P.faults before; calls = P.calls before; out_faults = O.faults out.old; written = O.written out.old })
-        (record { tree_faults = T.faults tree.new; provider_faults = P.faults after; calls = P.calls after; out_faults = O.faults out.new; written = O.written out.new })
+        (record {
+          folder = record {
+            tells = T.tells_files;
+            file = T.file tree.old;
+          };
+          may = P.may;
+          tells_calls = P.tells;
+          tells_written = O.tells_written;
+        })
+        (record {
+          tree_faults = T.faults tree.old;
+          provider_faults = P.faults before;
+          calls = P.calls before;
+          out_faults = O.faults out.old;
+          written = O.written out.old;
+        })
+        (record {
+          tree_faults = T.faults tree.new;
+          provider_faults = P.faults after;
+          calls = P.calls after;
+          out_faults = O.faults out.new;
+          written = O.written out.new;
+        })
         (map string_bytes words.now) result.status) crew.old.items crew.new.items }
     ensures disk { disk.new ≡ disk.old }
     ensures link { link.new ≡ link.old }

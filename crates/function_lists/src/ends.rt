@@ -6,7 +6,7 @@ ghost use Rattle.function_lists.specs.Ends as row;
 ghost use Rattle.function_lists.specs.Ends.{amount, first_part, last_part, without_front, front_alone};
 
 use crate::characters::{characters_of, text_of_characters};
-use crate::values::{array_of, copies};
+use crate::values::{array_of, copies, copy_or_null};
 use arm_value::{Items, OutOfMemory, Text, Value};
 use std::alloc::Global;
 
@@ -35,16 +35,6 @@ fn before<T>(elements: &[T], count: u64) -> &[T]
         return elements;
     }
     &elements[..count as usize]
-}
-
-// The value again, null for none.
-fn copy_or_null(alloc: Global, value: Option<&Value>) -> Result<Value, OutOfMemory>
-    ensures { IfOk result (λ copy. json copy ≡ or_null (option_map (λ v. json v.now) value.entry)) }
-{
-    match value {
-        Some(value) => value.copy(alloc),
-        None => Ok(Value::Null),
-    }
 }
 
 fn first_character(alloc: Global, text: &Text) -> Result<Text, OutOfMemory>

@@ -139,8 +139,8 @@ pub fn distinct(alloc: Global, values: &[Value]) -> Result<Vec<Value>, OutOfMemo
 {
     let mut all = Vec::new(alloc);
     for i in 0..values.len() {
-        let is_new = !is_among(&values[..i], &values[i]);
-        add_passing(alloc, &mut all, &values[i], is_new)?;
+        let value = &values[i];
+        add_passing(alloc, &mut all, value, !is_among(&values[..i], value))?;
     }
     Ok(all)
 }

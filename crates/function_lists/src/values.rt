@@ -2,7 +2,7 @@
 ghost use Rattle.std.specs.Prelude.{◌≡◌, ◌≤◌, [], nat_le, map, option_map, IfOk, Some, None, if◌then◌else◌};
 ghost use Rattle.arm_value.specs.Json.{put_each, members_nesting};
 ghost use Rattle.arm_value.specs.View.{json, member, entry};
-ghost use Rattle.function_lists.specs.Values.{array_of, object_of};
+ghost use Rattle.function_lists.specs.Values.{array_of, object_of, or_null};
 
 use arm_value::{Field, Fields, Items, OutOfMemory, Text, Value, deepest_item};
 use std::alloc::Global;
@@ -71,4 +71,14 @@ pub fn copies(alloc: Global, values: &[Value]) -> Result<Vec<Value>, OutOfMemory
         copies.push(value.copy(alloc)?)?;
     }
     Ok(copies)
+}
+
+/// The value again, null for none.
+pub fn copy_or_null(alloc: Global, value: Option<&Value>) -> Result<Value, OutOfMemory>
+    ensures { IfOk result (λ copy. json copy ≡ or_null (option_map (λ v. json v.now) value.entry)) }
+{
+    match value {
+        Some(value) => value.copy(alloc),
+        None => Ok(Value::Null),
+    }
 }

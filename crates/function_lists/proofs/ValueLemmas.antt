@@ -2,7 +2,8 @@
 use Rattle.std.proofs.Common.{◌≡◌, ◌<◌, ◌≤◌, ℕ, suc, Bool, true, false, List, [], ◌∷◌, ◌++◌, Option, Some, None, refl, ap, sym, ◌∙◌, arith}
 use Rattle.std.specs.Prelude.{nat_le, if◌then◌else◌}
 use Rattle.std.proofs.lemmas.Bool.Decides.{nat_tests}
-use Rattle.arm_value.specs.Json.{Json, array, object, row, pairs, nesting, items_nesting, members_nesting, Member, put_each}
+use Rattle.arm_value.specs.Json.{Json, array, object, row, items, pairs, nesting, items_nesting, members_nesting, Member, put_each}
+use Rattle.function_numbers.proofs.RowLemmas.{items_of_row}
 use Rattle.function_lists.specs.Values.{array_of, object_of, capped}
 
 within_120 : (n : ℕ) → n ≤ 119 → nat_le (suc n) 120 ≡ true
@@ -49,3 +50,12 @@ too_deep all ms ns m h e =
     let among : nesting m.1 ≤ members_nesting all = rw e (deep_among ms ns m) in
     let deep : nat_le (members_nesting all) 119 ≡ false = grind (arith, nat_tests) in
     rw deep refl
+
+array_is_by : (b : Bool) (js ks : List Json) → (if b then Some (array (row js)) else None) ≡ Some (array (row ks)) → ks ≡ js
+array_is_by true js ks e = let rows : row ks ≡ row js = cc in sym (items_of_row ks) ∙ ap items rows ∙ items_of_row js
+array_is_by false js ks e = absurd (cc)
+
+-- an array is of the items that it was made of
+pub array_of_is : (js ks : List Json) → array_of js ≡ Some (array (row ks)) → ks ≡ js
+unfolding array_of
+array_of_is js ks e = array_is_by (nat_le (nesting (array (row js))) 120) js ks e

@@ -127,16 +127,16 @@ fn items_behind(alloc: Global, items: &Items, count: u64) -> Result<Option<Value
 }
 
 #[tactic(auto, using(function_numbers::proofs::RowLemmas::items_of_row))]
-fn without_front(
-    alloc: Global,
-    value: &Value,
-    count: &Value,
-) -> Result<Option<Value>, OutOfMemory>
+fn without_front(alloc: Global, value: &Value, count: &Value) -> Result<Option<Value>, OutOfMemory>
     ensures { IfOk result (λ part. option_map json part ≡ without_front (json value.now) (json count.now)) }
 {
     match (value, count) {
         (Value::Array(items), Value::Int(count)) => items_behind(alloc, items, amount(*count)),
-        (Value::Text(text), Value::Int(count)) => Ok(Some(Value::Text(text_behind(alloc, text, amount(*count))?))),
+        (Value::Text(text), Value::Int(count)) => Ok(Some(Value::Text(text_behind(
+            alloc,
+            text,
+            amount(*count),
+        )?))),
         _ => Ok(None),
     }
 }
@@ -173,7 +173,11 @@ fn front_alone(alloc: Global, value: &Value, count: &Value) -> Result<Option<Val
 {
     match (value, count) {
         (Value::Array(items), Value::Int(count)) => items_before(alloc, items, amount(*count)),
-        (Value::Text(text), Value::Int(count)) => Ok(Some(Value::Text(text_before(alloc, text, amount(*count))?))),
+        (Value::Text(text), Value::Int(count)) => Ok(Some(Value::Text(text_before(
+            alloc,
+            text,
+            amount(*count),
+        )?))),
         _ => Ok(None),
     }
 }

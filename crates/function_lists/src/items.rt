@@ -49,11 +49,7 @@ pub fn create_array(alloc: Global, args: &[Value]) -> Result<Option<Value>, OutO
 }
 
 // Puts copies of the values last.
-fn add_copies(
-    alloc: Global,
-    list: &mut Vec<Value>,
-    values: &[Value],
-) -> Result<(), OutOfMemory>
+fn add_copies(alloc: Global, list: &mut Vec<Value>, values: &[Value]) -> Result<(), OutOfMemory>
     ensures { OnOk result (map json list.new.items ≡ map json list.old.items ++ map json values.now) }
 {
     for value in values {
@@ -197,11 +193,7 @@ fn is_in_all(item: &Value, arrays: &[Value]) -> bool
 }
 
 // Copies of the values that are in all these arrays.
-fn common(
-    alloc: Global,
-    values: &[Value],
-    arrays: &[Value],
-) -> Result<Vec<Value>, OutOfMemory>
+fn common(alloc: Global, values: &[Value], arrays: &[Value]) -> Result<Vec<Value>, OutOfMemory>
     ensures { IfOk result (λ all. map json all.items
         ≡ filter (λ j. list_all (is_item_of j) (map json arrays.now)) (map json values.now)) }
 {

@@ -9,6 +9,7 @@
 pub mod characters;
 mod ends;
 pub mod items;
+pub mod laws;
 pub mod members;
 mod parts;
 pub mod sizes;
@@ -16,8 +17,13 @@ mod unions;
 pub mod values;
 
 pub use ends::{first, last, skip, take};
-pub use items::{concat_arrays, create_array, flatten, intersection_of_arrays, to_array, union_of_arrays};
+pub use items::{
+    concat_arrays, create_array, flatten, intersection_of_arrays, to_array, union_of_arrays,
+};
 pub use members::{create_object, object_items, object_keys};
 pub use parts::try_get;
 pub use sizes::{empty, size};
 pub use unions::{intersection, union};
+
+#[cfg(test)]
+mod tests;

@@ -212,11 +212,7 @@ fn add_passing(
 }
 
 // Copies of the members that are equal in all these objects.
-fn common(
-    alloc: Global,
-    fields: &[Field],
-    objects: &[Value],
-) -> Result<Vec<Field>, OutOfMemory>
+fn common(alloc: Global, fields: &[Field], objects: &[Value]) -> Result<Vec<Field>, OutOfMemory>
     ensures { IfOk result (λ all. map member all.items
         ≡ filter (λ m. list_all (is_member_of m) (map json objects.now)) (map member fields.now)) }
 {

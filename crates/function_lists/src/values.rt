@@ -31,10 +31,7 @@ fn sorted(alloc: Global, members: Vec<Field>) -> Result<BTreeMap<String, Value>,
 }
 
 // The members of values that stand by their names; none where one nests above 119.
-fn in_order(
-    alloc: Global,
-    sorted: BTreeMap<String, Value>,
-) -> Result<Option<Fields>, OutOfMemory>
+fn in_order(alloc: Global, sorted: BTreeMap<String, Value>) -> Result<Option<Fields>, OutOfMemory>
     ensures { IfOk result (λ fields. fields ≡ (if nat_le (members_nesting (map entry sorted.entries)) 119
         then Some (map entry sorted.entries) else None)) }
 {

@@ -29,14 +29,20 @@ begins_short (c ∷ cs) (d ∷ ds) h = ap (λ b. (c == d) && b) (begins_short cs
 pub no_room : (part s : List ℕ) → length s < length part → false ≡ begins part s
 no_room part s h = sym (begins_short part s h)
 
-pub begins_differs : (part s : List ℕ) (i c d : ℕ) (all : Bool) → i < length part → i < length s → c ≡ get_or part i c → d ≡ get_or s i d → (c == d) ≡ false → begins (drop i part) (drop i s) ≡ all → false ≡ all
+differ : (c d : ℕ) → (c ≡ d → ⊥) → (c == d) ≡ false
+differ c d h = grind (arith, nat_tests)
+
+alike : (c d : ℕ) → c ≡ d → (c == d) ≡ true
+alike c d h = grind (arith, nat_tests)
+
+pub begins_differs : (part s : List ℕ) (i c d : ℕ) (all : Bool) → i < length part → i < length s → c ≡ get_or part i c → d ≡ get_or s i d → (c ≡ d → ⊥) → begins (drop i part) (drop i s) ≡ all → false ≡ all
 begins_differs part s i c d all h k e f t before =
-    let step : begins (drop i part) (drop i s) ≡ false = ap₂ begins (next_character part i c h e) (next_character s i d k f) ∙ begins-cons c d (drop (i + 1) part) (drop (i + 1) s) ∙ ap (λ b. b && begins (drop (i + 1) part) (drop (i + 1) s)) t in
+    let step : begins (drop i part) (drop i s) ≡ false = ap₂ begins (next_character part i c h e) (next_character s i d k f) ∙ begins-cons c d (drop (i + 1) part) (drop (i + 1) s) ∙ ap (λ b. b && begins (drop (i + 1) part) (drop (i + 1) s)) (differ c d t) in
     sym step ∙ before
 
-pub begins_more : (part s : List ℕ) (i c d : ℕ) (all : Bool) → i < length part → i < length s → c ≡ get_or part i c → d ≡ get_or s i d → (c == d) ≡ true → begins (drop i part) (drop i s) ≡ all → begins (drop (i + 1) part) (drop (i + 1) s) ≡ all
+pub begins_more : (part s : List ℕ) (i c d : ℕ) (all : Bool) → i < length part → i < length s → c ≡ get_or part i c → d ≡ get_or s i d → c ≡ d → begins (drop i part) (drop i s) ≡ all → begins (drop (i + 1) part) (drop (i + 1) s) ≡ all
 begins_more part s i c d all h k e f t before =
-    let step : begins (drop i part) (drop i s) ≡ begins (drop (i + 1) part) (drop (i + 1) s) = ap₂ begins (next_character part i c h e) (next_character s i d k f) ∙ begins-cons c d (drop (i + 1) part) (drop (i + 1) s) ∙ ap (λ b. b && begins (drop (i + 1) part) (drop (i + 1) s)) t in
+    let step : begins (drop i part) (drop i s) ≡ begins (drop (i + 1) part) (drop (i + 1) s) = ap₂ begins (next_character part i c h e) (next_character s i d k f) ∙ begins-cons c d (drop (i + 1) part) (drop (i + 1) s) ∙ ap (λ b. b && begins (drop (i + 1) part) (drop (i + 1) s)) (alike c d t) in
     sym step ∙ before
 
 pub begins_ends : (part s : List ℕ) (i : ℕ) (all : Bool) → length part ≤ i → begins (drop i part) (drop i s) ≡ all → true ≡ all

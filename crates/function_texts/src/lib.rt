@@ -10,4 +10,4 @@ mod letters;
 pub mod places;
 
 pub use letters::{to_lower, to_upper, trim};
-pub use places::{ends_with, starts_with};
+pub use places::{contains, ends_with, index_of, last_index_of, starts_with};

@@ -134,3 +134,115 @@ pub fn ends_with(alloc: Global, args: &[Value]) -> Result<Option<Value>, OutOfMe
         _ => Ok(None),
     }
 }
+
+// A place as a number, -1 where there is none; none beyond 64 bits with a sign.
+fn place(found: Option<usize>) -> Option<Value>
+    ensures { option_map json result ≡ place found }
+{
+    match found {
+        Some(place) => Some(Value::Int(number_from(place)?)),
+        None => Some(Value::Int(-1)),
+    }
+}
+
+fn first_in(alloc: Global, text: &Text, part: &Text) -> Result<Option<usize>, OutOfMemory>
+    ensures { IfOk result (λ found. found ≡ first_from 0 (fold part.now) (fold text.now)) }
+{
+    let characters = folded(alloc, text)?;
+    let part = folded(alloc, part)?;
+    Ok(first_part(part.as_slice(), characters.as_slice()))
+}
+
+#[tactic(auto, using(function_numbers::proofs::RowLemmas::items_of_row))]
+fn index_in(alloc: Global, value: &Value, part: &Value) -> Result<Option<Value>, OutOfMemory>
+    ensures { IfOk result (λ index. option_map json index ≡ index_in (json value.now) (json part.now)) }
+{
+    match value {
+        Value::Array(items) => Ok(place(first_place(items.as_slice(), part))),
+        Value::Text(text) => match part {
+            Value::Text(part) => Ok(place(first_in(alloc, text, part)?)),
+            _ => Ok(None),
+        },
+        _ => Ok(None),
+    }
+}
+
+/// `indexOf`: the least place of a part in a text, whatever the case of ASCII letters, or of an
+/// equal item in an array, counted from 0; -1 where there is none.
+pub fn index_of(alloc: Global, args: &[Value]) -> Result<Option<Value>, OutOfMemory>
+    ensures { IfOk result (λ value. option_map json value ≡ row.index_of (map json args.now)) }
+{
+    match args {
+        [value, part] => index_in(alloc, value, part),
+        _ => Ok(None),
+    }
+}
+
+fn last_in(alloc: Global, text: &Text, part: &Text) -> Result<Option<usize>, OutOfMemory>
+    ensures { IfOk result (λ found. found ≡ last_from 0 (fold part.now) (fold text.now)) }
+{
+    let characters = folded(alloc, text)?;
+    let part = folded(alloc, part)?;
+    Ok(last_part(part.as_slice(), characters.as_slice()))
+}
+
+#[tactic(auto, using(function_numbers::proofs::RowLemmas::items_of_row))]
+fn last_index_in(alloc: Global, value: &Value, part: &Value) -> Result<Option<Value>, OutOfMemory>
+    ensures { IfOk result (λ index. option_map json index ≡ last_index_in (json value.now) (json part.now)) }
+{
+    match value {
+        Value::Array(items) => Ok(place(last_place(items.as_slice(), part))),
+        Value::Text(text) => match part {
+            Value::Text(part) => Ok(place(last_in(alloc, text, part)?)),
+            _ => Ok(None),
+        },
+        _ => Ok(None),
+    }
+}
+
+/// `lastIndexOf`: the greatest place that `indexOf` would find alone; -1 where there is none.
+pub fn last_index_of(alloc: Global, args: &[Value]) -> Result<Option<Value>, OutOfMemory>
+    ensures { IfOk result (λ value. option_map json value ≡ row.last_index_of (map json args.now)) }
+{
+    match args {
+        [value, part] => last_index_in(alloc, value, part),
+        _ => Ok(None),
+    }
+}
+
+fn text_has(alloc: Global, text: &Text, part: &Text) -> Result<bool, OutOfMemory>
+    ensures { IfOk result (λ b. b ≡ is_some (first_from 0 part.now text.now)) }
+{
+    let characters = characters_of(alloc, text)?;
+    let part = characters_of(alloc, part)?;
+    Ok(first_part(part.as_slice(), characters.as_slice()).is_some())
+}
+
+#[tactic(auto, using(function_numbers::proofs::RowLemmas::items_of_row, function_numbers::proofs::RowLemmas::members_of_pairs))]
+fn has_part(alloc: Global, value: &Value, part: &Value) -> Result<Option<Value>, OutOfMemory>
+    ensures { IfOk result (λ has. option_map json has ≡ has_part (json value.now) (json part.now)) }
+{
+    match value {
+        Value::Array(items) => Ok(Some(Value::Bool(is_among(items.as_slice(), part)))),
+        Value::Text(text) => match part {
+            Value::Text(part) => Ok(Some(Value::Bool(text_has(alloc, text, part)?))),
+            _ => Ok(None),
+        },
+        Value::Object(fields) => match part {
+            Value::Text(key) => Ok(Some(Value::Bool(has_key(fields, key)))),
+            _ => Ok(None),
+        },
+        _ => Ok(None),
+    }
+}
+
+/// `contains`: whether a text has the part exactly, an array an equal item, or an object the key
+/// whatever the case of ASCII letters.
+pub fn contains(alloc: Global, args: &[Value]) -> Result<Option<Value>, OutOfMemory>
+    ensures { IfOk result (λ value. option_map json value ≡ row.contains (map json args.now)) }
+{
+    match args {
+        [value, part] => has_part(alloc, value, part),
+        _ => Ok(None),
+    }
+}

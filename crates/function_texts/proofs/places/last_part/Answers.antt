@@ -7,4 +7,4 @@ pub loop-i-preserved : goal.loop-i-preserved
 loop-i-preserved c = last_more c.loop-i.i c.args.part.now c.args.characters.now c.loop-i.found _ _ c.loop-i-test.true (c.here_or-found.ensures ∙ ap (λ b. or_found (here b c.loop-i.i) c.loop-i.found) c.begins.ensures) c.loop-i.invariant
 
 pub returns : goal.returns
-returns c = ?
+returns c = last_ends c.loop-i.i c.args.part.now c.args.characters.now c.begins-2.result c.loop-i.found c.here_or.result _ c.loop-i-test.false c.loop-i.auto.i-end c.begins-2.ensures c.here_or.ensures c.loop-i.invariant

@@ -4,9 +4,3 @@ pub mod Flow
 pub mod Files
 pub mod Inside
 pub mod Disk
-pub mod Moves
-pub mod ReadImages
-pub mod Log
-pub mod Contents
-pub mod Begun
-pub mod MemDisks

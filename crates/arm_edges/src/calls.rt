@@ -2,7 +2,7 @@
 ghost use Rattle.std.specs.Prelude.{◌≡◌, ◌<◌, ◌≤◌, IsErr, IfOk, IsTrue, if◌then◌else◌};
 ghost use Rattle.std.specs.Prelude.{◌↔◌};
 ghost use Rattle.arm_edges.specs.Faults.{HasCause, Rose};
-ghost use Rattle.arm_edges.specs.Calls.{is_listed, limit_at, one_more};
+ghost use Rattle.arm_edges.specs.Calls.{after_call, is_listed, limit_at, one_more};
 
 use crate::Failed;
 
@@ -35,13 +35,13 @@ impl Calls {
         }
     }
 
-    /// Makes the next call, and says how many bytes it moves at most. It fails, and counts that, exactly where it is listed.
-    pub(crate) fn begin(&mut self) -> Result<usize, Failed>
+    /// Makes the next call, and says how many bytes it moves at most, one at least. It fails, and counts that, exactly where it is listed.
+    pub fn begin(&mut self) -> Result<usize, Failed>
         ensures listed { IsErr result ↔ IsTrue (is_listed self.old.fails.items self.old.made) }
         ensures limit { IfOk result (λ n. n ≡ limit_at self.old.cuts.items self.old.made) }
         ensures some { IfOk result (λ n. 0 < n) }
         ensures cause { HasCause self.old.faults self.new.faults result }
-        ensures after { self.new ≡ record self.old { made = one_more self.old.made; faults = (if is_listed self.old.fails.items self.old.made then one_more self.old.faults else self.old.faults) } }
+        ensures after { self.new ≡ after_call self.old }
     {
         let fails = self.fails.contains(&self.made);
         let limit = self.limit();
@@ -53,7 +53,7 @@ impl Calls {
     }
 
     /// Counts a call that failed.
-    pub(crate) fn fault(&mut self) -> Failed
+    pub fn fault(&mut self) -> Failed
         ensures after { self.new ≡ record self.old { faults = one_more self.old.faults } }
         ensures later { self.old.faults ≤ self.new.faults }
         ensures rose { Rose self.old.faults self.new.faults }

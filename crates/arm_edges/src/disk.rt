@@ -36,7 +36,8 @@ pub trait Disk: Send {
 
     /// The length of the part.
     fn length(&mut self, part: Part) -> Result<u64, Failed>
-        ensures told { IfOk result (λ n. tells_reads ≡ true → n ≡ length (on part (reads self.old))) }
+        ensures told { IfOk result (λ n. tells_reads ≡ true
+            → n ≡ length (on part (reads self.old))) }
         ensures reads { reads self.new ≡ reads self.old }
         ensures images { tells_images ≡ true → GoesOn moment left Unchanged self.old self.new }
         ensures cause { HasCause (faults self.old) (faults self.new) result }
@@ -45,7 +46,8 @@ pub trait Disk: Send {
     /// Puts the bytes from that place on at the front of the buffer, and says how many; 0 for a buffer that is not empty is the end.
     fn read_at(&mut self, part: Part, at: u64, buf: &mut [u8]) -> Result<usize, Failed>
         ensures bound { IfOk result (λ n. n ≤ length buf.old) }
-        ensures told { IfOk result (λ n. tells_reads ≡ true → ReadsAt at n (on part (reads self.old)) buf.new) }
+        ensures told { IfOk result (λ n. tells_reads ≡ true
+            → ReadsAt at n (on part (reads self.old)) buf.new) }
         ensures reads { reads self.new ≡ reads self.old }
         ensures images { tells_images ≡ true → GoesOn moment left Unchanged self.old self.new }
         ensures cause { HasCause (faults self.old) (faults self.new) result }
@@ -54,22 +56,28 @@ pub trait Disk: Send {
     /// Writes all the bytes at that place. A crash before the next sync may leave any bytes in their range.
     fn write_at(&mut self, part: Part, at: u64, bytes: &[u8]) -> Result<(), Failed>
         requires { at + length bytes.now ≤ reach self.old }
-        ensures told { OnOk result (tells_reads ≡ true → At part (λ old new. new ≡ overwritten at bytes.now old) (reads self.old) (reads self.new)) }
-        ensures images { tells_images ≡ true → GoesOn moment left (At part (Torn at (length bytes.now))) self.old self.new }
+        ensures told { OnOk result (tells_reads ≡ true
+            → At part (λ old new. new ≡ overwritten at bytes.now old)
+            (reads self.old) (reads self.new)) }
+        ensures images { tells_images ≡ true
+            → GoesOn moment left (At part (Torn at (length bytes.now))) self.old self.new }
         ensures cause { HasCause (faults self.old) (faults self.new) result }
         ensures reach { reach self.new ≡ reach self.old };
 
     /// Cuts the part to that length, or fills it up to it with zeros.
     fn cut(&mut self, part: Part, length: u64) -> Result<(), Failed>
         requires { length ≤ reach self.old }
-        ensures told { OnOk result (tells_reads ≡ true → At part (λ old new. new ≡ resized length old) (reads self.old) (reads self.new)) }
-        ensures images { tells_images ≡ true → GoesOn moment left (At part (Cut length)) self.old self.new }
+        ensures told { OnOk result (tells_reads ≡ true
+            → At part (λ old new. new ≡ resized length old) (reads self.old) (reads self.new)) }
+        ensures images { tells_images ≡ true
+            → GoesOn moment left (At part (Cut length)) self.old self.new }
         ensures cause { HasCause (faults self.old) (faults self.new) result }
         ensures reach { reach self.new ≡ reach self.old };
 
     /// Brings what was written to the part onto the disk: a crash then leaves the part as it reads.
     fn sync(&mut self, part: Part) -> Result<(), Failed>
-        ensures kept { OnOk result (tells_images ≡ true → IsKept part (reads self.new) (left self.new (moment self.new))) }
+        ensures kept { OnOk result (tells_images ≡ true
+            → IsKept part (reads self.new) (left self.new (moment self.new))) }
         ensures reads { reads self.new ≡ reads self.old }
         ensures images { tells_images ≡ true → GoesOn moment left Unchanged self.old self.new }
         ensures cause { HasCause (faults self.old) (faults self.new) result }
@@ -78,5 +86,6 @@ pub trait Disk: Send {
     ghost reach_fits: { (disk : Self) → reach disk < 2 ^ 64 };
 
     /// A disk as it reads is one of its images.
-    ghost reads_an_image: { (disk : Self) → tells_images ≡ true → left disk (moment disk) (reads disk) };
+    ghost reads_an_image: { (disk : Self) → tells_images ≡ true
+        → left disk (moment disk) (reads disk) };
 }

@@ -1,27 +1,19 @@
 //! What lies outside: sources and sinks of bytes, trees of files, disks and links.
 //! Each is a trait whose meaning is a count of faults that never falls, and what the object holds where it tells that.
-//! Those in memory tell all; the real ones tell nothing, and raise their count at each failing call.
+//! Sources, sinks, trees and links in memory tell all; the real objects tell nothing, and raise their count at each failing call.
 //! What a count, a file or a disk means is said in `specs/`.
 #![tactic(auto)]
 
-mod begun;
 mod calls;
-mod change;
-mod contents;
-mod crash;
 mod disk;
-mod edit;
 mod faults;
 mod inside;
 mod lent_disk;
 mod link;
-mod log;
-mod mem_disk;
 mod mem_link;
 mod mem_sink;
 mod mem_source;
 mod mem_tree;
-mod ram_disk;
 mod real_disk;
 mod real_link;
 mod real_out;
@@ -31,16 +23,13 @@ mod source;
 mod tree;
 
 pub use calls::Calls;
-pub use contents::{Contents, Room};
 pub use disk::{Disk, Part};
 pub use faults::{Failed, TreeFault};
 pub use link::Link;
-pub use mem_disk::MemDisk;
 pub use mem_link::MemLink;
 pub use mem_sink::MemSink;
 pub use mem_source::MemSource;
 pub use mem_tree::{MemFile, MemTree};
-pub use ram_disk::RamDisk;
 pub use real_disk::RealDisk;
 pub use real_link::RealLink;
 pub use real_out::RealOut;

@@ -60,12 +60,17 @@ impl Sink for MemSink {
     fn write(&mut self, bytes: &[u8]) -> Result<usize, Failed>
         ensures bound { IfOk result (λ n. n ≤ length bytes.now) }
         ensures some { IfOk result (λ n. 0 < length bytes.now → 0 < n) }
-        ensures told { IfOk result (λ n. true ≡ true → self.new.bytes.items ≡ self.old.bytes.items ++ take n bytes.now) }
+        ensures told { IfOk result (λ n. true ≡ true
+            → self.new.bytes.items ≡ self.old.bytes.items ++ take n bytes.now) }
         ensures failed { OnErr result (true ≡ true → self.new.bytes.items ≡ self.old.bytes.items) }
         ensures cause { HasCause self.old.calls.faults self.new.calls.faults result }
         ensures once { OnErr result (self.new.calls.faults ≡ one_more self.old.calls.faults) }
-        ensures piece { IfOk result (λ n. n ≡ min (limit_at self.old.calls.cuts.items self.old.calls.made) (length bytes.now)) }
-        ensures fails { IsErr result ↔ (IsTrue (is_listed self.old.calls.fails.items self.old.calls.made) ⊎ (self.old.room < length self.old.bytes.items + min (limit_at self.old.calls.cuts.items self.old.calls.made) (length bytes.now))) }
+        ensures piece { IfOk result (λ n.
+            n ≡ min (limit_at self.old.calls.cuts.items self.old.calls.made) (length bytes.now)) }
+        ensures fails { IsErr result
+            ↔ (IsTrue (is_listed self.old.calls.fails.items self.old.calls.made)
+            ⊎ (self.old.room < length self.old.bytes.items
+            + min (limit_at self.old.calls.cuts.items self.old.calls.made) (length bytes.now))) }
     {
         let limit = self.calls.begin()?;
         let count = limit.min(bytes.len());

@@ -1,7 +1,7 @@
 ghost use Rattle.std.specs.Prelude.{◌≡◌, ◌≤◌, ◌<◌, true, [], length, take, drop, IsErr, IfOk, OnErr, IsTrue, ◌↔◌, min, length, if◌then◌else◌};
 ghost use Rattle.arm_edges.specs.Faults.{HasCause};
 ghost use Rattle.arm_edges.specs.Flow.{Moved};
-ghost use Rattle.arm_edges.specs.Calls.{is_listed, limit_at, one_more};
+ghost use Rattle.arm_edges.specs.Calls.{after_call, is_listed, limit_at};
 
 use crate::{Calls, Failed, Source};
 
@@ -43,12 +43,18 @@ impl Source for MemSource {
 
     fn read(&mut self, buf: &mut [u8]) -> Result<usize, Failed>
         ensures bound { IfOk result (λ n. n ≤ length buf.old) }
-        ensures told { IfOk result (λ n. true ≡ true → Moved n (drop self.old.taken self.old.bytes.items) (drop self.new.taken self.new.bytes.items) buf.new) }
-        ensures failed { OnErr result (true ≡ true → drop self.new.taken self.new.bytes.items ≡ drop self.old.taken self.old.bytes.items) }
+        ensures told { IfOk result (λ n. true ≡ true
+            → Moved n (drop self.old.taken self.old.bytes.items)
+            (drop self.new.taken self.new.bytes.items) buf.new) }
+        ensures failed { OnErr result (true ≡ true
+            → drop self.new.taken self.new.bytes.items ≡ drop self.old.taken self.old.bytes.items) }
         ensures cause { HasCause self.old.calls.faults self.new.calls.faults result }
-        ensures listed { IsErr result ↔ IsTrue (is_listed self.old.calls.fails.items self.old.calls.made) }
-        ensures piece { IfOk result (λ n. n ≡ min (limit_at self.old.calls.cuts.items self.old.calls.made) (min (length buf.old) (length (drop self.old.taken self.old.bytes.items)))) }
-        ensures counted { self.new.calls ≡ record self.old.calls { made = one_more self.old.calls.made; faults = (if is_listed self.old.calls.fails.items self.old.calls.made then one_more self.old.calls.faults else self.old.calls.faults) } }
+        ensures listed { IsErr result
+            ↔ IsTrue (is_listed self.old.calls.fails.items self.old.calls.made) }
+        ensures piece { IfOk result (λ n.
+            n ≡ min (limit_at self.old.calls.cuts.items self.old.calls.made)
+            (min (length buf.old) (length (drop self.old.taken self.old.bytes.items)))) }
+        ensures counted { self.new.calls ≡ after_call self.old.calls }
     {
         let limit = self.calls.begin()?;
         let rest = &self.bytes[self.taken..];

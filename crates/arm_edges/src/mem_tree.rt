@@ -1,7 +1,7 @@
 ghost use Rattle.std.specs.Prelude.{◌≡◌, ◌≤◌, ◌↔◌, true, length, IfOk, IfSome, IsTrue, IsErrOf, if◌then◌else◌};
 ghost use Rattle.std.specs.Option.{option_copied};
 ghost use Rattle.arm_edges.specs.Files.{AnswersFile, FileCause, file_in};
-ghost use Rattle.arm_edges.specs.Calls.{is_listed, one_more};
+ghost use Rattle.arm_edges.specs.Calls.{after_call, is_listed};
 
 use crate::{Calls, Tree, TreeFault};
 use arm_value::Bytes;
@@ -65,8 +65,9 @@ impl Tree for MemTree {
         ensures size { IfOk result (λ o. IfSome o (λ bytes. length bytes ≤ 4194304)) }
         ensures stays { file_in self.new.files.items ≡ file_in self.old.files.items }
         ensures cause { FileCause self.old.calls.faults self.new.calls.faults result }
-        ensures listed { IsErrOf result TreeFault.Fault ↔ IsTrue (is_listed self.old.calls.fails.items self.old.calls.made) }
-        ensures counted { self.new.calls ≡ record self.old.calls { made = one_more self.old.calls.made; faults = (if is_listed self.old.calls.fails.items self.old.calls.made then one_more self.old.calls.faults else self.old.calls.faults) } }
+        ensures listed { IsErrOf result TreeFault.Fault
+            ↔ IsTrue (is_listed self.old.calls.fails.items self.old.calls.made) }
+        ensures counted { self.new.calls ≡ after_call self.old.calls }
     {
         if self.calls.begin().is_err() {
             return Err(TreeFault::Fault);

@@ -18,7 +18,8 @@ pub trait Source {
     /// Puts the next bytes at the front of the buffer, and says how many; 0 for a buffer that is not empty is the end.
     fn read(&mut self, buf: &mut [u8]) -> Result<usize, Failed>
         ensures bound { IfOk result (λ n. n ≤ length buf.old) }
-        ensures told { IfOk result (λ n. tells_rest ≡ true → Moved n (rest self.old) (rest self.new) buf.new) }
+        ensures told { IfOk result (λ n. tells_rest ≡ true
+            → Moved n (rest self.old) (rest self.new) buf.new) }
         ensures failed { OnErr result (tells_rest ≡ true → rest self.new ≡ rest self.old) }
         ensures cause { HasCause (faults self.old) (faults self.new) result };
 }

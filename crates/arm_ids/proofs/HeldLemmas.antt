@@ -1,8 +1,6 @@
 -- What is held, in the order of ids.
-use Rattle.std.proofs.Common.{◌≡◌, ◌<◌, ◌≤◌, ◌+◌, ◌-◌, ℕ, zero, suc, length, get_or, take, drop, Bool, true, false, List, [], ◌∷◌, ◌++◌, map, bytes_eq, encode_utf8_all, refl, sym, ap, ap₂, ◌∙◌, arith, true≢false, subst, cond, Option, Some, None, Result, Ok, Err, Ordering, Less, Equal, Greater, nat_cmp, ◌⊎◌, inl, inr}
+use Rattle.std.proofs.Common.{◌≡◌, ◌<◌, ◌≤◌, ℕ, zero, suc, length, get_or, take, drop, Bool, true, false, List, [], ◌∷◌, ◌++◌, map, bytes_eq, encode_utf8_all, refl, sym, ap, ap₂, ◌∙◌, arith, true≢false, subst, cond, Option, Some, None, Result, Ok, Err, Ordering, Less, Equal, Greater, ◌⊎◌, inl, inr}
 use Rattle.std.specs.Ordering.{ordering_reverse, match_ordering, ordering_index}
-use Rattle.std.specs.Cmp.{IsTotalOrder}
-use Rattle.std.specs.Cmp.Lexicographic.{slice_cmp}
 use Rattle.std.specs.List.{AllByRecursion}
 use Rattle.std.specs.List.Sorted.{IsStrictlySortedBy, IsNonDecreasingBy, IsBinarySearchResult, IsSearchInRange}
 use Rattle.std.proofs.lemmas.Cmp.{nat_list_cmp_total}

@@ -1,16 +1,15 @@
 -- Ids as texts and as parts.
-use Rattle.std.proofs.Common.{◌≡◌, ◌<◌, ℕ, length, Bool, true, false, List, [], ◌∷◌, ◌++◌, map, chars, IsUtf8, refl, sym, ap, ap₂, ◌∙◌, arith, append_assoc, append-nil, suc, eqb, ◌&&◌, ◌||◌, not, nat_lt, codes, Option, Some, None, true≢false, eq-eqb, cond, subst, ◌⊎◌, inl, inr, ltb, lt-ltb, Result, Ok, Err, IfOk}
-use lib.Utf8.{encode, encodes}
-use Rattle.std.proofs.lemmas.Str.{encode_ascii, chars-append, chars-encodes, chars-nil}
+use Rattle.std.proofs.Common.{◌≡◌, ◌<◌, ℕ, length, Bool, true, false, List, [], ◌∷◌, ◌++◌, chars, IsUtf8, refl, sym, ap, ◌∙◌, arith, append_assoc, append-nil, suc, eqb, ◌&&◌, not, codes, Some, None, true≢false, eq-eqb, cond, subst, ◌⊎◌, inl, inr, lt-ltb, Result, Ok, Err, IfOk}
+use lib.Utf8.{encode}
+use Rattle.std.proofs.lemmas.Str.{chars-append, chars-encodes, chars-nil}
 use Rattle.std.specs.List.{list_any}
-use Rattle.arm_value.specs.Look.{fold}
-use Rattle.arm_ids.specs.Id.{resource, folded, path, text_of, id_segments, has_empty_segment, named_segments, is_whole, IsResourceId, IsKey, IsPlain, IsIdOf, reading, reading_of, are_words, if_whole}
+use Rattle.arm_ids.specs.Id.{path, text_of, has_empty_segment, is_whole, IsResourceId, IsPlain, reading, reading_of, are_words, if_whole}
 use Rattle.arm_ids.specs.declared.id.ResourceId.{ResourceId}
 use Rattle.arm_ids.proofs.TextLemmas.{some_segment}
-use Rattle.arm_ids.proofs.SegmentLemmas.{segments_cut, segments-slashed, slashed-segments, nor, none_in_front, none_behind, none_in_turns, none_in_firsts, none_in_seconds, firsts-by_turns, seconds-by_turns, by_turns-apart}
+use Rattle.arm_ids.proofs.SegmentLemmas.{segments_cut, segments-slashed, nor, none_in_front, none_behind, none_in_turns, none_in_firsts, none_in_seconds, firsts-by_turns, seconds-by_turns}
 use Rattle.std.proofs.lemmas.Bool.{eqb-true}
 use Rattle.std.proofs.lemmas.Bool.Decides.{nat_tests}
-use Rattle.arm_ids.specs.Segments.{is_slash, segments, slashed, joined, is_empty, has_slash, firsts, seconds, by_turns}
+use Rattle.arm_ids.specs.Segments.{segments, slashed, joined, has_slash, firsts, seconds, by_turns}
 
 -- a slash and a segment behind a text
 pub pushed : (a b c segment : List ℕ) → IsUtf8 a → IsUtf8 b → b ≡ a ++ encode 47 → c ≡ b ++ segment → chars c ≡ chars a ++ 47 ∷ chars segment

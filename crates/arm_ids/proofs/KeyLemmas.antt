@@ -1,11 +1,11 @@
 -- Keys and the texts of which they are read.
-use Rattle.std.proofs.Common.{◌≡◌, ◌<◌, ◌≤◌, ◌+◌, ◌-◌, ℕ, suc, length, Bool, true, false, ◌&&◌, List, [], ◌∷◌, ◌++◌, map, refl, sym, ap, ap₂, ◌∙◌, arith, codes, Some, None, true≢false, subst, append_assoc, append-nil, Result, Ok, Err, IfOk}
+use Rattle.std.proofs.Common.{◌≡◌, ℕ, length, Bool, true, false, ◌&&◌, List, [], ◌∷◌, map, refl, sym, ap, ap₂, ◌∙◌, arith, codes, Some, None, true≢false, subst, Result, Ok, Err, IfOk}
 use Rattle.std.specs.List.{list_any}
-use Rattle.std.proofs.lemmas.List.{length-map, map-append, length-append, nil_from_length}
+use Rattle.std.proofs.lemmas.List.{length-map, map-append}
 use Rattle.std.proofs.lemmas.Slice.Eq.{bytes_eq-Decides}
 use Rattle.arm_value.specs.Look.{fold, is_same_folded}
-use Rattle.arm_ids.specs.Segments.{segments, slashed, is_empty, has_slash, firsts, seconds, by_turns}
-use Rattle.arm_ids.specs.Id.{folded, path, text_of, folded_text, id_segments, has_empty_segment, named_segments, IsResourceId, IsKey, IsPlain, IsIdOf, IsNoId, IsNoKey, reading, are_words}
+use Rattle.arm_ids.specs.Segments.{segments, slashed, is_empty, has_slash, firsts, seconds}
+use Rattle.arm_ids.specs.Id.{folded, path, text_of, folded_text, id_segments, named_segments, IsResourceId, IsKey, IsPlain, IsIdOf, IsNoId, IsNoKey, reading, are_words}
 use Rattle.arm_ids.specs.declared.fault.IdFault.{IdFault}
 use Rattle.arm_ids.specs.declared.fault.IdFault.TheVariants.{EmptySegment, SegmentsDiffer, NotAnId, OutOfMemory}
 use Rattle.arm_ids.specs.declared.id.ResourceId.{ResourceId}

@@ -1,5 +1,5 @@
 -- The rows behind what is held, through look-ups and changes.
-use Rattle.std.proofs.Common.{◌≡◌, ◌<◌, ◌≤◌, ◌+◌, ℕ, suc, length, get_or, take, drop, List, [], ◌∷◌, ◌++◌, map, refl, sym, ap, ap₂, ◌∙◌, arith, subst, Option, Some, None, Result, Ok, Err, OnOk, is_ok, cond, bytes_eq}
+use Rattle.std.proofs.Common.{◌≡◌, ◌<◌, ℕ, suc, length, get_or, take, drop, List, [], ◌∷◌, ◌++◌, map, refl, sym, ap, ap₂, ◌∙◌, arith, subst, Some, None, Result, Ok, Err, OnOk, is_ok, cond, bytes_eq}
 use Rattle.std.proofs.Math.ListN.{set}
 use Rattle.std.specs.List.{insert, remove}
 use Rattle.std.proofs.lemmas.List.{take-map, drop-map, map-append, map-set, set_split, get_or-map, length-map, get_or_default}

@@ -1,16 +1,14 @@
 -- What a scope covers, by its parts.
 use Rattle.std.proofs.Common.{◌≡◌, ℕ, suc, length, Bool, true, List, [], ◌∷◌, ◌++◌, refl, sym, ap, ap₂, ◌∙◌, arith, subst, IsTrue, ◌↔◌}
-use Rattle.std.proofs.lemmas.List.{length-append}
 use Rattle.arm_value.specs.Look.{fold}
 use Rattle.arm_ids.specs.Segments.{is_front, by_turns}
-use Rattle.arm_ids.specs.Id.{path, folded, IsKey}
+use Rattle.arm_ids.specs.Id.{path, IsKey}
 use Rattle.arm_ids.specs.Parent.{begins}
-use Rattle.arm_ids.specs.Scope.{Covers, key_segments, scope_segments}
+use Rattle.arm_ids.specs.Scope.{Covers}
 use Rattle.arm_ids.specs.declared.id.ResourceId.{ResourceId}
 use Rattle.arm_ids.specs.declared.scope.Scope.{Scope}
 use Rattle.arm_ids.specs.declared.scope.Scope.TheVariants.{Subscription, Group, Resource}
-use Rattle.arm_ids.proofs.SegmentLemmas.{fold-fold}
-use Rattle.arm_ids.proofs.FrontLemmas.{front_rest, front_of, same_text, and, Begins, begun, begun_back}
+use Rattle.arm_ids.proofs.FrontLemmas.{front_rest, same_text, and, begun, begun_back}
 
 small_subscription : (k : ResourceId) → IsKey k → fold k.subscription ≡ k.subscription
 small_subscription k h = ap (λ (i : ResourceId). i.subscription) h.is_folded

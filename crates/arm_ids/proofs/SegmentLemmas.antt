@@ -1,13 +1,13 @@
 -- Cutting a text at its slashes, joining segments again, and folding both.
-use Rattle.std.proofs.Common.{◌≡◌, ◌<◌, ℕ, zero, suc, length, get_or, Bool, true, false, ◌||◌, cond, ne_eqb, eqb, List, [], ◌∷◌, ◌++◌, map, refl, sym, ap, ap₂, ◌∙◌, arith, append-nil, append_assoc, true≢false}
-use Rattle.std.specs.List.{slice_split, onto_first, list_any}
+use Rattle.std.proofs.Common.{◌≡◌, ◌<◌, ℕ, zero, suc, length, get_or, Bool, true, false, ◌||◌, List, [], ◌∷◌, ◌++◌, map, refl, sym, ap, ap₂, ◌∙◌, arith, append-nil, true≢false}
+use Rattle.std.specs.List.{onto_first, list_any}
 use Rattle.std.specs.Char.{to_ascii_lowercase}
 use Rattle.std.proofs.lemmas.Bool.Decides.{nat_tests}
 use Rattle.std.proofs.lemmas.List.{map-append}
 use Rattle.std.proofs.lemmas.List.Splits.{slice_split-cons_yes, slice_split-cons_no}
 use Rattle.arm_value.specs.Look.{fold}
 use Rattle.arm_ids.specs.Segments.{is_slash, segments, slashed, is_empty, has_slash, firsts, seconds, by_turns}
-use Rattle.arm_ids.proofs.TextLemmas.{some_segment, onto_segments}
+use Rattle.arm_ids.proofs.TextLemmas.{onto_segments}
 
 slash_is : (c : ℕ) → is_slash c ≡ true → c ≡ 47
 slash_is c e = grind (arith, nat_tests)

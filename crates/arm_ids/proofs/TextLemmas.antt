@@ -1,5 +1,5 @@
 -- Texts as bytes and as characters: folding, emptiness, and the segments between slashes.
-use Rattle.std.proofs.Common.{◌≡◌, ◌≢◌, ◌<◌, ◌≤◌, ℕ, zero, suc, length, get_or, Bool, true, false, ◌&&◌, eqb, ne_eqb, List, [], ◌∷◌, ◌++◌, map, chars, IsUtf8, refl, sym, ap, ap₂, ◌∙◌, arith, append-nil, cond, eq-eqb, true≢false, lit<, Bor}
+use Rattle.std.proofs.Common.{◌≡◌, ◌<◌, ◌≤◌, ℕ, suc, length, get_or, Bool, true, false, ◌&&◌, eqb, ne_eqb, List, [], ◌∷◌, ◌++◌, map, chars, IsUtf8, refl, sym, ap, ap₂, ◌∙◌, arith, append-nil, cond, eq-eqb, true≢false, lit<, Bor}
 use lib.Utf8.{scalar, scalars, encode, encodes}
 use Rattle.std.specs.List.{slice_split, onto_first}
 use Rattle.std.proofs.lemmas.List.Splits.{slice_split-cons_yes, slice_split-cons_no}

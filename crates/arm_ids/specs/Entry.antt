@@ -1,8 +1,8 @@
 -- What an entry of the code stands for.
-use Rattle.std.specs.Prelude.{ℕ, List}
 use Rattle.arm_value.specs.View.{json}
 use Rattle.arm_ids.specs.Held.{HeldResource}
 use Rattle.arm_ids.specs.declared.entry.Entry.{Entry}
 
+-- the resource that an entry is
 abbrev pub as_held : Entry → HeldResource
 as_held e = record { id = e.id; api = e.api; body = json e.body; state = json e.state }

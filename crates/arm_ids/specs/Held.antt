@@ -1,5 +1,5 @@
 -- The resources that a store holds: at most one of each key.
-use Rattle.std.specs.Prelude.{◌≡◌, ℕ, suc, ◌<◌, ◌≤◌, List, [], ◌∷◌, ◌++◌, map, length, take, drop, slice_index_or, bytes_eq, encode_utf8_all, Bool, true, false, Option, Some, None, Result, Ok, Err, if◌then◌else◌, refl}
+use Rattle.std.specs.Prelude.{◌≡◌, ℕ, ◌<◌, ◌≤◌, List, [], ◌∷◌, map, length, take, drop, slice_index_or, bytes_eq, encode_utf8_all, Option, Some, None, Result, Ok, Err, if◌then◌else◌, refl}
 use Rattle.std.specs.declared.cmp.Ordering.{Ordering}
 use Rattle.std.specs.declared.cmp.Ordering.TheVariants.{Less}
 use Rattle.std.specs.Ordering.{nat_cmp, match_ordering}
@@ -50,10 +50,11 @@ abbrev pub without : List ℕ → List HeldResource → List HeldResource
 without id [] = []
 without id (r ∷ rs) = if bytes_eq id (held_by r) then rs else r ∷ without id rs
 
--- these ids are below this one, or above it
+-- these ids are below this one
 abbrev pub AllBelow : List ℕ → List (List ℕ) → Type 0
 AllBelow id ids = AllByRecursion (λ other. id_cmp other id ≡ Less) ids
 
+-- these ids are above this one
 abbrev pub AllAbove : List ℕ → List (List ℕ) → Type 0
 AllAbove id ids = AllByRecursion (λ other. id_cmp id other ≡ Less) ids
 

@@ -1,8 +1,9 @@
 -- What a resource id is, by the parts that it names (Microsoft Learn, "Resource ID format").
-use Rattle.std.specs.Prelude.{◌≡◌, ◌≢◌, ℕ, suc, ◌==◌, ◌<◌, nat_lt, ◌&&◌, not, Bool, true, false, List, [], ◌∷◌, ◌++◌, map, length, Option, Some, None, IsTrue, codes, if◌then◌else◌}
+use Rattle.std.specs.Prelude.{◌≡◌, ◌≢◌, ℕ, suc, ◌==◌, ◌<◌, nat_lt, ◌&&◌, not, Bool, true, false, List, [], ◌∷◌, ◌++◌, map, length, Option, Some, None, chars, codes, if◌then◌else◌}
 use Rattle.std.specs.List.{list_any}
 use Rattle.arm_value.specs.Look.{fold, is_same_folded}
 use Rattle.arm_ids.specs.Segments.{segments, slashed, is_empty, has_slash, firsts, seconds, by_turns}
+use Rattle.arm_ids.specs.declared.id.Place.{Place}
 use Rattle.arm_ids.specs.declared.id.ResourceId.{ResourceId}
 use Rattle.arm_ids.specs.declared.fault.IdFault.{IdFault}
 use Rattle.arm_ids.specs.declared.fault.IdFault.TheVariants.{EmptySegment, SegmentsDiffer, NotAnId, OutOfMemory}
@@ -11,6 +12,10 @@ use Rattle.arm_ids.specs.declared.fault.IdFault.TheVariants.{EmptySegment, Segme
 abbrev pub resource : List ℕ → List ℕ → List ℕ → List ℕ → ResourceId
 resource subscription group kind name =
     record { subscription = subscription; group = group; types = segments kind; names = segments name }
+
+-- the id of a type and a name, both in UTF-8, in the subscription and group of a place
+abbrev pub resource_at : Place → List ℕ → List ℕ → ResourceId
+resource_at place kind name = resource place.subscription place.group (chars kind) (chars name)
 
 -- the id in small ASCII letters
 abbrev pub folded : ResourceId → ResourceId
@@ -39,6 +44,7 @@ folded_text i = fold (text_of i)
 abbrev pub named_segments : ResourceId → List (List ℕ)
 named_segments i = i.subscription ∷ i.group ∷ (i.types ++ i.names)
 
+-- whether one of them is empty
 abbrev pub has_empty_segment : ResourceId → Bool
 has_empty_segment i = list_any is_empty (named_segments i)
 
@@ -69,6 +75,7 @@ abbrev pub are_words : List ℕ → List ℕ → List ℕ → Bool
 are_words a b c =
     is_same_folded a (codes "subscriptions") && (is_same_folded b (codes "resourceGroups") && is_same_folded c (codes "providers"))
 
+-- the id, where it is whole
 abbrev pub if_whole : Bool → ResourceId → Option ResourceId
 if_whole words i = if words && is_whole i then Some i else None
 

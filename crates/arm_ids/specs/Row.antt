@@ -1,13 +1,14 @@
 -- The rows behind what is held.
-use Rattle.std.specs.Prelude.{◌≡◌, List, [], ◌∷◌, ℕ, map}
-use Rattle.arm_value.specs.Look.{fold}
+use Rattle.std.specs.Prelude.{◌≡◌, List, ℕ, map}
 use Rattle.arm_ids.specs.Held.{HeldResource, IsInOrder, held_by}
 use Rattle.arm_ids.specs.Entry.{as_held}
 use Rattle.arm_ids.specs.declared.row.Row.{Row}
 
+-- the resource of a row
 abbrev pub row_held : Row → HeldResource
 row_held row = as_held row.entry
 
+-- the folded id that a row keeps
 abbrev pub order_of : Row → List ℕ
 order_of row = row.order
 

@@ -14,6 +14,7 @@ pub struct Entry {
 }
 
 impl Entry {
+    /// The same entry again.
     pub fn copy(&self, alloc: Global) -> Result<Entry, OutOfMemory>
         ensures { IfOk result (λ e. e ≡ self.now) }
     {

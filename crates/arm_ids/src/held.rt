@@ -70,8 +70,11 @@ impl Held {
 
     /// Puts the entry in the place of its id, where it replaces what is held there.
     pub fn put(&mut self, alloc: Global, entry: Entry) -> Result<(), OutOfMemory>
-        ensures held { self.new ≡ (if is_ok result then put (as_held entry) self.old else self.old) }
-        ensures finds { OnOk result ((id : List ℕ) → find id self.new ≡ (if bytes_eq id (held_by (as_held entry)) then Some (as_held entry) else find id self.old)) }
+        ensures held { self.new
+            ≡ (if is_ok result then put (as_held entry) self.old else self.old) }
+        ensures finds { OnOk result ((id : List ℕ) → find id self.new
+            ≡ (if bytes_eq id (held_by (as_held entry)) then Some (as_held entry)
+            else find id self.old)) }
     {
         let order = folded(alloc, entry.id.as_str())?;
         put_row(&mut self.rows, Row { order, entry })
@@ -81,11 +84,13 @@ impl Held {
     pub fn remove(&mut self, key: &Key) -> Option<Entry>
         ensures removed { option_map as_held result ≡ find (folded_text key.now) self.old }
         ensures held { self.new ≡ without (folded_text key.now) self.old }
-        ensures finds { (id : List ℕ) → find id self.new ≡ (if bytes_eq id (folded_text key.now) then None else find id self.old) }
+        ensures finds { (id : List ℕ) → find id self.new
+            ≡ (if bytes_eq id (folded_text key.now) then None else find id self.old) }
     {
         take_row(&mut self.rows, key.id())
     }
 
+    /// The same entries again.
     pub fn copy(&self, alloc: Global) -> Result<Held, OutOfMemory>
         ensures { IfOk result (λ h. h ≡ self.now) }
     {

@@ -1,6 +1,6 @@
 ghost use Rattle.std.specs.Prelude.{◌≡◌, ◌==◌, ◌∷◌, ◌++◌, suc, ◌↔◌, length, chars, Some, string_bytes, IsTrue, IfOk, IfErr, OnOk};
 ghost use Rattle.arm_ids.specs.Segments.{slashed, joined, by_turns};
-ghost use Rattle.arm_ids.specs.Id.{path, are_words, reading_of, resource, folded, text_of, IsPlain, IsIdOf, Refuses};
+ghost use Rattle.arm_ids.specs.Id.{path, are_words, reading_of, resource_at, folded, text_of, IsPlain, IsIdOf, Refuses};
 
 use crate::fault::IdFault;
 use crate::segments::{
@@ -30,7 +30,7 @@ pub struct ResourceId {
 }
 
 impl ResourceId {
-    ghost use Rattle.arm_ids.specs.Id.{resource, folded, text_of, has_empty_segment, is_whole, IsResourceId, IsPlain, reading, Refuses, IsNoId};
+    ghost use Rattle.arm_ids.specs.Id.{resource_at, folded, text_of, has_empty_segment, is_whole, IsResourceId, IsPlain, reading, Refuses, IsNoId};
     ghost use Rattle.arm_ids.specs.Parent.{begins};
 
     /// The id of a resource in the subscription and group of a place, by its full type and its full name.
@@ -40,9 +40,9 @@ impl ResourceId {
     /// `EmptySegment` exactly where the subscription, the group, or a segment of type or name is empty; else
     /// `SegmentsDiffer` exactly where the type has not one segment more than the name.
     pub fn of(alloc: Global, place: &Place, kind: &str, name: &str) -> Result<ResourceId, IdFault>
-        ensures ok { IfOk result (λ i. i ≡ resource place.now.subscription place.now.group (chars kind.now) (chars name.now)) }
+        ensures ok { IfOk result (λ i. i ≡ resource_at place.now kind.now name.now) }
         ensures is_id { IfOk result IsResourceId }
-        ensures fault { IfErr result (Refuses (resource place.now.subscription place.now.group (chars kind.now) (chars name.now))) }
+        ensures fault { IfErr result (Refuses (resource_at place.now kind.now name.now)) }
     {
         let id = ResourceId {
             subscription: place.subscription.copy(alloc)?,
@@ -79,7 +79,8 @@ impl ResourceId {
     /// The text of the id, `/subscriptions/s/resourceGroups/g/providers/N/t1/n1/..`.
     pub fn text(&self, alloc: Global) -> Result<Text, OutOfMemory>
         ensures text { IfOk result (λ t. t ≡ text_of self.now) }
-        ensures reads_back { IfOk result (λ t. IsResourceId self.now → IsPlain self.now → reading t ≡ Some self.now) }
+        ensures reads_back { IfOk result (λ t. IsResourceId self.now → IsPlain self.now
+            → reading t ≡ Some self.now) }
     {
         let mut text = String::new(alloc);
         push_segment(&mut text, "subscriptions")?;
@@ -117,6 +118,7 @@ impl ResourceId {
         })
     }
 
+    /// The same id again, with its letters as they were spelled.
     pub fn copy(&self, alloc: Global) -> Result<ResourceId, OutOfMemory>
         ensures { IfOk result (λ i. i ≡ self.now) }
     {
@@ -179,10 +181,10 @@ impl ResourceId {
 /// `EmptySegment` exactly where the subscription, the group, or a segment of type or name is empty; else
 /// `SegmentsDiffer` exactly where the type has not one segment more than the name.
 pub fn id_text(alloc: Global, place: &Place, kind: &str, name: &str) -> Result<Text, IdFault>
-    ensures ok { IfOk result (λ t. t ≡ text_of (resource place.now.subscription place.now.group (chars kind.now) (chars name.now))) }
-    ensures reads_back { IfOk result (λ t. IsPlain (resource place.now.subscription place.now.group (chars kind.now) (chars name.now))
-        → IsIdOf t (folded (resource place.now.subscription place.now.group (chars kind.now) (chars name.now)))) }
-    ensures fault { IfErr result (Refuses (resource place.now.subscription place.now.group (chars kind.now) (chars name.now))) }
+    ensures ok { IfOk result (λ t. t ≡ text_of (resource_at place.now kind.now name.now)) }
+    ensures reads_back { IfOk result (λ t. IsPlain (resource_at place.now kind.now name.now)
+        → IsIdOf t (folded (resource_at place.now kind.now name.now))) }
+    ensures fault { IfErr result (Refuses (resource_at place.now kind.now name.now)) }
 {
     let id = ResourceId::of(alloc, place, kind, name)?;
     Ok(id.text(alloc)?)
@@ -236,7 +238,8 @@ fn are_words(subscriptions: &Text, groups: &Text, providers: &Text) -> bool
 
 // Adds a slash and the segment.
 fn push_segment(text: &mut String, segment: &str) -> Result<(), OutOfMemory>
-    ensures { OnOk result (chars (string_bytes text.new) ≡ chars (string_bytes text.old) ++ 47 ∷ chars segment.now) }
+    ensures { OnOk result (chars (string_bytes text.new)
+        ≡ chars (string_bytes text.old) ++ 47 ∷ chars segment.now) }
 {
     text.push('/')?;
     text.push_str(segment)?;
@@ -257,7 +260,8 @@ fn joined(alloc: Global, segments: &Texts) -> Result<Text, OutOfMemory>
 
 // Adds each segment behind a slash.
 fn push_segments(text: &mut String, segments: &[Text]) -> Result<(), OutOfMemory>
-    ensures { OnOk result (chars (string_bytes text.new) ≡ chars (string_bytes text.old) ++ slashed segments.now) }
+    ensures { OnOk result (chars (string_bytes text.new)
+        ≡ chars (string_bytes text.old) ++ slashed segments.now) }
 {
     for segment in segments {
         push_segment(text, segment.as_str())?;
@@ -267,7 +271,8 @@ fn push_segments(text: &mut String, segments: &[Text]) -> Result<(), OutOfMemory
 
 // Adds the provider's name, and then a type and a name by turns.
 fn push_path(text: &mut String, types: &Texts, names: &Texts) -> Result<(), OutOfMemory>
-    ensures { OnOk result (chars (string_bytes text.new) ≡ chars (string_bytes text.old) ++ slashed (path types.now names.now)) }
+    ensures { OnOk result (chars (string_bytes text.new)
+        ≡ chars (string_bytes text.old) ++ slashed (path types.now names.now)) }
 {
     if let [provider, types @ ..] = types.as_slice() {
         push_segment(text, provider.as_str())?;
@@ -278,7 +283,8 @@ fn push_path(text: &mut String, types: &Texts, names: &Texts) -> Result<(), OutO
 
 // Adds a type and a name by turns.
 fn push_turns(text: &mut String, types: &[Text], names: &[Text]) -> Result<(), OutOfMemory>
-    ensures { OnOk result (chars (string_bytes text.new) ≡ chars (string_bytes text.old) ++ slashed (by_turns types.now names.now)) }
+    ensures { OnOk result (chars (string_bytes text.new)
+        ≡ chars (string_bytes text.old) ++ slashed (by_turns types.now names.now)) }
 {
     for (kind, name) in types.iter().zip(names) {
         push_segment(text, kind.as_str())?;

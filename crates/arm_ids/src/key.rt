@@ -31,7 +31,7 @@ impl Model for Key {
 
 impl Key {
     ghost use Rattle.arm_ids.specs.declared.id.ResourceId.{ResourceId};
-    ghost use Rattle.arm_ids.specs.Id.{resource, folded, folded_text, IsResourceId, IsKey, IsPlain, IsIdOf, IsNoKey, Refuses};
+    ghost use Rattle.arm_ids.specs.Id.{resource_at, folded, folded_text, IsResourceId, IsKey, IsPlain, IsIdOf, IsNoKey, Refuses};
     ghost use Rattle.arm_ids.specs.Parent.{IsParent};
 
     /// The key of a resource in the subscription and group of a place, by its full type and its full name.
@@ -41,9 +41,9 @@ impl Key {
     /// `EmptySegment` exactly where the subscription, the group, or a segment of type or name is empty; else
     /// `SegmentsDiffer` exactly where the type has not one segment more than the name.
     pub fn of(alloc: Global, place: &Place, kind: &str, name: &str) -> Result<Key, IdFault>
-        ensures ok { IfOk result (λ k. k ≡ folded (resource place.now.subscription place.now.group (chars kind.now) (chars name.now))) }
+        ensures ok { IfOk result (λ k. k ≡ folded (resource_at place.now kind.now name.now)) }
         ensures is_key { IfOk result IsKey }
-        ensures fault { IfErr result (Refuses (resource place.now.subscription place.now.group (chars kind.now) (chars name.now))) }
+        ensures fault { IfErr result (Refuses (resource_at place.now kind.now name.now)) }
     {
         let id = ResourceId::of(alloc, place, kind, name)?;
         Ok(id.key(alloc)?)
@@ -56,7 +56,8 @@ impl Key {
     /// `NotAnId` exactly where the text is the id of no key.
     pub fn read_id(alloc: Global, id: &str) -> Result<Key, IdFault>
         ensures ok { IfOk result (IsIdOf (chars id.now)) }
-        ensures only { IfOk result (λ k. (other : ResourceId) → IsIdOf (chars id.now) other → other ≡ k) }
+        ensures only { IfOk result (λ k. (other : ResourceId) → IsIdOf (chars id.now) other
+            → other ≡ k) }
         ensures fault { IfErr result (IsNoKey (chars id.now)) }
     {
         let id = folded(alloc, id)?;
@@ -87,6 +88,7 @@ impl Key {
         &self.parts
     }
 
+    /// The same key again.
     pub fn copy(&self, alloc: Global) -> Result<Key, OutOfMemory>
         ensures { IfOk result (λ k. k ≡ self.now) }
     {

@@ -1,8 +1,8 @@
 -- What a crash leaves in each step of an append.
-use Rattle.std.proofs.Common.{◌≡◌, ◌≢◌, inl, inr, ℕ, ◌+◌, ◌≤◌, List, [], ◌∷◌, ◌++◌, length, take, sym, ◌∙◌, ap, subst, arith}
+use Rattle.std.proofs.Common.{◌≡◌, inl, ℕ, ◌+◌, List, [], ◌∷◌, ◌++◌, length, take, sym, ◌∙◌, ap, subst, arith}
 use Rattle.arm_edges.specs.Disk.{Parts, At, Torn, GoesOn, Unchanged, IsKept}
 use Rattle.arm_edges.specs.declared.disk.Part.TheVariants.{A}
-use Rattle.deploy_journal.specs.Records.{KeepsFront, Since, Holds, IsOneOf, Record, body, spelled, beginning}
+use Rattle.deploy_journal.specs.Records.{KeepsFront, Since, Holds, IsOneOf, Record, body, spelled}
 use Rattle.deploy_journal.proofs.Moments.{since_first, since_then}
 use Rattle.deploy_journal.proofs.Lists.{kept_front, holds_within, torn_gate, front_of}
 

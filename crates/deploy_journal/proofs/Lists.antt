@@ -1,9 +1,9 @@
 -- Parts of records, byte by byte.
-use Rattle.std.proofs.Common.{◌≡◌, ◌≢◌, ◌⊎◌, inl, inr, ⊎_elim, ℕ, ◌+◌, ◌-◌, ◌≤◌, min, List, [], ◌∷◌, ◌++◌, length, get_or, take, drop, replicate, refl, sym, ◌∙◌, ap, arith, append_assoc, length-append, take-append-drop}
-use Rattle.std.proofs.lemmas.List.{take_at, drop_at, drop-drop, take_all, drop_all, append-nil, length-take-le, drop_more}
+use Rattle.std.proofs.Common.{◌≡◌, ◌≢◌, ◌⊎◌, inl, inr, ⊎_elim, ℕ, ◌+◌, ◌-◌, ◌≤◌, List, [], ◌∷◌, ◌++◌, length, get_or, take, drop, replicate, refl, sym, ◌∙◌, ap, arith, append_assoc, length-append, take-append-drop}
+use Rattle.std.proofs.lemmas.List.{take_at, drop_at, drop-drop, append-nil, length-take-le, drop_more}
 use Rattle.std.proofs.lemmas.Bool.{cases_eq}
-use Rattle.arm_edges.specs.Disk.{overwritten, resized, Torn}
-use Rattle.deploy_journal.specs.Records.{patched, eight, Record, body, body_bytes, spelled, beginning, Holds, HoldsRecords, IsOneOf}
+use Rattle.arm_edges.specs.Disk.{overwritten, Torn}
+use Rattle.deploy_journal.specs.Records.{patched, eight, Record, body, body_bytes, spelled, beginning, Holds, IsOneOf}
 
 no_zeros : (n : ℕ) → n ≡ 0 → replicate {A = ℕ} n 0 ≡ []
 no_zeros n is = ap (λ (k : ℕ). replicate {A = ℕ} k 0) is

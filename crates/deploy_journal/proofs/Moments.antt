@@ -1,6 +1,6 @@
 -- How runs of disk calls go on.
-use Rattle.std.proofs.Common.{Result, Ok, Err, OnOk, ◌≡◌, ◌⊎◌, inl, inr, ⊎_elim, ℕ, ◌+◌, ◌≤◌, ◌<◌, min, List, length, take, refl, sym, ◌∙◌, ap, arith}
-use Rattle.std.proofs.lemmas.List.{take-take, length-take}
+use Rattle.std.proofs.Common.{Result, Ok, Err, OnOk, ◌⊎◌, inl, inr, ⊎_elim, ℕ, ◌≤◌, ◌<◌, min, List, length, take, sym, ◌∙◌, ap, arith}
+use Rattle.std.proofs.lemmas.List.{take-take}
 use Rattle.std.proofs.lemmas.Bool.{cases_lt}
 use Rattle.arm_edges.specs.Disk.{Parts, At, Torn, GoesOn, Unchanged}
 use Rattle.arm_edges.specs.declared.disk.Part.TheVariants.{A}

@@ -1,5 +1,5 @@
 -- Lengths in eight bytes.
-use Rattle.std.proofs.Common.{◌≡◌, ℕ, ◌+◌, ◌<◌, ◌≤◌, List, [], ◌∷◌, ◌++◌, length, get_or, take, drop, refl, sym, ◌∙◌, ap, arith, take-append-drop, length-drop, length-append, append_assoc, ◌^◌}
+use Rattle.std.proofs.Common.{◌≡◌, ℕ, ◌+◌, ◌<◌, ◌≤◌, List, [], ◌∷◌, ◌++◌, length, get_or, take, drop, sym, ◌∙◌, ap, arith, take-append-drop, length-drop, length-append, append_assoc, ◌^◌}
 use Rattle.std.proofs.lemmas.List.{take_all, length-take-le, take-append-le, take_at, drop-drop}
 use Rattle.std.proofs.Math.Seq.{take-append-add, take-add}
 use borrow.Rule.Slice.PartMut.{put_mid}

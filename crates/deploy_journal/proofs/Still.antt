@@ -1,5 +1,5 @@
 -- Runs of calls that only read.
-use Rattle.std.proofs.Common.{◌≡◌, inl, inr, ⊎_elim, ℕ, ◌≤◌, Bool, true, refl, ◌∙◌, subst, sym, arith}
+use Rattle.std.proofs.Common.{◌≡◌, ⊎_elim, ℕ, ◌≤◌, Bool, refl, ◌∙◌, subst, arith}
 use Rattle.arm_edges.specs.Disk.{Parts, GoesOn, Unchanged}
 use Rattle.deploy_journal.specs.Reading.{Still}
 use Rattle.deploy_journal.proofs.Moments.{total}

@@ -1,5 +1,5 @@
 -- What the adding of a record answers, and when.
-use Rattle.std.specs.Prelude.{◌≡◌, ℕ, ◌+◌, ◌<◌, ◌≤◌, min, Bool, true, false, Result, Ok, Err}
+use Rattle.std.specs.Prelude.{◌≡◌, ℕ, ◌<◌, ◌≤◌, min, Bool, true, false, Result, Ok, Err}
 use Rattle.arm_edges.specs.Faults.{Rose}
 use Rattle.deploy_journal.specs.declared.journal.AppendFault.{AppendFault}
 use Rattle.deploy_journal.specs.declared.journal.AppendFault.TheVariants.{Full, DiskFault, MustReopen}
@@ -10,6 +10,7 @@ pub record Standing : Type 0 where
   pub length : ℕ
   pub faults : ℕ
 
+-- where a journal stands, from its parts
 abbrev pub standing : Bool → ℕ → ℕ → Standing
 standing must_reopen length faults = record { must_reopen = must_reopen; length = length; faults = faults }
 

@@ -1,5 +1,5 @@
 -- What an opening finds.
-use Rattle.std.specs.Prelude.{◌≡◌, ◌≢◌, ℕ, ◌+◌, ◌≤◌, List, [], ◌∷◌, length, drop}
+use Rattle.std.specs.Prelude.{◌≡◌, ◌≢◌, ℕ, ◌+◌, ◌≤◌, List, ◌∷◌, length, drop}
 use Rattle.deploy_journal.specs.declared.open.Next.{Next}
 use Rattle.deploy_journal.specs.declared.open.Next.TheVariants.{Entry, End, Cut}
 use Rattle.deploy_journal.specs.declared.read.OpenFault.{OpenFault}

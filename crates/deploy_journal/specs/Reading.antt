@@ -22,6 +22,7 @@ pub record OpenCause {T : Type 0} (before now : ℕ) (result : Result T OpenFaul
   pub failed : IfErr result (FaultCause before now)
   pub stays : OnOk result (now ≡ before)
 
+-- the fault is no damage
 abbrev pub IsNoDamage : OpenFault → Type 0
 IsNoDamage OutOfMemory = Unit {0}
 IsNoDamage (Damaged at) = ⊥

@@ -1,5 +1,5 @@
 -- A file of records, and what it stands for.
-use Rattle.std.specs.Prelude.{◌≡◌, ◌≢◌, ◌⊎◌, ℕ, ◌+◌, ◌≤◌, ◌<◌, List, [], ◌∷◌, ◌++◌, length, take, drop, codes}
+use Rattle.std.specs.Prelude.{◌≡◌, ◌≢◌, ◌⊎◌, ℕ, ◌+◌, ◌≤◌, List, [], ◌∷◌, ◌++◌, length, take, drop, codes}
 use Rattle.std.specs.Int.{w64, to_be_bytes}
 use Rattle.arm_edges.specs.Disk.{Parts}
 use Rattle.deploy_journal.specs.declared.record.Record.{Record as Entry}

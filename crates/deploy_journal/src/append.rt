@@ -12,8 +12,10 @@ use arm_edges::{Disk, Failed, Part};
 fn write_behind<D: Disk>(disk: &mut D, front: u64, at: u64, bytes: &[u8]) -> Result<(), Failed>
     requires fits { at + length bytes.now ≤ D.reach disk.old }
     requires behind { front ≤ at }
-    ensures written { OnOk result (D.tells_reads ≡ true → at ≤ length (D.reads disk.old).a → (D.reads disk.new).a ≡ patched at bytes.now (D.reads disk.old).a) }
-    ensures images { D.tells_images ≡ true → GoesOn D.moment D.left (KeepsFront front) disk.old disk.new }
+    ensures written { OnOk result (D.tells_reads ≡ true → at ≤ length (D.reads disk.old).a
+        → (D.reads disk.new).a ≡ patched at bytes.now (D.reads disk.old).a) }
+    ensures images { D.tells_images ≡ true
+        → GoesOn D.moment D.left (KeepsFront front) disk.old disk.new }
     ensures cause { HasCause (D.faults disk.old) (D.faults disk.new) result }
     ensures reach { D.reach disk.new ≡ D.reach disk.old }
 {
@@ -39,9 +41,13 @@ fn write_body<D: Disk>(
 ) -> Result<(), Failed>
     requires fits { at + (18 + length first.now + length second.now) ≤ D.reach disk.old }
     requires fits_64 { at + (18 + length first.now + length second.now) < 2 ^ 64 }
-    ensures written { OnOk result (D.tells_reads ≡ true → at ≤ length (D.reads disk.old).a → (D.reads disk.new).a ≡ patched at (body_bytes kind first.now second.now (0 ∷ [])) (D.reads disk.old).a) }
-    ensures kept { OnOk result (D.tells_images ≡ true → IsKept A (D.reads disk.new) (D.left disk.new (D.moment disk.new))) }
-    ensures images { D.tells_images ≡ true → GoesOn D.moment D.left (KeepsFront at) disk.old disk.new }
+    ensures written { OnOk result (D.tells_reads ≡ true → at ≤ length (D.reads disk.old).a
+        → (D.reads disk.new).a ≡ patched at (body_bytes kind first.now second.now (0 ∷ []))
+        (D.reads disk.old).a) }
+    ensures kept { OnOk result (D.tells_images ≡ true
+        → IsKept A (D.reads disk.new) (D.left disk.new (D.moment disk.new))) }
+    ensures images { D.tells_images ≡ true
+        → GoesOn D.moment D.left (KeepsFront at) disk.old disk.new }
     ensures cause { HasCause (D.faults disk.old) (D.faults disk.new) result }
     ensures reach { D.reach disk.new ≡ D.reach disk.old }
 {
@@ -66,9 +72,17 @@ pub(crate) fn put_record<D: Disk>(
 ) -> Result<(), Failed>
     requires fits { gate + 1 + (18 + length first.now + length second.now) ≤ D.reach disk.old }
     requires fits_64 { gate + 1 + (18 + length first.now + length second.now) < 2 ^ 64 }
-    ensures holds { OnOk result (D.tells_reads ≡ true → (records : List Record) → Holds records gate (D.reads disk.old).a → Holds (records ++ record_of kind first.now second.now ∷ []) (gate + (18 + length first.now + length second.now)) (D.reads disk.new).a) }
-    ensures kept { OnOk result (D.tells_images ≡ true → IsKept A (D.reads disk.new) (D.left disk.new (D.moment disk.new))) }
-    ensures crash { D.tells_reads ≡ true → D.tells_images ≡ true → IsKept A (D.reads disk.old) (D.left disk.old (D.moment disk.old)) → (records : List Record) → Holds records gate (D.reads disk.old).a → Since D.moment D.left disk.old disk.new (λ c. IsOneOf records (record_of kind first.now second.now) c.a) }
+    ensures holds { OnOk result (D.tells_reads ≡ true → (records : List Record)
+        → Holds records gate (D.reads disk.old).a
+        → Holds (records ++ record_of kind first.now second.now ∷ [])
+        (gate + (18 + length first.now + length second.now)) (D.reads disk.new).a) }
+    ensures kept { OnOk result (D.tells_images ≡ true
+        → IsKept A (D.reads disk.new) (D.left disk.new (D.moment disk.new))) }
+    ensures crash { D.tells_reads ≡ true → D.tells_images ≡ true
+        → IsKept A (D.reads disk.old) (D.left disk.old (D.moment disk.old))
+        → (records : List Record) → Holds records gate (D.reads disk.old).a
+        → Since D.moment D.left disk.old disk.new
+        (λ c. IsOneOf records (record_of kind first.now second.now) c.a) }
     ensures cause { HasCause (D.faults disk.old) (D.faults disk.new) result }
     ensures reach { D.reach disk.new ≡ D.reach disk.old }
 {

@@ -23,9 +23,11 @@ impl<D: Disk> Journal<D> {
     /// Writes a journal without records to part A, which must be empty, and syncs it. A stop inside leaves a file that the operator deletes.
     pub fn format(disk: &mut D) -> Result<(), FormatFault>
         requires { 17 ≤ D.reach disk.old }
-        ensures answers { FormatAnswers D.tells_reads (D.reads disk.old) (D.reads disk.new) (D.faults disk.old) (D.faults disk.new) result }
+        ensures answers { FormatAnswers D.tells_reads (D.reads disk.old) (D.reads disk.new)
+            (D.faults disk.old) (D.faults disk.new) result }
         ensures holds { OnOk result (D.tells_reads ≡ true → Holds [] 16 (D.reads disk.new).a) }
-        ensures kept { OnOk result (D.tells_images ≡ true → IsKept A (D.reads disk.new) (D.left disk.new (D.moment disk.new))) }
+        ensures kept { OnOk result (D.tells_images ≡ true
+            → IsKept A (D.reads disk.new) (D.left disk.new (D.moment disk.new))) }
         ensures reach { D.reach disk.new ≡ D.reach disk.old }
     {
         let Ok(length) = disk.length(Part::A) else {

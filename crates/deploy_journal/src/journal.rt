@@ -37,7 +37,8 @@ pub struct Journal<D: Disk> {
     pub must_reopen: bool,
     ghost room: { limit + 4096 ≤ D.reach disk },
     ghost begun: { 17 ≤ length },
-    ghost kept: { must_reopen ≡ false → D.tells_images ≡ true → IsKept A (D.reads disk) (D.left disk (D.moment disk)) },
+    ghost kept: { must_reopen ≡ false → D.tells_images ≡ true
+        → IsKept A (D.reads disk) (D.left disk (D.moment disk)) },
 }
 
 /// How far a record may go beyond the limit where it is written from the reserve, in bytes.
@@ -45,7 +46,8 @@ pub const RESERVE: u64 = 4096;
 
 // The length with one record more; none where it is 2 ^ 64 or more.
 fn length_with(length: u64, first: usize, second: usize) -> Option<u64>
-    ensures { MatchOption result (2 ^ 64 ≤ length + (18 + first + second)) (λ n. n ≡ length + (18 + first + second)) }
+    ensures { MatchOption result (2 ^ 64 ≤ length + (18 + first + second)) (λ n.
+        n ≡ length + (18 + first + second)) }
 {
     let framed = length.checked_add(18)?;
     let with_first = framed.checked_add(first as u64)?;
@@ -61,16 +63,27 @@ impl<D: Disk> Journal<D> {
         second: &[u8],
         reserve: bool,
     ) -> Result<(), AppendFault>
-        ensures answers { AppendAnswers (standing self.old.must_reopen self.old.length (D.faults self.old.disk)) (standing self.new.must_reopen self.new.length (D.faults self.new.disk)) (self.old.length + (18 + length first.now + length second.now)) (if reserve then self.old.limit + 4096 else self.old.limit) result }
+        ensures answers { AppendAnswers
+            (standing self.old.must_reopen self.old.length (D.faults self.old.disk))
+            (standing self.new.must_reopen self.new.length (D.faults self.new.disk))
+            (self.old.length + (18 + length first.now + length second.now))
+            (if reserve then self.old.limit + 4096 else self.old.limit) result }
         ensures limit { self.new.limit ≡ self.old.limit }
         ensures still { DidNothing result → self.new.disk ≡ self.old.disk }
-        ensures holds { OnOk result (D.tells_reads ≡ true → (records : List Entry) → Holds records (self.old.length - 1) (D.reads self.old.disk).a → Holds (records ++ record_of kind first.now second.now ∷ []) (self.new.length - 1) (D.reads self.new.disk).a) }
+        ensures holds { OnOk result (D.tells_reads ≡ true → (records : List Entry)
+            → Holds records (self.old.length - 1) (D.reads self.old.disk).a
+            → Holds (records ++ record_of kind first.now second.now ∷ []) (self.new.length - 1)
+            (D.reads self.new.disk).a) }
 
         // Each image from the call's start to its end holds the records from before, or those with the new one.
-        ensures crash { self.old.must_reopen ≡ false → D.tells_reads ≡ true → D.tells_images ≡ true → (records : List Entry) → Holds records (self.old.length - 1) (D.reads self.old.disk).a → Since D.moment D.left self.old.disk self.new.disk (λ image. IsOneOf records (record_of kind first.now second.now) image.a) }
+        ensures crash { self.old.must_reopen ≡ false → D.tells_reads ≡ true → D.tells_images ≡ true
+            → (records : List Entry) → Holds records (self.old.length - 1) (D.reads self.old.disk).a
+            → Since D.moment D.left self.old.disk self.new.disk
+            (λ image. IsOneOf records (record_of kind first.now second.now) image.a) }
 
         // After Ok a crash leaves part A as it reads.
-        ensures kept { OnOk result (D.tells_images ≡ true → IsKept A (D.reads self.new.disk) (D.left self.new.disk (D.moment self.new.disk))) }
+        ensures kept { OnOk result (D.tells_images ≡ true
+            → IsKept A (D.reads self.new.disk) (D.left self.new.disk (D.moment self.new.disk))) }
         ensures reach { D.reach self.new.disk ≡ D.reach self.old.disk }
     {
         if self.must_reopen {
@@ -122,11 +135,16 @@ impl<D: Disk> Journal<D> {
     ) -> Result<(Journal<D>, Vec<Record>), NotOpened<D>>
         requires { limit + 4096 ≤ D.reach disk }
         ensures opened { IfOk result (λ r. (r.0.must_reopen ≡ false) × (r.0.limit ≡ limit)) }
-        ensures records { IfOk result (λ r. D.tells_reads ≡ true → Holds r.1.items (r.0.length - 1) (D.reads disk).a) }
-        ensures kept { IfOk result (λ r. D.tells_images ≡ true → IsKept A (D.reads r.0.disk) (D.left r.0.disk (D.moment r.0.disk))) }
-        ensures still { IfOk result (λ r. Still D.tells_images D.reads D.moment D.left D.reach disk r.0.disk) }
-        ensures refused { IfErr result (λ e. Still D.tells_images D.reads D.moment D.left D.reach disk e.disk) }
-        ensures damaged { IfErr result (λ e. D.tells_reads ≡ true → DamageMeans (D.reads disk).a e.fault) }
+        ensures records { IfOk result (λ r. D.tells_reads ≡ true
+            → Holds r.1.items (r.0.length - 1) (D.reads disk).a) }
+        ensures kept { IfOk result (λ r. D.tells_images ≡ true
+            → IsKept A (D.reads r.0.disk) (D.left r.0.disk (D.moment r.0.disk))) }
+        ensures still { IfOk result
+            (λ r. Still D.tells_images D.reads D.moment D.left D.reach disk r.0.disk) }
+        ensures refused { IfErr result
+            (λ e. Still D.tells_images D.reads D.moment D.left D.reach disk e.disk) }
+        ensures damaged { IfErr result (λ e. D.tells_reads ≡ true
+            → DamageMeans (D.reads disk).a e.fault) }
         ensures count { IfOk result (λ r. D.faults r.0.disk ≡ D.faults disk) }
         ensures cause { IfErr result (λ e. FaultCause (D.faults disk) (D.faults e.disk) e.fault) }
     {

@@ -23,7 +23,8 @@ pub enum Next {
 fn read_next<D: Disk>(alloc: Global, disk: &mut D, at: u64, left: u64) -> Result<Next, OpenFault>
     requires fits { at + left < 2 ^ 64 }
     requires within { 0 < left }
-    ensures told { IfOk result (λ next. D.tells_reads ≡ true → at + left ≡ length (D.reads disk.old).a → NextMeans next (drop at (D.reads disk.old).a)) }
+    ensures told { IfOk result (λ next. D.tells_reads ≡ true
+        → at + left ≡ length (D.reads disk.old).a → NextMeans next (drop at (D.reads disk.old).a)) }
     ensures fits { IfOk result (λ next. NextFits left next) }
     ensures still { Still D.tells_images D.reads D.moment D.left D.reach disk.old disk.new }
     ensures cause { ReadCause (D.faults disk.old) (D.faults disk.new) result }
@@ -51,8 +52,12 @@ fn read_records<D: Disk>(
 ) -> Result<(Vec<Record>, u64), OpenFault>
     requires { 16 ≤ size }
     ensures length { IfOk result (λ r. 17 ≤ r.1) }
-    ensures holds { IfOk result (λ r. D.tells_reads ≡ true → size ≡ length (D.reads disk.old).a → (D.reads disk.old).a ≡ beginning ++ drop 16 (D.reads disk.old).a → Holds r.0.items (r.1 - 1) (D.reads disk.old).a) }
-    ensures damaged { IfErr result (λ e. D.tells_reads ≡ true → size ≡ length (D.reads disk.old).a → (D.reads disk.old).a ≡ beginning ++ drop 16 (D.reads disk.old).a → DamageMeans (D.reads disk.old).a e) }
+    ensures holds { IfOk result (λ r. D.tells_reads ≡ true → size ≡ length (D.reads disk.old).a
+        → (D.reads disk.old).a ≡ beginning ++ drop 16 (D.reads disk.old).a
+        → Holds r.0.items (r.1 - 1) (D.reads disk.old).a) }
+    ensures damaged { IfErr result (λ e. D.tells_reads ≡ true → size ≡ length (D.reads disk.old).a
+        → (D.reads disk.old).a ≡ beginning ++ drop 16 (D.reads disk.old).a
+        → DamageMeans (D.reads disk.old).a e) }
     ensures still { Still D.tells_images D.reads D.moment D.left D.reach disk.old disk.new }
     ensures cause { OpenCause (D.faults disk.old) (D.faults disk.new) result }
 {
@@ -80,7 +85,9 @@ const BEGINNING: [u8; 16] = *b"armdeploy-jrnl-1";
 
 // Whether the file begins as a journal does.
 fn read_beginning<D: Disk>(disk: &mut D, size: u64) -> Result<bool, OpenFault>
-    ensures told { IfOk result (λ b. D.tells_reads ≡ true → size ≡ length (D.reads disk.old).a → (b ≡ true → (D.reads disk.old).a ≡ beginning ++ drop 16 (D.reads disk.old).a) × (b ≡ false → (rest : List ℕ) → (D.reads disk.old).a ≡ beginning ++ rest → ⊥)) }
+    ensures told { IfOk result (λ b. D.tells_reads ≡ true → size ≡ length (D.reads disk.old).a
+        → (b ≡ true → (D.reads disk.old).a ≡ beginning ++ drop 16 (D.reads disk.old).a)
+        × (b ≡ false → (rest : List ℕ) → (D.reads disk.old).a ≡ beginning ++ rest → ⊥)) }
     ensures long { IfOk result (λ b. b ≡ true → 16 ≤ size) }
     ensures still { Still D.tells_images D.reads D.moment D.left D.reach disk.old disk.new }
     ensures cause { ReadCause (D.faults disk.old) (D.faults disk.new) result }
@@ -103,9 +110,12 @@ pub(crate) fn read_all<D: Disk>(
     disk: &mut D,
 ) -> Result<(Vec<Record>, u64), OpenFault>
     ensures length { IfOk result (λ r. 17 ≤ r.1) }
-    ensures holds { IfOk result (λ r. D.tells_reads ≡ true → Holds r.0.items (r.1 - 1) (D.reads disk.old).a) }
-    ensures damaged { IfErr result (λ e. D.tells_reads ≡ true → DamageMeans (D.reads disk.old).a e) }
-    ensures kept { OnOk result (D.tells_images ≡ true → IsKept A (D.reads disk.new) (D.left disk.new (D.moment disk.new))) }
+    ensures holds { IfOk result (λ r. D.tells_reads ≡ true
+        → Holds r.0.items (r.1 - 1) (D.reads disk.old).a) }
+    ensures damaged { IfErr result (λ e. D.tells_reads ≡ true
+        → DamageMeans (D.reads disk.old).a e) }
+    ensures kept { OnOk result (D.tells_images ≡ true
+        → IsKept A (D.reads disk.new) (D.left disk.new (D.moment disk.new))) }
     ensures still { Still D.tells_images D.reads D.moment D.left D.reach disk.old disk.new }
     ensures cause { OpenCause (D.faults disk.old) (D.faults disk.new) result }
 {

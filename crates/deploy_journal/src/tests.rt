@@ -1,7 +1,8 @@
 ghost use Rattle.std.specs.Prelude.{◌≤◌};
 
 use crate::{AppendFault, FormatFault, Journal, NotOpened, OpenFault, Record};
-use arm_edges::{Contents, Disk, MemDisk, Part, RealDisk, Room};
+use arm_edges::{Disk, Part, RealDisk};
+use mem_disk::{Contents, MemDisk, Room};
 use std::alloc::Global;
 use std::fs;
 use std::test::Fail;
@@ -176,10 +177,34 @@ fn a_stop_at_any_call_leaves_whole_records(rt: HostRuntime) -> Result<(), Fail> 
             let Ok((_, records)) = Journal::open(alloc, disk.crash(choice)?, 1000) else {
                 return Err(Fail::from("damaged"));
             };
+            assert!(rt; call > 8 || records.is_empty(), "{call} {choice}");
+            assert!(rt; call > 15 || records.len() <= 1, "{call} {choice}");
             assert!(rt; records.len() <= 2, "{call} {choice}");
             assert!(rt; !first || records.len() >= 1, "{call} {choice}");
             assert!(rt; !second || records.len() == 2, "{call} {choice}");
         }
+    }
+    Ok(())
+}
+
+#[test]
+fn a_stop_at_the_gate_leaves_the_record_or_not(rt: HostRuntime) -> Result<(), Fail> {
+    let alloc = rt.alloc();
+    // The call that fails: the sync of the body, the gate's write, its sync, and the first write of the next record.
+    // Then the choice, and how many records stand in what it leaves.
+    for (call, choice, want) in [
+        (8, 252, 0),
+        (9, 0, 0),
+        (9, 4, 1),
+        (10, 0, 0),
+        (10, 4, 1),
+        (11, 0, 1),
+    ] {
+        let (_, _, disk) = stopped_at(alloc, call)?;
+        let Ok((_, records)) = Journal::open(alloc, disk.crash(choice)?, 1000) else {
+            return Err(Fail::from("damaged"));
+        };
+        assert_eq!(rt; records.len(), want, "{call} {choice}");
     }
     Ok(())
 }

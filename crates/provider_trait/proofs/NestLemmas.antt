@@ -1,8 +1,8 @@
 -- How deep a value nests in which a member was put, and what is found in one.
-use Rattle.std.proofs.Common.{◌≡◌, ◌≤◌, ◌<◌, ℕ, suc, max, Bool, true, false, List, [], ◌∷◌, Option, Some, None, Ordering, Less, Equal, Greater, cond, bytes_eq, refl, sym, ap, ◌∙◌, arith}
+use Rattle.std.proofs.Common.{◌≡◌, ◌≤◌, ℕ, max, Bool, true, false, List, [], ◌∷◌, Option, Some, None, Ordering, Less, Equal, Greater, cond, bytes_eq, refl, ap, arith}
 use Rattle.std.specs.Ordering.{match_ordering}
-use Rattle.arm_value.specs.Json.{Json, null, bool, int, text, array, object, Pairs, no_pairs, pair, Member, pairs, members, nesting, pairs_nesting, members_nesting, key_cmp, put}
-use Rattle.arm_value.specs.Look.{first_by, or_else, look_in, look, is_same_folded}
+use Rattle.arm_value.specs.Json.{Json, object, Pairs, no_pairs, pair, Member, pairs, members, nesting, pairs_nesting, members_nesting, key_cmp, put}
+use Rattle.arm_value.specs.Look.{first_by, or_else, look, is_same_folded}
 use Rattle.provider_trait.specs.Act.{FitsAct}
 use Rattle.provider_trait.specs.declared.act.Act.TheVariants.{Put}
 use Rattle.provider_trait.specs.Plain.{members_of, members_found}

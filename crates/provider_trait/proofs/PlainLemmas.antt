@@ -1,7 +1,7 @@
 -- The plain state, as it is made.
-use Rattle.std.proofs.Common.{◌≡◌, ◌<◌, ◌≤◌, ℕ, suc, Bool, true, false, ◌&&◌, ◌||◌, not, List, [], ◌∷◌, ◌++◌, chars, codes, IsUtf8, cond, Option, Some, None, option_map, option_and_then, Result, Ok, Err, IfOk, refl, sym, ap, ap₂, ◌∙◌, arith, append_assoc, true≢false, bytes_eq, subst}
+use Rattle.std.proofs.Common.{◌≡◌, ◌≤◌, ℕ, Bool, true, false, ◌&&◌, ◌||◌, List, [], ◌++◌, chars, codes, IsUtf8, cond, Some, None, option_and_then, Result, Ok, Err, IfOk, refl, sym, ap, ap₂, ◌∙◌, arith, true≢false, bytes_eq, subst}
 use Rattle.std.proofs.lemmas.Str.{chars-append, chars-nil, IsUtf8-from_ascii}
-use Rattle.arm_value.specs.Json.{Json, text, object, pairs, members, Member, put, nesting, members_nesting}
+use Rattle.arm_value.specs.Json.{Json, text, object, pairs, Member, put, nesting, members_nesting}
 use Rattle.arm_value.specs.Look.{look, fold, is_same_folded}
 use Rattle.provider_trait.specs.Catalog.{refusal, has_wrong_properties, lacks_location, lacks_sku, has_wrong_name, refused_or_stored, catalog_answer}
 use Rattle.arm_ids.specs.Id.{reading, IsNoId}
@@ -13,7 +13,7 @@ use Rattle.provider_trait.specs.declared.act.Act.{Act}
 use Rattle.provider_trait.specs.Answer.{Suits}
 use Rattle.provider_trait.specs.declared.act.Act.TheVariants.{Put}
 use Rattle.provider_trait.specs.declared.answer.Answer.{Answer}
-use Rattle.provider_trait.specs.declared.answer.Answer.TheVariants.{Stored, Gone, Refused}
+use Rattle.provider_trait.specs.declared.answer.Answer.TheVariants.{Stored, Refused}
 use Rattle.provider_trait.specs.Plain.{members_of, members_found, object_of, is_storage, full_type, full_name, types_joined, names_joined, endpoints, endpoint, with_endpoints, stored_properties, state_named, plain_state}
 use Rattle.provider_trait.proofs.Words.{word, ascii_word}
 use Rattle.provider_trait.proofs.NestLemmas.{members-pairs, put_body, put_nests, members_nest, found_nests}

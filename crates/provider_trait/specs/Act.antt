@@ -1,7 +1,7 @@
 -- What each act asks for.
-use Rattle.std.specs.Prelude.{◌≡◌, ◌≤◌, ℕ, Bool, true, false, refl}
+use Rattle.std.specs.Prelude.{◌≡◌, ◌≤◌, Bool, true, false, refl}
 use Rattle.std.specs.Coded.{Coded, code_by, coded_bool}
-use Rattle.arm_value.specs.Json.{Json, null, bool, int, text, array, object, nesting}
+use Rattle.arm_value.specs.Json.{Json, null, object, nesting}
 use Rattle.provider_trait.specs.declared.act.Act.{Act}
 use Rattle.provider_trait.specs.declared.act.Act.TheVariants.{Put, Delete}
 
@@ -12,14 +12,17 @@ FitsAct Put _ = ⊥
 FitsAct Delete null = Unit {0}
 FitsAct Delete _ = ⊥
 
+-- whether the act is a put
 abbrev pub is_put : Act → Bool
 is_put Put = true
 is_put Delete = false
 
+-- a put, or else a deletion
 abbrev pub act_of : Bool → Act
 act_of true = Put
 act_of false = Delete
 
+-- the one is told by the other
 pub act_of-is_put : (act : Act) → act_of (is_put act) ≡ act
 act_of-is_put Put = refl
 act_of-is_put Delete = refl

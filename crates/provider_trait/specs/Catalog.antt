@@ -1,7 +1,7 @@
 -- What the catalogue answers.
 use Rattle.std.specs.Prelude.{◌≡◌, ℕ, ◌&&◌, ◌||◌, not, nat_le, Bool, true, false, List, length, bytes_eq, Option, Some, None, option_and_then, codes, if◌then◌else◌}
 use Rattle.std.specs.List.{list_all}
-use Rattle.arm_value.specs.Json.{Json, null, bool, int, text, array, object}
+use Rattle.arm_value.specs.Json.{Json, text, object}
 use Rattle.arm_value.specs.Look.{fold, look}
 use Rattle.provider_trait.specs.Plain.{is_storage, full_type, full_name, plain_state}
 use Rattle.provider_trait.specs.declared.act.Act.{Act}
@@ -9,10 +9,12 @@ use Rattle.provider_trait.specs.declared.act.Act.TheVariants.{Put, Delete}
 use Rattle.provider_trait.specs.declared.answer.Answer.{Answer}
 use Rattle.provider_trait.specs.declared.answer.Answer.TheVariants.{Stored, Gone, Refused}
 
+-- whether there is a text
 abbrev pub is_text : Option Json → Bool
 is_text (Some (text s)) = true
 is_text _ = false
 
+-- whether there is an object, or nothing
 abbrev pub is_object_or_none : Option Json → Bool
 is_object_or_none None = true
 is_object_or_none (Some (object ms)) = true
@@ -60,6 +62,7 @@ refusal kind name body =
     (if lacks_sku kind body then Some (codes "SkuRequired") else
     (if has_wrong_name kind name then Some (codes "AccountNameInvalid") else None)))
 
+-- refused by the code where there is one, and else stored in this state
 abbrev pub refused_or_stored : Option (List ℕ) → Json → Answer
 refused_or_stored (Some code) state = Refused code
 refused_or_stored None state = Stored state

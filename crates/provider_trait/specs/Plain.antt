@@ -1,5 +1,5 @@
 -- The plain state of a put: what a resource is in after it was stored, when nothing else is known of its type.
-use Rattle.std.specs.Prelude.{◌≡◌, ℕ, List, [], ◌∷◌, ◌++◌, Bool, true, false, bytes_eq, Option, Some, None, codes}
+use Rattle.std.specs.Prelude.{ℕ, List, [], ◌++◌, Bool, true, false, bytes_eq, Option, Some, None, codes}
 use Rattle.arm_value.specs.Json.{Json, text, object, pairs, members, Member, put}
 use Rattle.arm_value.specs.Look.{fold, look}
 use Rattle.arm_ids.specs.Segments.{joined}
@@ -15,14 +15,17 @@ abbrev pub members_of : Json → List Member
 members_of (object ms) = members ms
 members_of _ = []
 
+-- the members of what was found, and none where nothing was
 abbrev pub members_found : Option Json → List Member
 members_found None = []
 members_found (Some j) = members_of j
 
+-- the type segments of an id as one text, empty where there is no id
 abbrev pub types_joined : Option ResourceId → List ℕ
 types_joined None = []
 types_joined (Some i) = joined i.types
 
+-- the name segments of an id as one text, empty where there is no id
 abbrev pub names_joined : Option ResourceId → List ℕ
 names_joined None = []
 names_joined (Some i) = joined i.names
@@ -48,6 +51,7 @@ unfoldable pub endpoints : List ℕ → List Member
 endpoints name =
     put (codes "table") (text (endpoint name (codes "table"))) (put (codes "queue") (text (endpoint name (codes "queue"))) (put (codes "file") (text (endpoint name (codes "file"))) (put (codes "blob") (text (endpoint name (codes "blob"))) [])))
 
+-- the members, for a storage account with its endpoints
 abbrev pub with_endpoints : Bool → List ℕ → List Member → List Member
 with_endpoints true name ms = put (codes "primaryEndpoints") (object_of (endpoints name)) ms
 with_endpoints false name ms = ms

@@ -1,5 +1,5 @@
 -- What a job says.
-use Rattle.std.specs.Prelude.{◌≡◌, ℕ, List, refl}
+use Rattle.std.specs.Prelude.{ℕ, List, refl}
 use Rattle.std.specs.Coded.{Coded, code_by, coded×, coded_ℕ, coded_list}
 use Rattle.arm_value.specs.Json.{Json}
 use Rattle.arm_value.specs.JsonCode.{json_code}

@@ -21,7 +21,8 @@ pub(crate) fn add_answered(
     job: &Job,
     answer: &Answer,
 ) -> Result<(), OutOfMemory>
-    ensures { calls.new.items ≡ (if is_ok result then calls.old.items ++ call job.now (Ok answer.now) ∷ []
+    ensures { calls.new.items
+        ≡ (if is_ok result then calls.old.items ++ call job.now (Ok answer.now) ∷ []
         else calls.old.items) }
 {
     let job = job.copy(alloc)?;
@@ -32,7 +33,8 @@ pub(crate) fn add_answered(
 
 /// Adds a call that failed. After want of memory the calls are as they were.
 pub(crate) fn add_failed(alloc: Global, calls: &mut Vec<Call>, job: &Job) -> Result<(), OutOfMemory>
-    ensures { calls.new.items ≡ (if is_ok result then calls.old.items ++ call job.now (Err Fault) ∷ []
+    ensures { calls.new.items
+        ≡ (if is_ok result then calls.old.items ++ call job.now (Err Fault) ∷ []
         else calls.old.items) }
 {
     let job = job.copy(alloc)?;

@@ -57,7 +57,8 @@ impl Provider for Catalog {
         ensures may { IfOk result (CatalogMay Put job.now.id job.now.api job.now.body) }
         ensures suits { IfOk result (Suits Put) }
         ensures count { Counts 0 0 result }
-        ensures told { true ≡ true → Tells (catalog_calls self.old) (catalog_calls self.new) job.now result }
+        ensures told { true ≡ true
+            → Tells (catalog_calls self.old) (catalog_calls self.new) job.now result }
         ensures faultless { IfErr result (λ f. f ≡ OutOfMemory) }
     {
         let answer = answer_to(alloc, job)?;
@@ -70,7 +71,8 @@ impl Provider for Catalog {
         ensures may { IfOk result (CatalogMay Delete job.now.id job.now.api job.now.body) }
         ensures suits { IfOk result (Suits Delete) }
         ensures count { Counts 0 0 result }
-        ensures told { true ≡ true → Tells (catalog_calls self.old) (catalog_calls self.new) job.now result }
+        ensures told { true ≡ true
+            → Tells (catalog_calls self.old) (catalog_calls self.new) job.now result }
         ensures faultless { IfErr result (λ f. f ≡ OutOfMemory) }
     {
         add_answered(alloc, &mut self.calls, job, &Answer::Gone)?;
@@ -93,7 +95,8 @@ fn answer_to(alloc: Global, job: &Job) -> Result<Answer, OutOfMemory>
 
 // The code by which a put is refused, the first that holds.
 fn refusal(named: &Named, body: &Value) -> Option<&'static str>
-    ensures { option_map (λ code. chars code.now) result ≡ refusal named.now.kind named.now.name (json body.now) }
+    ensures { option_map (λ code. chars code.now) result
+        ≡ refusal named.now.kind named.now.name (json body.now) }
 {
     if has_wrong_properties(body) {
         return Some("InvalidProperties");

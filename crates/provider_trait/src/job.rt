@@ -80,30 +80,35 @@ impl Job {
         }
     }
 
+    /// The number of the task.
     pub fn task(&self) -> u32
         ensures { result ≡ self.now.task }
     {
         self.task
     }
 
+    /// The number of the worker, that of its seat.
     pub fn worker(&self) -> u32
         ensures { result ≡ self.now.worker }
     {
         self.worker
     }
 
+    /// What the provider is asked to do.
     pub fn act(&self) -> Act
         ensures { result ≡ self.now.act }
     {
         self.act
     }
 
+    /// The id of the resource, with its letters as they are spelled.
     pub fn id(&self) -> &Text
         ensures { result.now ≡ self.now.id }
     {
         &self.id
     }
 
+    /// The version of the resource's type, empty for a deletion.
     pub fn api(&self) -> &Text
         ensures { result.now ≡ self.now.api }
     {
@@ -118,6 +123,7 @@ impl Job {
         &self.body
     }
 
+    /// The first part of the job's record in the journal.
     pub fn first(&self) -> &Bytes
         ensures { result.now ≡ self.now.first }
     {
@@ -135,15 +141,7 @@ impl Job {
             id: self.id.copy(alloc)?,
             api: self.api.copy(alloc)?,
             body: self.body.copy(alloc)?,
-            first: copy_bytes(alloc, &self.first)?,
+            first: self.first.copy(alloc)?,
         })
     }
-}
-
-/// The same bytes again.
-pub(crate) fn copy_bytes(alloc: Global, bytes: &Bytes) -> Result<Bytes, OutOfMemory>
-    ensures { IfOk result (λ b. b ≡ bytes.now) }
-{
-    let copy = Vec::from_slice(alloc, bytes.as_slice())?;
-    Ok(Bytes::from_vec(copy))
 }

@@ -16,7 +16,8 @@ use std::alloc::{AllocError, Global};
 /// A put that is stored in its plain state.
 pub(crate) fn stored(alloc: Global, named: &Named, job: &Job) -> Result<Answer, OutOfMemory>
     requires { job.now.act ≡ Put }
-    ensures { IfOk result (λ a. a ≡ Stored (state_named named.now.kind named.now.name job.now.id job.now.api job.now.body)) }
+    ensures { IfOk result (λ a. a
+        ≡ Stored (state_named named.now.kind named.now.name job.now.id job.now.api job.now.body)) }
 {
     let value = state_of(alloc, named, job.id(), job.api(), job.body())?;
     match State::of(alloc, value) {
@@ -35,7 +36,8 @@ fn state_of(
     body: &Value,
 ) -> Result<Value, OutOfMemory>
     requires { nesting (json body.now) ≤ 100 }
-    ensures state { IfOk result (λ v. json v ≡ state_named named.now.kind named.now.name id.now api.now (json body.now)) }
+    ensures state { IfOk result (λ v. json v
+        ≡ state_named named.now.kind named.now.name id.now api.now (json body.now)) }
     ensures shallow { IfOk result (λ v. nesting (json v) ≤ 110) }
 {
     let mut members = members(alloc, body)?;
@@ -50,7 +52,8 @@ fn state_of(
 
 // The properties of the stored resource.
 fn properties_of(alloc: Global, named: &Named, body: &Value) -> Result<Fields, OutOfMemory>
-    ensures { IfOk result (λ ms. ms ≡ stored_properties named.now.kind named.now.name (json body.now)) }
+    ensures { IfOk result (λ ms. ms
+        ≡ stored_properties named.now.kind named.now.name (json body.now)) }
 {
     let mut properties = found_members(alloc, body.look("properties"))?;
     let provisioned = Text::of(alloc, "Succeeded")?;
@@ -155,7 +158,9 @@ fn endpoint(alloc: Global, name: &Text, service: &str) -> Result<Text, OutOfMemo
 }
 
 fn address(alloc: Global, name: &str, service: &str) -> Result<String, OutOfMemory>
-    ensures { IfOk result (λ s. string_bytes s ≡ codes "https://" ++ (name.now ++ (codes "." ++ (service.now ++ codes ".core.windows.net/")))) }
+    ensures { IfOk result (λ s. string_bytes s
+        ≡ codes "https://" ++ (name.now
+        ++ (codes "." ++ (service.now ++ codes ".core.windows.net/")))) }
 {
     format!(in alloc; "https://{name}.{service}.core.windows.net/")
 }

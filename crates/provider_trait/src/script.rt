@@ -56,7 +56,9 @@ impl Script {
 
     // Makes a call by the next step.
     fn call(&mut self, alloc: Global, job: &Job) -> Result<Answer, ProviderFault>
-        ensures gives { GivesUnlessMemory (scripted (slice_get (script_steps self.old) (length (script_calls self.old))) job.now) result }
+        ensures gives { GivesUnlessMemory
+            (scripted (slice_get (script_steps self.old)
+            (length (script_calls self.old))) job.now) result }
         ensures count { Counts (script_faults self.old) (script_faults self.new) result }
         ensures told { Tells (script_calls self.old) (script_calls self.new) job.now result }
         ensures steps { script_steps self.new ≡ script_steps self.old }
@@ -90,8 +92,11 @@ impl Provider for Script {
         ensures may { IfOk result (ScriptMay Put job.now.id job.now.api job.now.body) }
         ensures suits { IfOk result (Suits Put) }
         ensures count { Counts (script_faults self.old) (script_faults self.new) result }
-        ensures told { true ≡ true → Tells (script_calls self.old) (script_calls self.new) job.now result }
-        ensures gives { GivesUnlessMemory (scripted (slice_get (script_steps self.old) (length (script_calls self.old))) job.now) result }
+        ensures told { true ≡ true
+            → Tells (script_calls self.old) (script_calls self.new) job.now result }
+        ensures gives { GivesUnlessMemory
+            (scripted (slice_get (script_steps self.old)
+            (length (script_calls self.old))) job.now) result }
         ensures steps { script_steps self.new ≡ script_steps self.old }
     {
         self.call(alloc, job)
@@ -102,8 +107,11 @@ impl Provider for Script {
         ensures may { IfOk result (ScriptMay Delete job.now.id job.now.api job.now.body) }
         ensures suits { IfOk result (Suits Delete) }
         ensures count { Counts (script_faults self.old) (script_faults self.new) result }
-        ensures told { true ≡ true → Tells (script_calls self.old) (script_calls self.new) job.now result }
-        ensures gives { GivesUnlessMemory (scripted (slice_get (script_steps self.old) (length (script_calls self.old))) job.now) result }
+        ensures told { true ≡ true
+            → Tells (script_calls self.old) (script_calls self.new) job.now result }
+        ensures gives { GivesUnlessMemory
+            (scripted (slice_get (script_steps self.old)
+            (length (script_calls self.old))) job.now) result }
         ensures steps { script_steps self.new ≡ script_steps self.old }
     {
         self.call(alloc, job)

@@ -5,7 +5,6 @@ ghost use Rattle.arm_value.specs.Json.{nesting};
 ghost use Rattle.arm_value.specs.Reading.{data_of};
 ghost use Rattle.provider_trait.specs.StateFault.{IsStateFault};
 
-use crate::job::copy_bytes;
 use arm_value::{Bytes, OutOfMemory, Value};
 use std::alloc::{AllocError, Global};
 use std::marker::Model;
@@ -34,7 +33,8 @@ impl Model for State {
 
     ghost view = { λ s. json s.value };
 
-    ghost invariant = { λ s. (s.text ≡ compact_text (data_of (json s.value))) × (nesting (json s.value) ≤ 110) };
+    ghost invariant = { λ s. (s.text ≡ compact_text (data_of (json s.value)))
+        × (nesting (json s.value) ≤ 110) };
 }
 
 /// Why a value is no state.
@@ -43,6 +43,7 @@ pub enum StateFault {
     /// It nests above 110.
     #[error("nested above 110")]
     TooDeep,
+    /// There was not memory enough for its text.
     #[error("out of memory")]
     OutOfMemory,
 }
@@ -76,6 +77,7 @@ impl State {
         Ok(State { value, text })
     }
 
+    /// The value. It nests at most 110.
     pub fn value(&self) -> &Value
         ensures value { json result.now ≡ self.now }
         ensures shallow { nesting self.now ≤ 110 }
@@ -103,7 +105,7 @@ impl State {
     {
         Ok(State {
             value: self.value.copy(alloc)?,
-            text: copy_bytes(alloc, &self.text)?,
+            text: self.text.copy(alloc)?,
         })
     }
 }

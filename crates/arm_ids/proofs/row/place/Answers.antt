@@ -1,4 +1,3 @@
-use Rattle.std.proofs.Common.{List, ℕ}
 use Rattle.std.proofs.lemmas.Fn.{always_returns_same}
 use Rattle.arm_ids.specs.Held.{id_cmp}
 use Rattle.arm_ids.specs.Row.{order_of}

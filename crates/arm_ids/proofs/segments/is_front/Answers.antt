@@ -1,4 +1,4 @@
-use Rattle.std.proofs.Common.{◌<◌, length, arith, ap}
+use Rattle.std.proofs.Common.{length, arith, ap}
 use Rattle.arm_ids.proofs.FrontLemmas.{front_short}
 use Rattle.arm_ids.proofs.segments.is_front.Goals as goal
 

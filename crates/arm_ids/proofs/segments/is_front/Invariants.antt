@@ -1,4 +1,4 @@
-use Rattle.std.proofs.Common.{◌≡◌, ◌≤◌, length, drop}
+use Rattle.std.proofs.Common.{◌≡◌, drop}
 use Rattle.arm_ids.specs.Segments.{is_front}
 use Rattle.arm_ids.proofs.segments.is_front.Given as goal
 

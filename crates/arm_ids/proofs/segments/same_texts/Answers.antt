@@ -1,4 +1,4 @@
-use Rattle.std.proofs.Common.{◌≡◌, length, arith, sym, ◌∙◌}
+use Rattle.std.proofs.Common.{arith, sym, ◌∙◌}
 use Rattle.arm_ids.proofs.FrontLemmas.{equal_from_front, front_self}
 use Rattle.arm_ids.proofs.segments.same_texts.Goals as goal
 

@@ -1,6 +1,6 @@
-use Rattle.std.proofs.Common.{◌≡◌, ◌+◌, ◌≤◌, ◌++◌, [], ◌∷◌, ℕ, List, length, ◌∙◌, ap, refl, sym, subst, arith}
+use Rattle.std.proofs.Common.{◌+◌, ◌≤◌, ◌++◌, [], ◌∷◌, ℕ, List, length, ◌∙◌, ap, refl, sym, subst, arith}
 use Rattle.arm_edges.specs.Disk.{Parts}
-use Rattle.deploy_journal.specs.Records.{patched, body, record_of, Holds, IsOneOf}
+use Rattle.deploy_journal.specs.Records.{body, record_of, Holds}
 use Rattle.deploy_journal.proofs.Lists.{staged, written_gate, overwritten_within, holds_within, length_patched}
 use Rattle.deploy_journal.proofs.Moments.{on_ok, since_then}
 use Rattle.deploy_journal.proofs.Crash.{body_since, gate_since, since_same}

@@ -1,4 +1,4 @@
-use Rattle.std.proofs.Common.{◌≡◌, ◌≤◌, ◌∙◌, length, OnOk}
+use Rattle.std.proofs.Common.{◌∙◌, length}
 use Rattle.deploy_journal.proofs.Lists.{overwritten_within}
 use Rattle.deploy_journal.proofs.Moments.{wider, torn_keeps, on_ok}
 use Rattle.deploy_journal.proofs.append.write_behind.Goals as goal

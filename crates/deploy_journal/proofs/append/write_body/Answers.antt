@@ -1,5 +1,5 @@
-use Rattle.std.proofs.Common.{rules, ◌≡◌, ◌+◌, ◌≤◌, ◌++◌, [], ◌∷◌, ℕ, List, length, ◌∙◌, ap, sym, arith, append_assoc, length-append}
-use Rattle.deploy_journal.specs.Records.{eight, patched, body_bytes, KeepsFront}
+use Rattle.std.proofs.Common.{ℕ, List, ◌∙◌, ap}
+use Rattle.deploy_journal.specs.Records.{patched, KeepsFront}
 use Rattle.arm_edges.specs.Disk.{Parts}
 use Rattle.deploy_journal.proofs.Lists.{written_body}
 use Rattle.deploy_journal.proofs.Moments.{on_ok, go_on, wider, same_keeps}

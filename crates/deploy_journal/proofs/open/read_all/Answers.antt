@@ -1,6 +1,5 @@
-use Rattle.std.proofs.Common.{◌≡◌, ◌+◌, ◌≤◌, ℕ, List, ◌++◌, length, refl, inl, ap, sym, subst, ◌∙◌, arith, true, false}
+use Rattle.std.proofs.Common.{length, refl, inl, ap, sym, ◌∙◌, true}
 use Rattle.arm_edges.specs.Disk.{Parts}
-use Rattle.deploy_journal.specs.Records.{IsDamagedAt, beginning}
 use Rattle.deploy_journal.proofs.open.read_all.Goals as goal
 
 pub returns-then-not-branch-clause-damaged : goal.returns-then-not-branch-clause-damaged

@@ -1,4 +1,4 @@
-use Rattle.std.proofs.Common.{◌≡◌, ◌-◌, length, arith, sym, ◌∙◌, true≢false, eq-eqb}
+use Rattle.std.proofs.Common.{◌≡◌, ◌-◌, arith, sym, ◌∙◌, true≢false, eq-eqb}
 use Rattle.std.proofs.lemmas.Bool.{eqb-true}
 use Rattle.arm_ids.proofs.FrontLemmas.{names_longer, parent_from, parent_begins}
 use Rattle.arm_ids.proofs.key.Key.is_parent.Goals as goal

@@ -1,4 +1,4 @@
-use Rattle.std.proofs.Common.{◌∙◌, ap, arith}
+use Rattle.std.proofs.Common.{◌∙◌, arith}
 use Rattle.provider_trait.proofs.AccountLemmas.{too_short, too_long, fit_length}
 use Rattle.provider_trait.proofs.named.Named.is_account_name.Goals as goal
 

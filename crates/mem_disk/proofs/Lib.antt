@@ -1,0 +1,5 @@
+pub mod LogLemmas
+pub mod MoveLemmas
+pub mod StepLemmas
+pub mod Tears
+pub mod CrashLemmas

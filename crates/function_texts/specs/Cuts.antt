@@ -14,13 +14,17 @@ part s start count = if nat_le (start + count) (length s) then Some (take count 
 abbrev pub rest_from : List ℕ → ℕ → Option (List ℕ)
 rest_from s start = if nat_le start (length s) then Some (drop start s) else None
 
+-- the number that a value is, where it is not below 0
+abbrev pub count_of : Json → Option ℕ
+count_of (int (pos n)) = Some n
+count_of _ = None
+
+-- the text from a place on, or so many characters of it
 abbrev pub cut : Json → Json → Option Json
-cut (text s) (int (pos start)) = option_map text (rest_from s start)
-cut _ _ = None
+cut j k = option_and_then (λ s. option_and_then (λ start. option_map text (rest_from s start)) (count_of k)) (text_of j)
 
 abbrev pub cut_part : Json → Json → Json → Option Json
-cut_part (text s) (int (pos start)) (int (pos count)) = option_map text (part s start count)
-cut_part _ _ _ = None
+cut_part j k l = option_and_then (λ s. option_and_then (λ start. option_and_then (λ count. option_map text (part s start count)) (count_of l)) (count_of k)) (text_of j)
 
 abbrev pub substring : List Json → Option Json
 substring (j ∷ k ∷ []) = cut j k
@@ -33,9 +37,12 @@ replaced old new skipped [] = []
 replaced old new (suc n) (c ∷ cs) = replaced old new n cs
 replaced old new zero (c ∷ cs) = if begins old (c ∷ cs) then new ++ replaced old new (length old - 1) cs else c ∷ replaced old new 0 cs
 
+-- the text with each part replaced; an empty part is none
+abbrev pub replaced_in : List ℕ → List ℕ → List ℕ → Option Json
+replaced_in s old new = if length old == 0 then None else Some (text (replaced old new 0 s))
+
 abbrev pub replaced_text : Json → Json → Json → Option Json
-replaced_text (text s) (text old) (text new) = if length old == 0 then None else Some (text (replaced old new 0 s))
-replaced_text _ _ _ = None
+replaced_text j k l = option_and_then (λ s. option_and_then (λ old. option_and_then (λ new. replaced_in s old new) (text_of l)) (text_of k)) (text_of j)
 
 abbrev pub replace : List Json → Option Json
 replace (j ∷ k ∷ l ∷ []) = replaced_text j k l

@@ -6,8 +6,11 @@
 //! What each gives stands in `specs/Letters.antt`, `specs/Places.antt` and `specs/Cuts.antt`.
 #![tactic(auto)]
 
+mod cuts;
 mod letters;
 pub mod places;
+mod splits;
 
+pub use cuts::{replace, substring};
 pub use letters::{to_lower, to_upper, trim};
 pub use places::{contains, ends_with, index_of, last_index_of, starts_with};

@@ -1,0 +1,18 @@
+use Rattle.std.proofs.Common.{map}
+use Rattle.arm_value.specs.View.{json}
+use Rattle.function_texts.proofs.CutLemmas.{some_rest}
+use Rattle.function_texts.proofs.SplitLemmas.{spelled, pieces_more, pieces_end, pieces_begin}
+use Rattle.function_texts.proofs.splits.pieces_of.Goals as goal
+
+pub loop-i-init : goal.loop-i-init
+loop-i-init c = ?
+
+pub split_here-requires : goal.split_here-requires
+split_here-requires c = some_rest c.args.characters.now c.loop-i.i c.loop-i-test.true
+
+pub loop-i-preserved : goal.loop-i-preserved
+loop-i-preserved c =
+    pieces_more (map json c.loop-i.all.items) (map json c.split_here.new.all.items) c.loop-i.piece.items c.split_here.new.piece.items (spelled c.args.delimiters.now) c.args.characters.now c.loop-i.i c.loop-i.skipped _ _ c.loop-i-test.true c.in_ok-skipped.ensures c.loop-i.invariant
+
+pub returns : goal.returns
+returns c = ?

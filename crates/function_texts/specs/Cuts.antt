@@ -84,8 +84,11 @@ abbrev pub can_cut : List (List ℕ) → Bool
 can_cut ds = not (length ds == 0) && list_all (λ d. not (length d == 0)) ds
 
 -- the text cut at each delimiter, of several at one place at the first in their order
+abbrev pub split_text : List ℕ → List (List ℕ) → Option Json
+split_text s ds = if can_cut ds then array_of (map text (pieces ds 0 s)) else None
+
 abbrev pub split_by : Json → Json → Option Json
-split_by j k = option_and_then (λ s. option_and_then (λ ds. if can_cut ds then array_of (map text (pieces ds 0 s)) else None) (delimiters k)) (text_of j)
+split_by j k = option_and_then (λ s. option_and_then (split_text s) (delimiters k)) (text_of j)
 
 abbrev pub split : List Json → Option Json
 split args = of_two split_by args

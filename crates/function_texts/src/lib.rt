@@ -15,3 +15,6 @@ pub use cuts::{replace, substring};
 pub use letters::{to_lower, to_upper, trim};
 pub use places::{contains, ends_with, index_of, last_index_of, starts_with};
 pub use splits::split;
+
+#[cfg(test)]
+mod tests;

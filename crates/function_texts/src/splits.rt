@@ -27,11 +27,7 @@ fn length_of_first(delimiters: &[Vec<char>], rest: &[char]) -> Option<usize>
 }
 
 // Puts the piece last, as a text.
-fn put_piece(
-    alloc: Global,
-    all: &mut Vec<Value>,
-    piece: &[char],
-) -> Result<(), OutOfMemory>
+fn put_piece(alloc: Global, all: &mut Vec<Value>, piece: &[char]) -> Result<(), OutOfMemory>
     ensures { OnOk result (map json all.new.items ≡ map json all.old.items ++ text piece.now ∷ []) }
 {
     let piece = text_of_characters(alloc, piece)?;
@@ -51,9 +47,9 @@ fn split_here(
 ) -> Result<usize, OutOfMemory>
     requires { 0 < length rest.now }
     ensures { IfOk result (λ next. map json all.new.items
-            ++ map text (joined_to_first piece.new.items (pieces (map (λ d. d.items) delimiters.now) next (drop 1 rest.now)))
+        ++ map text (joined_to_first piece.new.items (pieces (map (λ d. d.items) delimiters.now) next (drop 1 rest.now)))
         ≡ map json all.old.items
-            ++ map text (joined_to_first piece.old.items (pieces (map (λ d. d.items) delimiters.now) skipped rest.now))) }
+        ++ map text (joined_to_first piece.old.items (pieces (map (λ d. d.items) delimiters.now) skipped rest.now))) }
 {
     if skipped > 0 {
         return Ok(skipped - 1);
@@ -84,7 +80,14 @@ fn pieces_of(
     let mut piece = Vec::new(alloc);
     let mut skipped = 0usize;
     for i in 0..characters.len() {
-        skipped = split_here(alloc, &mut all, &mut piece, delimiters, &characters[i..], skipped)?;
+        skipped = split_here(
+            alloc,
+            &mut all,
+            &mut piece,
+            delimiters,
+            &characters[i..],
+            skipped,
+        )?;
     }
     put_piece(alloc, &mut all, piece.as_slice())?;
     Ok(all)
@@ -129,8 +132,8 @@ fn delimiters(alloc: Global, value: &Value) -> Result<Option<Vec<Vec<char>>>, Ou
 fn are_not_empty(delimiters: &[Vec<char>]) -> bool
     ensures { result ≡ list_all (λ d. not (length d == 0)) (map (λ d. d.items) delimiters.now) }
 {
-    for delimiter in delimiters {
-        if delimiter.as_slice().is_empty() {
+    for text in delimiters {
+        if text.as_slice().is_empty() {
             return false;
         }
     }

@@ -3,7 +3,7 @@ use Rattle.function_texts.proofs.LetterLemmas.{blank_end, kept_end, nothing_left
 use Rattle.function_texts.proofs.letters.up_to_blanks.Goals as goal
 
 pub back-init : goal.back-init
-back-init c = record { kept = all_taken c.args.characters.now; within = omega arith; }
+back-init c = record { kept = all_taken c.args.characters.now; within = omega arith }
 
 pub back-preserved : goal.back-preserved
 back-preserved c = record {

@@ -1,0 +1,165 @@
+-- Objects united: what is put together, and how deep it nests.
+use Rattle.std.proofs.Common.{◌≡◌, ◌<◌, ◌≤◌, ◌+◌, ℕ, zero, suc, max, Bool, true, false, List, [], ◌∷◌, ◌++◌, length, get_or, drop, map, Option, Some, None, option_map, option_and_then, Ordering, Less, Equal, Greater, refl, ap, sym, ◌∙◌, append_assoc, append-nil, arith, add-one, bytes_eq}
+use Rattle.std.specs.Prelude.{if◌then◌else◌, cond}
+use Rattle.std.specs.Ordering.{match_ordering}
+use Rattle.std.specs.List.{filter}
+use Rattle.std.proofs.Math.Seq.{drop-cons}
+use Rattle.std.proofs.lemmas.List.{drop_all}
+use Rattle.arm_value.specs.Json.{Json, null, bool, int, text, array, object, Row, Pairs, no_pairs, pair, Member, pairs, members, nesting, row_nesting, pairs_nesting, members_nesting, put, put_each, key_cmp}
+use Rattle.arm_value.specs.View.{json, member}
+use Rattle.arm_value.specs.declared.value.Value.{Value}
+use Rattle.arm_value.specs.declared.value.Field.{Field}
+use Rattle.function_numbers.specs.Kinds.{members_of}
+use Rattle.function_numbers.proofs.RowLemmas.{next_in, none_left}
+use Rattle.function_lists.specs.Members.{value_at, object_at, under, updated, united, united_all}
+
+pub next_field : (fs : List Field) (i : ℕ) (f : Field) → i < length fs → f ≡ get_or fs i f → map member (drop i fs) ≡ member f ∷ map member (drop (i + 1) fs)
+next_field fs i f h e = rw (add-one, drop-cons fs i f h) (ap (λ (g : Field). member g ∷ map member (drop (suc i) fs)) (sym e))
+
+pub no_field_left : (fs : List Field) (i : ℕ) → length fs ≤ i → map member (drop i fs) ≡ []
+no_field_left fs i h = ap (map member) (drop_all i fs h)
+
+-- ---- the value at a key
+
+at-cons : (k : List ℕ) (m : Member) (ms : List Member) → value_at k (m ∷ ms) ≡ (if bytes_eq k m.0 then Some m.1 else value_at k ms)
+unfolding value_at
+at-cons k m ms = refl
+
+at-nil : (k : List ℕ) → value_at k [] ≡ None
+unfolding value_at
+at-nil k = refl
+
+pub at_found : (k : List ℕ) (fs : List Field) (i : ℕ) (f : Field) (all : Option Json) → i < length fs → f ≡ get_or fs i f → bytes_eq k f.name ≡ true → value_at k (map member (drop i fs)) ≡ all → Some (json f.value) ≡ all
+at_found k fs i f all h e t before =
+    let step : value_at k (map member (drop i fs)) ≡ Some (json f.value) = ap (value_at k) (next_field fs i f h e) ∙ at-cons k (member f) (map member (drop (i + 1) fs)) ∙ rw t refl in
+    sym step ∙ before
+
+pub at_more : (k : List ℕ) (fs : List Field) (i : ℕ) (f : Field) (all : Option Json) → i < length fs → f ≡ get_or fs i f → bytes_eq k f.name ≡ false → value_at k (map member (drop i fs)) ≡ all → value_at k (map member (drop (i + 1) fs)) ≡ all
+at_more k fs i f all h e t before =
+    let step : value_at k (map member (drop i fs)) ≡ value_at k (map member (drop (i + 1) fs)) = ap (value_at k) (next_field fs i f h e) ∙ at-cons k (member f) (map member (drop (i + 1) fs)) ∙ rw t refl in
+    sym step ∙ before
+
+pub at_ends : (k : List ℕ) (fs : List Field) (i : ℕ) (all : Option Json) → length fs ≤ i → value_at k (map member (drop i fs)) ≡ all → None ≡ all
+at_ends k fs i all h before = sym (ap (value_at k) (no_field_left fs i h) ∙ at-nil k) ∙ before
+
+-- ---- how deep a union nests
+
+abbrev deepest : Option (List Member) → ℕ
+deepest None = 0
+deepest (Some ms) = suc (members_nesting ms)
+
+abbrev valued : Option Json → ℕ
+valued None = 0
+valued (Some j) = nesting j
+
+pairs_members : (ms : Pairs) → pairs (members ms) ≡ ms
+pairs_members no_pairs = refl
+pairs_members (pair k j ms) = ap (pair k j) (pairs_members ms)
+
+at_nests_by : (b : Bool) (j : Json) (o : Option Json) (n : ℕ) → nesting j ≤ n → valued o ≤ n → valued (if b then Some j else o) ≤ n
+at_nests_by true j o n h g = h
+at_nests_by false j o n h g = g
+
+at_nests : (k : List ℕ) (ms : List Member) (n : ℕ) → members_nesting ms ≤ n → valued (value_at k ms) ≤ n
+unfolding value_at
+at_nests k [] n h = omega arith
+at_nests k (m ∷ ms) n h = at_nests_by (bytes_eq k m.0) m.1 (value_at k ms) n (omega arith) (at_nests k ms n (omega arith))
+
+object_nests : (o : Option Json) (n : ℕ) → valued o ≤ n → deepest (option_and_then members_of o) ≤ n
+object_nests None n h = omega arith
+object_nests (Some null) n h = omega arith
+object_nests (Some (bool b)) n h = omega arith
+object_nests (Some (int z)) n h = omega arith
+object_nests (Some (text s)) n h = omega arith
+object_nests (Some (array js)) n h = omega arith
+object_nests (Some (object ms)) n h = rw (pairs_members ms) h
+
+put_nests_by : (o : Ordering) (k : List ℕ) (j : Json) (m : Member) (ms : List Member) (n : ℕ) → nesting j ≤ n → members_nesting (m ∷ ms) ≤ n → members_nesting (put k j ms) ≤ n → members_nesting (match_ordering o ((k, j) ∷ m ∷ ms) ((k, j) ∷ ms) (m ∷ put k j ms)) ≤ n
+put_nests_by Less k j m ms n p h r = omega arith
+put_nests_by Equal k j m ms n p h r = omega arith
+put_nests_by Greater k j m ms n p h r = omega arith
+
+put_nests : (k : List ℕ) (j : Json) (ms : List Member) (n : ℕ) → nesting j ≤ n → members_nesting ms ≤ n → members_nesting (put k j ms) ≤ n
+put_nests k j [] n p h = omega arith
+put_nests k j (m ∷ ms) n p h = put_nests_by (key_cmp k m.0) k j m ms n p h (put_nests k j ms n p (omega arith))
+
+put_each_nests : (ms ns : List Member) (n : ℕ) → members_nesting ms ≤ n → members_nesting ns ≤ n → members_nesting (put_each ms ns) ≤ n
+put_each_nests ms [] n h g = h
+put_each_nests ms (m ∷ ns) n h g = put_each_nests (put m.0 m.1 ms) ns n (put_nests m.0 m.1 ms n (omega arith) h) (omega arith)
+
+append_nests : (ms ns : List Member) (n : ℕ) → members_nesting ms ≤ n → members_nesting ns ≤ n → members_nesting (ms ++ ns) ≤ n
+append_nests [] ns n h g = g
+append_nests (m ∷ ms) ns n h g = let rest = append_nests ms ns n (omega arith) g in omega arith
+
+mutual
+  under_nests : (o : Option (List Member)) (j : Json) (n : ℕ) → deepest o ≤ n → nesting j ≤ n → nesting (under o j) ≤ n
+  under_nests None j n h g = g
+  under_nests (Some ms) null n h g = g
+  under_nests (Some ms) (bool b) n h g = g
+  under_nests (Some ms) (int z) n h g = g
+  under_nests (Some ms) (text s) n h g = g
+  under_nests (Some ms) (array js) n h g = g
+  under_nests (Some ms) (object ns) zero h g = absurd (omega arith)
+  under_nests (Some ms) (object ns) (suc n) h g =
+      let front : members_nesting ms ≤ n = omega arith in
+      let back : members_nesting (updated ms ns) ≤ n = updated_nests ms ns n front (omega arith) in
+      let all = put_each_nests [] (ms ++ updated ms ns) n (omega arith) (append_nests ms (updated ms ns) n front back) in
+      omega arith
+
+  updated_nests : (ms : List Member) (ns : Pairs) (n : ℕ) → members_nesting ms ≤ n → pairs_nesting ns ≤ n → members_nesting (updated ms ns) ≤ n
+  updated_nests ms no_pairs n h g = omega arith
+  updated_nests ms (pair k j ns) n h g =
+      let first = under_nests (object_at k ms) j n (object_nests (value_at k ms) n (at_nests k ms n h)) (omega arith) in
+      let rest = updated_nests ms ns n h (omega arith) in
+      omega arith
+
+-- one more member of the second
+pub united_more : (ms kept more : List Member) (fs : List Field) (i : ℕ) (f : Field) (j : Json) (all : List Member) → i < length fs → f ≡ get_or fs i f → j ≡ under (object_at f.name ms) (json f.value) → more ≡ kept ++ (f.name, j) ∷ []
+    → kept ++ updated ms (pairs (map member (drop i fs))) ≡ all → more ++ updated ms (pairs (map member (drop (i + 1) fs))) ≡ all
+united_more ms kept more fs i f j all h e is_j grown before =
+    let ns = map member (drop (i + 1) fs) in
+    let step : updated ms (pairs (map member (drop i fs))) ≡ (f.name, j) ∷ updated ms (pairs ns) = ap (λ os. updated ms (pairs os)) (next_field fs i f h e) ∙ ap (λ (k : Json). (f.name, k) ∷ updated ms (pairs ns)) (sym is_j) in
+    rw grown (append_assoc kept ((f.name, j) ∷ []) (updated ms (pairs ns)) ∙ ap (λ r. kept ++ r) (sym step) ∙ before)
+
+pub united_stays : (ms kept more : List Member) (f : Field) (j : Json) → members_nesting ms ≤ 119 → members_nesting kept ≤ 119 → nesting (json f.value) ≤ 119 → j ≡ under (object_at f.name ms) (json f.value) → more ≡ kept ++ (f.name, j) ∷ [] → members_nesting more ≤ 119
+united_stays ms kept more f j h g v is_j grown =
+    let deep : nesting j ≤ 119 = rw is_j (under_nests (object_at f.name ms) (json f.value) 119 (object_nests (value_at f.name ms) 119 (at_nests f.name ms 119 h)) v) in
+    rw grown (append_nests kept ((f.name, j) ∷ []) 119 g (omega arith))
+
+pub united_ends : (ms kept : List Member) (fs : List Field) (i : ℕ) (all : List Member) → length fs ≤ i → kept ++ updated ms (pairs (map member (drop i fs))) ≡ all → kept ≡ all
+united_ends ms kept fs i all h before = sym (append-nil kept) ∙ sym (ap (λ os. kept ++ updated ms (pairs os)) (no_field_left fs i h)) ∙ before
+
+-- ---- one object after another
+
+all-cons : (ms : List Member) (j : Json) (js : List Json) → united_all ms (j ∷ js) ≡ option_and_then (λ ns. united_all (united ms (pairs ns)) js) (members_of j)
+unfolding united_all
+all-cons ms j js = refl
+
+all-nil : (ms : List Member) → united_all ms [] ≡ Some ms
+unfolding united_all
+all-nil ms = refl
+
+pub all_more : (ms next ns : List Member) (vs : List Value) (i : ℕ) (v : Value) (all : Option (List Member)) → i < length vs → v ≡ get_or vs i v → ◌≡◌ {A = Option (List Member)} (Some ns) (members_of (json v)) → next ≡ united ms (pairs ns)
+    → united_all ms (map json (drop i vs)) ≡ all → united_all next (map json (drop (i + 1) vs)) ≡ all
+all_more ms next ns vs i v all h e n is_next before =
+    let js = map json (drop (i + 1) vs) in
+    rw is_next (ap (option_and_then (λ os. united_all (united ms (pairs os)) js)) n ∙ sym (ap (united_all ms) (next_in vs i v h e) ∙ all-cons ms (json v) js) ∙ before)
+
+pub all_fails : (ms : List Member) (vs : List Value) (i : ℕ) (v : Value) (all : Option (List Member)) → i < length vs → v ≡ get_or vs i v → ◌≡◌ {A = Option (List Member)} None (members_of (json v)) → united_all ms (map json (drop i vs)) ≡ all → ◌≡◌ {A = Option (List Member)} None all
+all_fails ms vs i v all h e n before =
+    let js = map json (drop (i + 1) vs) in
+    ap (option_and_then (λ os. united_all (united ms (pairs os)) js)) n ∙ sym (ap (united_all ms) (next_in vs i v h e) ∙ all-cons ms (json v) js) ∙ before
+
+pub all_ends : (ms : List Member) (vs : List Value) (i : ℕ) (all : Option (List Member)) → length vs ≤ i → united_all ms (map json (drop i vs)) ≡ all → ◌≡◌ {A = Option (List Member)} (Some ms) all
+all_ends ms vs i all h before = sym (ap (united_all ms) (none_left vs i h) ∙ all-nil ms) ∙ before
+
+-- ---- members that pass
+
+pass_by : (b : Bool) (kept more ms : List Member) (m : Member) → more ≡ (if b then kept ++ m ∷ [] else kept) → more ++ ms ≡ kept ++ (cond b (m ∷ ms) ms)
+pass_by true kept more ms m n = rw n (append_assoc kept (m ∷ []) ms)
+pass_by false kept more ms m n = rw n refl
+
+pub pass_more : (p : Member → Bool) (kept more : List Member) (fs : List Field) (i : ℕ) (f : Field) (all : List Member) → i < length fs → f ≡ get_or fs i f → more ≡ (if p (member f) then kept ++ member f ∷ [] else kept)
+    → kept ++ filter p (map member (drop i fs)) ≡ all → more ++ filter p (map member (drop (i + 1) fs)) ≡ all
+pass_more p kept more fs i f all h e m before =
+    pass_by (p (member f)) kept more (filter p (map member (drop (i + 1) fs))) (member f) m ∙ ap (λ ms. kept ++ filter p ms) (sym (next_field fs i f h e)) ∙ before

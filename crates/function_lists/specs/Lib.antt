@@ -1,0 +1,5 @@
+pub mod Values
+pub mod Sizes
+pub mod Ends
+pub mod Items
+pub mod Members

@@ -1,0 +1,4 @@
+pub mod LetterLemmas
+pub mod PlaceLemmas
+pub mod CutLemmas
+pub mod SplitLemmas

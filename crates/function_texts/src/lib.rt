@@ -1,0 +1,20 @@
+//! Template functions that look for and cut parts of texts.
+//!
+//! Each function takes the list of its arguments and gives its value; none where the arguments are
+//! of other kinds or another number, or where the function has no value of them. Texts are lists of
+//! characters (Unicode scalar values); the case that is folded is that of ASCII letters alone.
+//! What each gives stands in `specs/Letters.antt`, `specs/Places.antt` and `specs/Cuts.antt`.
+#![tactic(auto)]
+
+mod cuts;
+mod letters;
+pub mod places;
+mod splits;
+
+pub use cuts::{replace, substring};
+pub use letters::{to_lower, to_upper, trim};
+pub use places::{contains, ends_with, index_of, last_index_of, starts_with};
+pub use splits::split;
+
+#[cfg(test)]
+mod tests;

@@ -83,6 +83,14 @@ fn script_crew(alloc: Global, steps: Vec<Step>) -> Result<Vec<Seat<Script>>, Fai
     Ok(crew)
 }
 
+// The provider of the seat at that place.
+fn provider_at<P: Provider>(crew: &[Seat<P>], place: usize) -> Result<&P, Fail> {
+    match crew.get(place) {
+        Some(seat) => Ok(&seat.provider),
+        None => Err(Fail::from("no such seat")),
+    }
+}
+
 // What words and a file come to over the catalogue.
 fn told<R: Threads + Wait + Sync>(
     rt: &R,
@@ -123,7 +131,7 @@ fn one_resource_is_put_and_stored(rt: HostRuntime) -> Result<(), Fail> {
     let mut crew = catalog_crew(alloc)?;
     let said = outcome(&rt, alloc, FIRST, &mut tree, &mut crew, 1000)?;
     assert_eq!(rt; said.as_str(), "0 Succeeded first\n");
-    let [call] = crew[0].provider.calls() else {
+    let [call] = provider_at(&crew, 0)?.calls() else {
         return Err(Fail::from("not one call"));
     };
     let lines = lines_of(alloc, call)?;
@@ -135,7 +143,7 @@ fn one_resource_is_put_and_stored(rt: HostRuntime) -> Result<(), Fail> {
             "{\"apiVersion\":\"2024-01-01\",\"id\":\"/subscriptions/00000000-0000-0000-0000-000000000000/resourceGroups/g/providers/Demo.Lab/things/a\",\"name\":\"a\",\"properties\":{\"provisioningState\":\"Succeeded\"},\"size\":2,\"type\":\"Demo.Lab/things\"}",
         )
     );
-    assert_eq!(rt; crew[1].provider.calls().len(), 0);
+    assert_eq!(rt; provider_at(&crew, 1)?.calls().len(), 0);
     Ok(())
 }
 
@@ -220,7 +228,7 @@ fn a_refused_put_is_the_last(rt: HostRuntime) -> Result<(), Fail> {
         said.as_str(),
         "3 Failed first: Quota: /subscriptions/00000000-0000-0000-0000-000000000000/resourceGroups/g/providers/Demo.Lab/things/b\n"
     );
-    let names = names_put(alloc, crew[0].provider.calls())?;
+    let names = names_put(alloc, provider_at(&crew, 0)?.calls())?;
     assert_eq!(rt; names.as_str(), "ab");
     Ok(())
 }
@@ -234,7 +242,7 @@ fn a_failing_provider_is_named(rt: HostRuntime) -> Result<(), Fail> {
     let mut crew = script_crew(alloc, steps)?;
     let said = outcome(&rt, alloc, FIRST, &mut tree, &mut crew, 1000)?;
     assert_eq!(rt; said.as_str(), "7 fault provider 0\n");
-    assert_eq!(rt; crew[0].provider.faults(), 1);
+    assert_eq!(rt; provider_at(&crew, 0)?.faults(), 1);
     Ok(())
 }
 
@@ -245,7 +253,7 @@ fn a_failing_tree_is_named(rt: HostRuntime) -> Result<(), Fail> {
     let mut crew = catalog_crew(alloc)?;
     let said = outcome(&rt, alloc, FIRST, &mut tree, &mut crew, 1000)?;
     assert_eq!(rt; said.as_str(), "4 fault tree\n");
-    assert_eq!(rt; crew[0].provider.calls().len(), 0);
+    assert_eq!(rt; provider_at(&crew, 0)?.calls().len(), 0);
     Ok(())
 }
 
@@ -256,7 +264,7 @@ fn an_output_that_fails_turns_success_into_its_fault(rt: HostRuntime) -> Result<
     let mut crew = catalog_crew(alloc)?;
     let said = outcome(&rt, alloc, FIRST, &mut tree, &mut crew, 15)?;
     assert_eq!(rt; said.as_str(), "5 Succeeded first");
-    assert_eq!(rt; crew[0].provider.calls().len(), 1);
+    assert_eq!(rt; provider_at(&crew, 0)?.calls().len(), 1);
     Ok(())
 }
 
@@ -269,7 +277,7 @@ fn every_kind_of_value_comes_through(rt: HostRuntime) -> Result<(), Fail> {
     let mut crew = catalog_crew(alloc)?;
     let said = outcome(&rt, alloc, FIRST, &mut tree, &mut crew, 1000)?;
     assert_eq!(rt; said.as_str(), "0 Succeeded first\n");
-    let [call] = crew[0].provider.calls() else {
+    let [call] = provider_at(&crew, 0)?.calls() else {
         return Err(Fail::from("not one call"));
     };
     let body = String::from_utf8(call.job.body().to_json(alloc)?.into_vec())?;
@@ -277,7 +285,7 @@ fn every_kind_of_value_comes_through(rt: HostRuntime) -> Result<(), Fail> {
         body.as_str(),
         "{\"o\":{\"d\":7,\"f\":false,\"n\":null,\"t\":true},\"z\":[\"[a]\",\"[[b]\",\"[\",\"c\\n\"]}"
     );
-    let names = names_put(alloc, crew[0].provider.calls())?;
+    let names = names_put(alloc, provider_at(&crew, 0)?.calls())?;
     assert_eq!(rt; names.as_str(), "[x]");
     Ok(())
 }

@@ -11,3 +11,6 @@ pub mod printed;
 pub use joining::{concat, join};
 pub use padding::pad_left;
 pub use printed::to_text;
+
+#[cfg(test)]
+mod tests;

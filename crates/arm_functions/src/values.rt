@@ -1,0 +1,147 @@
+// The values of functions.
+ghost use Rattle.std.specs.Prelude.{◌≡◌, Some, None, chars, map, length, option_map, IfOk, IfErr};
+ghost use Rattle.arm_value.specs.View.{json};
+ghost use Rattle.arm_functions.specs.Calls.{refusal, IsRefused};
+ghost use Rattle.arm_functions.specs.Values.{of_numbers, of_truth, of_texts, of_lists, of_prints, value_of, admits, function_value};
+
+use crate::fault::FunctionFault;
+use crate::names::row_of;
+use crate::plain::{OnLists, OnNumbers, OnTexts, OnTruth, Plain, Printing};
+use arm_value::{OutOfMemory, Value};
+use std::alloc::Global;
+
+#[tactic(auto, unfolding(crate::specs::Values::of_numbers))]
+fn of_numbers(alloc: Global, function: OnNumbers, args: &[Value]) -> Result<Option<Value>, OutOfMemory>
+    ensures { IfOk result (λ value. option_map json value ≡ of_numbers function (map json args.now)) }
+{
+    match function {
+        OnNumbers::Add => Ok(function_numbers::add(args)),
+        OnNumbers::Sub => Ok(function_numbers::sub(args)),
+        OnNumbers::Mul => Ok(function_numbers::mul(args)),
+        OnNumbers::Div => Ok(function_numbers::div(args)),
+        OnNumbers::Remainder => Ok(function_numbers::remainder(args)),
+        OnNumbers::Min => Ok(function_numbers::min(args)),
+        OnNumbers::Max => Ok(function_numbers::max(args)),
+        OnNumbers::ToInt => Ok(function_numbers::to_int(args)),
+        OnNumbers::Range => function_numbers::range(alloc, args),
+    }
+}
+
+#[tactic(auto, unfolding(crate::specs::Values::of_truth))]
+fn of_truth(function: OnTruth, args: &[Value]) -> Option<Value>
+    ensures { option_map json result ≡ of_truth function (map json args.now) }
+{
+    match function {
+        OnTruth::Not => function_numbers::not(args),
+        OnTruth::AlwaysTrue => function_numbers::always_true(args),
+        OnTruth::AlwaysFalse => function_numbers::always_false(args),
+        OnTruth::AlwaysNull => function_numbers::always_null(args),
+        OnTruth::ToBool => function_numbers::to_bool(args),
+        OnTruth::Equals => function_numbers::equals(args),
+        OnTruth::Less => function_numbers::less(args),
+        OnTruth::LessOrEquals => function_numbers::less_or_equals(args),
+        OnTruth::Greater => function_numbers::greater(args),
+        OnTruth::GreaterOrEquals => function_numbers::greater_or_equals(args),
+    }
+}
+
+#[tactic(auto, unfolding(crate::specs::Values::of_texts))]
+fn of_texts(alloc: Global, function: OnTexts, args: &[Value]) -> Result<Option<Value>, OutOfMemory>
+    ensures { IfOk result (λ value. option_map json value ≡ of_texts function (map json args.now)) }
+{
+    match function {
+        OnTexts::ToLower => function_texts::to_lower(alloc, args),
+        OnTexts::ToUpper => function_texts::to_upper(alloc, args),
+        OnTexts::Trim => function_texts::trim(alloc, args),
+        OnTexts::Substring => function_texts::substring(alloc, args),
+        OnTexts::Replace => function_texts::replace(alloc, args),
+        OnTexts::Split => function_texts::split(alloc, args),
+        OnTexts::StartsWith => function_texts::starts_with(alloc, args),
+        OnTexts::EndsWith => function_texts::ends_with(alloc, args),
+        OnTexts::IndexOf => function_texts::index_of(alloc, args),
+        OnTexts::LastIndexOf => function_texts::last_index_of(alloc, args),
+        OnTexts::Contains => function_texts::contains(alloc, args),
+    }
+}
+
+#[tactic(auto, unfolding(crate::specs::Values::of_lists))]
+fn of_lists(alloc: Global, function: OnLists, args: &[Value]) -> Result<Option<Value>, OutOfMemory>
+    ensures { IfOk result (λ value. option_map json value ≡ of_lists function (map json args.now)) }
+{
+    match function {
+        OnLists::Size => Ok(function_lists::size(args)),
+        OnLists::Empty => Ok(function_lists::empty(args)),
+        OnLists::ToArray => function_lists::to_array(alloc, args),
+        OnLists::CreateArray => function_lists::create_array(alloc, args),
+        OnLists::First => function_lists::first(alloc, args),
+        OnLists::Last => function_lists::last(alloc, args),
+        OnLists::Skip => function_lists::skip(alloc, args),
+        OnLists::Take => function_lists::take(alloc, args),
+        OnLists::Union => function_lists::union(alloc, args),
+        OnLists::Intersection => function_lists::intersection(alloc, args),
+        OnLists::Flatten => function_lists::flatten(alloc, args),
+        OnLists::CreateObject => function_lists::create_object(alloc, args),
+        OnLists::ObjectItems => function_lists::object_items(alloc, args),
+        OnLists::ObjectKeys => function_lists::object_keys(alloc, args),
+        OnLists::TryGet => function_lists::try_get(alloc, args),
+    }
+}
+
+#[tactic(auto, unfolding(crate::specs::Values::of_prints))]
+fn of_prints(alloc: Global, function: Printing, args: &[Value]) -> Result<Option<Value>, OutOfMemory>
+    ensures { IfOk result (λ value. option_map json value ≡ of_prints function (map json args.now)) }
+{
+    match function {
+        Printing::Concat => function_prints::concat(alloc, args),
+        Printing::Join => function_prints::join(alloc, args),
+        Printing::PadLeft => function_prints::pad_left(alloc, args),
+        Printing::ToText => function_prints::to_text(alloc, args),
+    }
+}
+
+#[tactic(auto, unfolding(crate::specs::Values::value_of))]
+fn value_of(alloc: Global, function: Plain, args: &[Value]) -> Result<Option<Value>, OutOfMemory>
+    ensures { IfOk result (λ value. option_map json value ≡ value_of function (map json args.now)) }
+{
+    match function {
+        Plain::Numbers(function) => of_numbers(alloc, function, args),
+        Plain::Logic(function) => Ok(of_truth(function, args)),
+        Plain::Texts(function) => of_texts(alloc, function, args),
+        Plain::Lists(function) => of_lists(alloc, function, args),
+        Plain::Prints(function) => of_prints(alloc, function, args),
+    }
+}
+
+// Whether so many arguments are neither too few nor too many.
+fn admits(least: u32, most: Option<u32>, count: usize) -> bool
+    ensures { result ≡ admits least most count }
+{
+    let is_enough = least as usize <= count;
+    match most {
+        Some(most) => is_enough && count <= most as usize,
+        None => is_enough,
+    }
+}
+
+/// The value that the function of this name gives of these arguments, whatever the case of the
+/// name's ASCII letters; none where the function has no value of them.
+///
+/// # Errors
+///
+/// `UnknownFunction` exactly where no function has the name, or one whose value does not follow
+/// from its arguments alone; else `WrongCount` exactly where they are too few or too many.
+pub fn call(alloc: Global, name: &str, args: &[Value]) -> Result<Option<Value>, FunctionFault>
+    ensures ok { IfOk result (λ value. refusal (chars name.now) (length args.now) ≡ None) }
+    ensures value { IfOk result (λ value. option_map json value
+        ≡ function_value (chars name.now) (map json args.now)) }
+    ensures fault { IfErr result (IsRefused (chars name.now) (length args.now)) }
+{
+    let Some((least, most, Some(function))) = row_of(name) else {
+        return Err(FunctionFault::UnknownFunction);
+    };
+    if admits(least, most, args.len()) {
+        Ok(value_of(alloc, function, args)?)
+    } else {
+        Err(FunctionFault::WrongCount)
+    }
+}

@@ -1,3 +1,4 @@
 pub mod Table
 pub mod Values
 pub mod Calls
+pub mod Laws

@@ -7,6 +7,7 @@
 
 pub mod counts;
 mod fault;
+pub mod laws;
 mod names;
 mod plain;
 mod values;

@@ -11,7 +11,11 @@ use arm_value::{OutOfMemory, Value};
 use std::alloc::Global;
 
 #[tactic(auto, unfolding(crate::specs::Values::of_numbers))]
-fn of_numbers(alloc: Global, function: OnNumbers, args: &[Value]) -> Result<Option<Value>, OutOfMemory>
+fn of_numbers(
+    alloc: Global,
+    function: OnNumbers,
+    args: &[Value],
+) -> Result<Option<Value>, OutOfMemory>
     ensures { IfOk result (λ value. option_map json value ≡ of_numbers function (map json args.now)) }
 {
     match function {
@@ -88,7 +92,11 @@ fn of_lists(alloc: Global, function: OnLists, args: &[Value]) -> Result<Option<V
 }
 
 #[tactic(auto, unfolding(crate::specs::Values::of_prints))]
-fn of_prints(alloc: Global, function: Printing, args: &[Value]) -> Result<Option<Value>, OutOfMemory>
+fn of_prints(
+    alloc: Global,
+    function: Printing,
+    args: &[Value],
+) -> Result<Option<Value>, OutOfMemory>
     ensures { IfOk result (λ value. option_map json value ≡ of_prints function (map json args.now)) }
 {
     match function {

@@ -2,7 +2,7 @@
 use Rattle.std.proofs.Common.{◌≡◌, ◌<◌, ◌≤◌, ◌+◌, ◌-◌, ◌*◌, ◌/◌, ◌%◌, ◌^◌, ◌∙◌, ℕ, zero, suc, List, [], ◌∷◌, ◌++◌, length, map, drop, refl, sym, ap, arith, append-nil, append_assoc}
 use Rattle.std.specs.Prelude.{slice_index}
 use Rattle.std.specs.List.{flat_map}
-use Rattle.std.proofs.lemmas.List.{get_or-drop, drop_all}
+use Rattle.std.proofs.lemmas.List.{get_or-drop, drop_all, length-drop}
 use Rattle.std.proofs.Math.Seq.{drop-drop}
 use Rattle.std.proofs.Math.Nat.{zero-div}
 use Rattle.function_identities.specs.Base32.{byte_bits, bits_of, group_of, groups_of, symbol_of, base32}
@@ -64,8 +64,9 @@ group_in bits place = group_of (slice_index bits place) (slice_index bits (place
 
 next_group : (bits : List ℕ) (place : ℕ) → place < length bits → groups_of (drop place bits) ≡ group_in bits place ∷ groups_of (drop (place + 5) bits)
 next_group bits place h =
-    let some : 0 < length (drop place bits) = ? in
-    let first : slice_index (drop place bits) 0 ≡ slice_index bits place = ? in
+    let some : 0 < length (drop place bits) = omega (arith, length-drop place bits) in
+    let here : place + 0 ≡ place = omega arith in
+    let first : slice_index (drop place bits) 0 ≡ slice_index bits place = get_or-drop place bits 0 0 ∙ ap (λ (i : ℕ). slice_index bits i) here in
     groups-cons (drop place bits) some ∙ rw (first, get_or-drop place bits 1 0, get_or-drop place bits 2 0, get_or-drop place bits 3 0, get_or-drop place bits 4 0, drop-drop 5 place bits) refl
 
 pub symbols_more : (front more bits all : List ℕ) (place symbol : ℕ) → place < length bits → symbol ≡ symbol_of (group_in bits place) → more ≡ front ++ symbol ∷ []

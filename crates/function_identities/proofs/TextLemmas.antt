@@ -25,8 +25,8 @@ is_text bytes u = rw (is_utf8-from_IsUtf8 bytes u) refl
 
 pub no_text : (bytes : List ℕ) → (IsUtf8 bytes → false ≡ true) → ◌≡◌ {A = Option (List ℕ)} None (text_of_bytes bytes)
 no_text bytes refused = elim (cases_Bool (is_utf8 bytes)) [
-  | inl yes ↦ absurd (let bad = refused (IsUtf8-from_is_utf8 bytes yes) in cc)
-  | inr no ↦ rw no refl
+  | inl t ↦ absurd (true≢false (sym (refused (IsUtf8-from_is_utf8 bytes t))))
+  | inr f ↦ rw f refl
 ]
 
 pub decodes : (s bytes : List ℕ) → decode_of standard s ≡ Ok bytes → decoded_of standard s ≡ Some bytes

@@ -26,7 +26,7 @@ abbrev pub unique_string : List Json → Option Json
 unique_string args = option_map (λ seed. text (base32 (take 8 (sha256 seed)))) (seed_of args)
 
 -- the UUID of version 5 of a name in a name space (RFC 9562, section 5.5)
-abbrev pub version_5 : List ℕ → List ℕ → List ℕ
+unfoldable pub version_5 : List ℕ → List ℕ → List ℕ
 version_5 space name = with_version (with_variant (take 16 (sha1 (space ++ name))) RFC4122) Sha1
 
 -- `guid`: the UUID of version 5 of the texts in the name space of domain names, hyphenated in small letters

@@ -1,5 +1,5 @@
 // Texts in base64, and back.
-ghost use Rattle.std.specs.Prelude.{◌≡◌, map, option_map, IfOk, encode_utf8_all};
+ghost use Rattle.std.specs.Prelude.{◌≡◌, ◌∷◌, [], map, option_map, IfOk};
 ghost use Rattle.arm_value.specs.Json.{text};
 ghost use Rattle.arm_value.specs.View.{json};
 ghost use Rattle.function_numbers.specs.Kinds.{text_of};
@@ -59,10 +59,10 @@ fn decoded(alloc: Global, text: &Text) -> Result<Option<Text>, OutOfMemory>
     }
 }
 
-fn text_decoded(alloc: Global, text: &Text) -> Result<Option<Value>, OutOfMemory>
-    ensures { IfOk result (λ v. option_map json v ≡ option_map text (decoded text.now)) }
+fn text_decoded(alloc: Global, encoded: &Text) -> Result<Option<Value>, OutOfMemory>
+    ensures { IfOk result (λ v. option_map json v ≡ option_map text (decoded encoded.now)) }
 {
-    match decoded(alloc, text)? {
+    match decoded(alloc, encoded)? {
         Some(text) => Ok(Some(Value::Text(text))),
         None => Ok(None),
     }

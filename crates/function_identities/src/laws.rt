@@ -1,5 +1,6 @@
 //! What holds of the functions beyond each one's own definition. The functions here have no body.
-ghost use Rattle.std.specs.Prelude.{◌≡◌, ◌∷◌, [], Some, List, ℕ, true, all_scalars};
+ghost use Rattle.std.specs.Prelude.{◌≡◌, ◌∷◌, [], Some, List, ℕ, true};
+ghost use Rattle.std.specs.Str.{all_scalars};
 ghost use Rattle.arm_value.specs.Json.{text};
 ghost use Rattle.function_identities.specs.Encodings.{to_base64, base64_to_string};
 

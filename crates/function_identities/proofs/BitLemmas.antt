@@ -2,7 +2,7 @@
 use Rattle.std.proofs.Common.{◌≡◌, ◌<◌, ◌≤◌, ◌+◌, ◌-◌, ◌*◌, ◌/◌, ◌%◌, ◌^◌, ◌∙◌, ℕ, zero, suc, List, [], ◌∷◌, ◌++◌, length, map, drop, refl, sym, ap, arith, append-nil, append_assoc}
 use Rattle.std.specs.Prelude.{slice_index}
 use Rattle.std.specs.List.{flat_map}
-use Rattle.std.proofs.lemmas.List.{get_or-drop, drop_all, length-drop}
+use Rattle.std.proofs.lemmas.List.{get_or-drop, drop_all, length-drop, length-map}
 use Rattle.std.proofs.Math.Seq.{drop-drop}
 use Rattle.std.proofs.Math.Nat.{zero-div}
 use Rattle.function_identities.specs.Base32.{byte_bits, bits_of, group_of, groups_of, symbol_of, base32}
@@ -79,3 +79,17 @@ symbols_more front more bits all place symbol h s m before =
 pub symbols_end : (front bits all : List ℕ) (place : ℕ) → length bits ≤ place → front ++ map symbol_of (groups_of (drop place bits)) ≡ all → front ≡ all
 symbols_end front bits all place h before =
     sym (append-nil front) ∙ ap (λ (r : List ℕ). front ++ r) (sym (ap (map symbol_of) (ap groups_of (drop_all place bits h) ∙ groups-nil))) ∙ before
+
+-- ---- how many symbols
+
+length-groups : (bits : List ℕ) → length (groups_of bits) ≡ (length bits + 4) / 5
+unfolding groups_of
+length-groups [] = refl
+length-groups (a ∷ []) = refl
+length-groups (a ∷ b ∷ []) = refl
+length-groups (a ∷ b ∷ c ∷ []) = refl
+length-groups (a ∷ b ∷ c ∷ d ∷ []) = refl
+length-groups (a ∷ b ∷ c ∷ d ∷ e ∷ rest) = let before = length-groups rest in omega (arith, before)
+
+pub length-base32 : (bytes : List ℕ) → length (base32 bytes) ≡ (length bytes * 8 + 4) / 5
+length-base32 bytes = length-map (groups_of (bits_of bytes)) symbol_of ∙ length-groups (bits_of bytes) ∙ ap (λ (n : ℕ). (n + 4) / 5) (length-bits bytes)

@@ -77,16 +77,14 @@ decoded_encoded t h =
     ap (decoded_of standard) (encoded_bytes t) ∙ decodes (encoded t) bytes (decode_of-encode_of standard bytes refl (text_bytes t h)) in
     ap (option_and_then text_of_bytes) read ∙ is_text bytes (t, (h, refl)) ∙ ap Some (chars-encodes t h)
 
-pub back : (t s : List ℕ) → all_scalars t ≡ true → to_base64 (text t ∷ []) ≡ Some (text s) → base64_to_string (text s ∷ []) ≡ Some (text t)
-back t s h e =
-    let same : encoded t ≡ s = cc e in
-    ap (option_map text) (ap decoded (sym same) ∙ decoded_encoded t h)
+pub back : (t : List ℕ) → all_scalars t ≡ true → option_and_then (λ s. base64_to_string (s ∷ [])) (to_base64 (text t ∷ [])) ≡ Some (text t)
+back t h = ap (option_map text) (decoded_encoded t h)
 
 -- ---- and the other way
 
-texts_same : (o : Option (List ℕ)) (t : List ℕ) → option_map text o ≡ Some (text t) → o ≡ Some t
-texts_same None t e = absurd (cc e)
-texts_same (Some s) t e = cc e
+text_given : (o : Option (List ℕ)) (j : Json) → option_map text o ≡ Some j → (t : List ℕ) × (o ≡ Some t) × (j ≡ text t)
+text_given None j e = absurd (cc e)
+text_given (Some t) j e = (t, refl, cc e)
 
 bytes_read : (o : Option (List ℕ)) (t : List ℕ) → option_and_then text_of_bytes o ≡ Some t → (bytes : List ℕ) × (o ≡ Some bytes) × (text_of_bytes bytes ≡ Some t)
 bytes_read None t e = absurd (cc e)
@@ -104,14 +102,18 @@ decoded_ok : (s bytes : List ℕ) → decoded_of standard s ≡ Some bytes → d
 unfolding decoded_of
 decoded_ok s bytes e = is_ok (decode_of standard s) bytes e
 
-encoded_decoded : (s t : List ℕ) → all_scalars s ≡ true → decoded s ≡ Some t → encoded t ≡ s
+encoded_decoded : (s t : List ℕ) → all_scalars s ≡ true → decoded s ≡ Some t → (all_scalars t ≡ true) × (encoded t ≡ s)
 encoded_decoded s t h e =
     let found = bytes_read (decoded_of standard (encode_utf8_all s)) t e in
     let bytes = found.0 in
     let read = text_by (is_utf8 bytes) (chars bytes) t found.2 in
     let spelled : bytes ≡ encode_utf8_all t = sym (encodes-chars bytes (IsUtf8-from_is_utf8 bytes read.0)) ∙ ap encode_utf8_all read.1 in
     let strict : encode_utf8_all s ≡ encode_of standard bytes = decode_of_strict standard (encode_utf8_all s) bytes (refl, refl) (text_bytes s h) (decoded_ok (encode_utf8_all s) bytes found.1) in
-    sym (sym (chars-encodes s h) ∙ ap chars (strict ∙ ap (encode_of standard) spelled) ∙ encoded_characters (encode_utf8_all t))
+    let scalars_read : all_scalars t ≡ true = subst (λ cs. all_scalars cs ≡ true) read.1 (scalars-chars bytes (IsUtf8-from_is_utf8 bytes read.0)) in
+    (scalars_read, sym (sym (chars-encodes s h) ∙ ap chars (strict ∙ ap (encode_of standard) spelled) ∙ encoded_characters (encode_utf8_all t)))
 
-pub alone : (t s : List ℕ) → all_scalars s ≡ true → base64_to_string (text s ∷ []) ≡ Some (text t) → to_base64 (text t ∷ []) ≡ Some (text s)
-alone t s h e = ap (λ (r : List ℕ). Some (text r)) (encoded_decoded s t h (texts_same (decoded s) t e))
+pub alone : (s : List ℕ) (j : Json) → all_scalars s ≡ true → base64_to_string (text s ∷ []) ≡ Some j → (t : List ℕ) × (all_scalars t ≡ true) × (j ≡ text t) × (to_base64 (text t ∷ []) ≡ Some (text s))
+alone s j h e =
+    let given = text_given (decoded s) j e in
+    let found = encoded_decoded s given.0 h given.1 in
+    (given.0, found.0, given.2, ap (λ (r : List ℕ). Some (text r)) found.1)

@@ -4,7 +4,9 @@ use Rattle.std.specs.List.{flat_map}
 
 -- the eight bits of a byte, the most significant first
 abbrev pub byte_bits : ℕ → List ℕ
-byte_bits b = (b / 128 % 2) ∷ (b / 64 % 2) ∷ (b / 32 % 2) ∷ (b / 16 % 2) ∷ (b / 8 % 2) ∷ (b / 4 % 2) ∷ (b / 2 % 2) ∷ (b % 2) ∷ []
+byte_bits b =
+    (b / 128 % 2) ∷ (b / 64 % 2) ∷ (b / 32 % 2) ∷ (b / 16 % 2)
+    ∷ (b / 8 % 2) ∷ (b / 4 % 2) ∷ (b / 2 % 2) ∷ (b % 2) ∷ []
 
 -- the bits of bytes, one byte after another
 unfoldable pub bits_of : List ℕ → List ℕ

@@ -12,7 +12,8 @@ encoded s = encode_of standard (encode_utf8_all s)
 
 -- `base64`
 abbrev pub to_base64 : List Json → Option Json
-to_base64 args = of_one (λ j. option_map (λ s. text (encoded s)) (text_of j)) args
+to_base64 args =
+    of_one (λ j. option_map (λ s. text (encoded s)) (text_of j)) args
 
 -- the text whose bytes in UTF-8 these are
 abbrev pub text_of_bytes : List ℕ → Option (List ℕ)
@@ -24,4 +25,5 @@ decoded s = option_and_then text_of_bytes (decoded_of standard (encode_utf8_all 
 
 -- `base64ToString`
 abbrev pub base64_to_string : List Json → Option Json
-base64_to_string args = of_one (λ j. option_map text (option_and_then decoded (text_of j))) args
+base64_to_string args =
+    of_one (λ j. option_map text (option_and_then decoded (text_of j))) args

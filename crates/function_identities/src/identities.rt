@@ -27,11 +27,7 @@ fn add(seed: &mut Vec<u8>, text: &Text) -> Result<(), OutOfMemory>
 }
 
 // The bytes of the first text, and of the others behind a zero byte each.
-fn seed_from(
-    alloc: Global,
-    first: &Text,
-    others: &[Value],
-) -> Result<Option<Vec<u8>>, OutOfMemory>
+fn seed_from(alloc: Global, first: &Text, others: &[Value]) -> Result<Option<Vec<u8>>, OutOfMemory>
     ensures { IfOk result (λ seed. option_map (λ v. v.items) seed
         ≡ option_map (λ rest. encode_utf8_all first.now ++ rest) (behind_zeros (map json others.now))) }
 {
@@ -72,7 +68,7 @@ fn short_hash(alloc: Global, seed: &[u8]) -> Result<Text, OutOfMemory>
 
 /// `uniqueString`: 13 small letters and digits from 2 to 7, which follow from the texts: the base32
 /// (RFC 4648, without padding) of the first 8 bytes of the SHA-256 of the texts with a zero byte
-/// between each two.
+/// between each two. Azure does not say how it makes its own, which are others.
 pub fn unique_string(alloc: Global, args: &[Value]) -> Result<Option<Value>, OutOfMemory>
     ensures { IfOk result (λ value. option_map json value ≡ row.unique_string (map json args.now)) }
 {
@@ -91,7 +87,8 @@ fn named_uuid(alloc: Global, name: &[u8]) -> Result<Text, OutOfMemory>
 }
 
 /// `guid`: the UUID of version 5 (RFC 9562) of the texts with a zero byte between each two, in the
-/// name space of domain names (`6ba7b810-9dad-11d1-80b4-00c04fd430c8`), hyphenated in small letters.
+/// name space of domain names (`6ba7b810-9dad-11d1-80b4-00c04fd430c8`), with hyphens and in small
+/// letters. Azure does not say how it makes its own, which are others.
 pub fn guid(alloc: Global, args: &[Value]) -> Result<Option<Value>, OutOfMemory>
     ensures { IfOk result (λ value. option_map json value ≡ row.guid (map json args.now)) }
 {

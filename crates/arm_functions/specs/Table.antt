@@ -2,11 +2,12 @@
 use Rattle.std.specs.Prelude.{ℕ, codes, List, [], ◌∷◌, Option, Some, None, option_map, option_and_then, if◌then◌else◌}
 use Rattle.arm_value.specs.Look.{is_same_folded}
 use Rattle.arm_functions.specs.declared.plain.Plain.{Plain}
-use Rattle.arm_functions.specs.declared.plain.Plain.TheVariants.{Numbers, Logic, Texts, Lists, Prints}
+use Rattle.arm_functions.specs.declared.plain.Plain.TheVariants.{Numbers, Logic, Texts, Lists, Prints, Names}
 use Rattle.arm_functions.specs.declared.plain.OnNumbers.TheVariants.{Add, Sub, Mul, Div, Remainder, Min, Max, ToInt, Range}
 use Rattle.arm_functions.specs.declared.plain.OnTruth.TheVariants.{Not, AlwaysTrue, AlwaysFalse, AlwaysNull, ToBool, Equals, Less, LessOrEquals, Greater, GreaterOrEquals}
 use Rattle.arm_functions.specs.declared.plain.OnTexts.TheVariants.{ToLower, ToUpper, Trim, Substring, Replace, Split, StartsWith, EndsWith, IndexOf, LastIndexOf, Contains}
 use Rattle.arm_functions.specs.declared.plain.OnLists.TheVariants.{Size, Empty, ToArray, CreateArray, First, Last, Skip, Take, Union, Intersection, Flatten, CreateObject, ObjectItems, ObjectKeys, TryGet}
+use Rattle.arm_functions.specs.declared.plain.Naming.TheVariants.{ToBase64, FromBase64, UniqueString, Guid}
 use Rattle.arm_functions.specs.declared.plain.Printing.TheVariants.{Concat, Join, PadLeft, ToText}
 
 -- a name, the least and the most number of arguments (no most where there is none), and the function where its value follows from its arguments alone
@@ -43,8 +44,8 @@ table =
     (codes "contains", 2, Some 2, Some (Texts Contains)) ∷
     (codes "padLeft", 2, Some 3, Some (Prints PadLeft)) ∷
     (codes "string", 1, Some 1, Some (Prints ToText)) ∷
-    (codes "base64", 1, Some 1, None) ∷
-    (codes "base64ToString", 1, Some 1, None) ∷
+    (codes "base64", 1, Some 1, Some (Names ToBase64)) ∷
+    (codes "base64ToString", 1, Some 1, Some (Names FromBase64)) ∷
     (codes "array", 1, Some 1, Some (Lists ToArray)) ∷
     (codes "createArray", 0, None, Some (Lists CreateArray)) ∷
     (codes "first", 1, Some 1, Some (Lists First)) ∷
@@ -69,8 +70,8 @@ table =
     (codes "greater", 2, Some 2, Some (Logic Greater)) ∷
     (codes "greaterOrEquals", 2, Some 2, Some (Logic GreaterOrEquals)) ∷
     (codes "tryGet", 2, None, Some (Lists TryGet)) ∷
-    (codes "uniqueString", 1, None, None) ∷
-    (codes "guid", 1, None, None) ∷
+    (codes "uniqueString", 1, None, Some (Names UniqueString)) ∷
+    (codes "guid", 1, None, Some (Names Guid)) ∷
     (codes "if", 3, Some 3, None) ∷
     (codes "and", 2, None, None) ∷
     (codes "or", 2, None, None) ∷

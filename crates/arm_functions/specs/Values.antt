@@ -11,17 +11,21 @@ use Rattle.function_lists.specs.Ends as ends
 use Rattle.function_lists.specs.Items as items
 use Rattle.function_lists.specs.Members as members
 use Rattle.function_prints.specs.Printed as prints
+use Rattle.function_identities.specs.Encodings as encodings
+use Rattle.function_identities.specs.Identities as identities
 use Rattle.arm_functions.specs.declared.plain.Plain.{Plain}
 use Rattle.arm_functions.specs.declared.plain.OnNumbers.{OnNumbers}
 use Rattle.arm_functions.specs.declared.plain.OnTruth.{OnTruth}
 use Rattle.arm_functions.specs.declared.plain.OnTexts.{OnTexts}
 use Rattle.arm_functions.specs.declared.plain.OnLists.{OnLists}
 use Rattle.arm_functions.specs.declared.plain.Printing.{Printing}
-use Rattle.arm_functions.specs.declared.plain.Plain.TheVariants.{Numbers, Logic, Texts, Lists, Prints}
+use Rattle.arm_functions.specs.declared.plain.Naming.{Naming}
+use Rattle.arm_functions.specs.declared.plain.Plain.TheVariants.{Numbers, Logic, Texts, Lists, Prints, Names}
 use Rattle.arm_functions.specs.declared.plain.OnNumbers.TheVariants.{Add, Sub, Mul, Div, Remainder, Min, Max, ToInt, Range}
 use Rattle.arm_functions.specs.declared.plain.OnTruth.TheVariants.{Not, AlwaysTrue, AlwaysFalse, AlwaysNull, ToBool, Equals, Less, LessOrEquals, Greater, GreaterOrEquals}
 use Rattle.arm_functions.specs.declared.plain.OnTexts.TheVariants.{ToLower, ToUpper, Trim, Substring, Replace, Split, StartsWith, EndsWith, IndexOf, LastIndexOf, Contains}
 use Rattle.arm_functions.specs.declared.plain.OnLists.TheVariants.{Size, Empty, ToArray, CreateArray, First, Last, Skip, Take, Union, Intersection, Flatten, CreateObject, ObjectItems, ObjectKeys, TryGet}
+use Rattle.arm_functions.specs.declared.plain.Naming.TheVariants.{ToBase64, FromBase64, UniqueString, Guid}
 use Rattle.arm_functions.specs.declared.plain.Printing.TheVariants.{Concat, Join, PadLeft, ToText}
 use Rattle.arm_functions.specs.Table.{row_of}
 
@@ -89,6 +93,13 @@ of_prints Join args = prints.join args
 of_prints PadLeft args = prints.pad_left args
 of_prints ToText args = prints.to_text args
 
+-- the value of a function that makes another text of texts
+unfoldable pub of_names : Naming → List Json → Option Json
+of_names ToBase64 args = encodings.to_base64 args
+of_names FromBase64 args = encodings.base64_to_string args
+of_names UniqueString args = identities.unique_string args
+of_names Guid args = identities.guid args
+
 -- the value of a function
 unfoldable pub value_of : Plain → List Json → Option Json
 value_of (Numbers f) args = of_numbers f args
@@ -96,6 +107,7 @@ value_of (Logic f) args = of_truth f args
 value_of (Texts f) args = of_texts f args
 value_of (Lists f) args = of_lists f args
 value_of (Prints f) args = of_prints f args
+value_of (Names f) args = of_names f args
 
 -- whether so many arguments are neither too few nor too many
 abbrev pub admits : ℕ → Option ℕ → ℕ → Bool

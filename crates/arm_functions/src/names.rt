@@ -5,8 +5,8 @@ ghost use Rattle.arm_functions.specs.Table.{row_in, row_of, counts};
 
 use crate::counts::Arity;
 use crate::fault::FunctionFault;
-use crate::plain::Plain::{Lists, Logic, Numbers, Prints, Texts};
-use crate::plain::{OnLists, OnNumbers, OnTexts, OnTruth, Plain, Printing};
+use crate::plain::Plain::{Lists, Logic, Names, Numbers, Prints, Texts};
+use crate::plain::{Naming, OnLists, OnNumbers, OnTexts, OnTruth, Plain, Printing};
 use arm_value::folded_eq;
 
 // A name, the least and the most number of arguments, and the function where its value follows
@@ -41,8 +41,8 @@ const ROWS: [Row; 68] = [
     ("contains", 2, Some(2), Some(Texts(OnTexts::Contains))),
     ("padLeft", 2, Some(3), Some(Prints(Printing::PadLeft))),
     ("string", 1, Some(1), Some(Prints(Printing::ToText))),
-    ("base64", 1, Some(1), None),
-    ("base64ToString", 1, Some(1), None),
+    ("base64", 1, Some(1), Some(Names(Naming::ToBase64))),
+    ("base64ToString", 1, Some(1), Some(Names(Naming::FromBase64))),
     ("array", 1, Some(1), Some(Lists(OnLists::ToArray))),
     ("createArray", 0, None, Some(Lists(OnLists::CreateArray))),
     ("first", 1, Some(1), Some(Lists(OnLists::First))),
@@ -77,8 +77,8 @@ const ROWS: [Row; 68] = [
         Some(Logic(OnTruth::GreaterOrEquals)),
     ),
     ("tryGet", 2, None, Some(Lists(OnLists::TryGet))),
-    ("uniqueString", 1, None, None),
-    ("guid", 1, None, None),
+    ("uniqueString", 1, None, Some(Names(Naming::UniqueString))),
+    ("guid", 1, None, Some(Names(Naming::Guid))),
     ("if", 3, Some(3), None),
     ("and", 2, None, None),
     ("or", 2, None, None),

@@ -74,6 +74,15 @@ pub enum Printing {
     ToText,
 }
 
+/// A function that makes another text of texts, which stands for them.
+#[derive(Clone, Copy, Debug, PartialEq, Eq)]
+pub enum Naming {
+    ToBase64,
+    FromBase64,
+    UniqueString,
+    Guid,
+}
+
 /// A function whose value follows from its arguments alone.
 #[derive(Clone, Copy, Debug, PartialEq, Eq)]
 pub enum Plain {
@@ -82,4 +91,5 @@ pub enum Plain {
     Texts(OnTexts),
     Lists(OnLists),
     Prints(Printing),
+    Names(Naming),
 }

@@ -201,6 +201,22 @@ fn printed_forms_by_name(rt: HostRuntime) -> Result<(), Fail> {
 }
 
 #[test]
+fn texts_that_stand_for_texts_by_name(rt: HostRuntime) -> Result<(), Fail> {
+    let calls = [
+        ("base64", "[\"hello\"]", "\"aGVsbG8=\""),
+        ("base64", "[1]", "none"),
+        ("base64ToString", "[\"aGVsbG8=\"]", "\"hello\""),
+        ("base64ToString", "[\"aGVsbG8\"]", "none"),
+        ("uniqueString", "[\"abc\"]", "\"xj4bnp4pahh6u\""),
+        ("uniqueString", "[\"abc\",1]", "none"),
+        ("guid", "[\"python.org\"]", "\"886313e1-3b8a-5372-9b90-0c9aee199e5d\""),
+        ("guid", "[null]", "none"),
+    ];
+    assert_eq!(rt; first_wrong(rt.alloc(), &calls)?.as_str(), "");
+    Ok(())
+}
+
+#[test]
 fn what_is_not_called(rt: HostRuntime) -> Result<(), Fail> {
     let calls = [
         ("nope", "[]", "no function of this name"),

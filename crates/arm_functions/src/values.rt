@@ -2,11 +2,11 @@
 ghost use Rattle.std.specs.Prelude.{◌≡◌, Some, None, chars, map, length, option_map, IfOk, IfErr};
 ghost use Rattle.arm_value.specs.View.{json};
 ghost use Rattle.arm_functions.specs.Calls.{refusal, IsRefused};
-ghost use Rattle.arm_functions.specs.Values.{of_numbers, of_truth, of_texts, of_lists, of_prints, value_of, admits, function_value};
+ghost use Rattle.arm_functions.specs.Values.{of_numbers, of_truth, of_texts, of_lists, of_prints, of_names, value_of, admits, function_value};
 
 use crate::fault::FunctionFault;
 use crate::names::row_of;
-use crate::plain::{OnLists, OnNumbers, OnTexts, OnTruth, Plain, Printing};
+use crate::plain::{Naming, OnLists, OnNumbers, OnTexts, OnTruth, Plain, Printing};
 use arm_value::{OutOfMemory, Value};
 use std::alloc::Global;
 
@@ -107,6 +107,22 @@ fn of_prints(
     }
 }
 
+#[tactic(auto, unfolding(crate::specs::Values::of_names))]
+fn of_names(
+    alloc: Global,
+    function: Naming,
+    args: &[Value],
+) -> Result<Option<Value>, OutOfMemory>
+    ensures { IfOk result (λ value. option_map json value ≡ of_names function (map json args.now)) }
+{
+    match function {
+        Naming::ToBase64 => function_identities::to_base64(alloc, args),
+        Naming::FromBase64 => function_identities::base64_to_string(alloc, args),
+        Naming::UniqueString => function_identities::unique_string(alloc, args),
+        Naming::Guid => function_identities::guid(alloc, args),
+    }
+}
+
 #[tactic(auto, unfolding(crate::specs::Values::value_of))]
 fn value_of(alloc: Global, function: Plain, args: &[Value]) -> Result<Option<Value>, OutOfMemory>
     ensures { IfOk result (λ value. option_map json value ≡ value_of function (map json args.now)) }
@@ -117,6 +133,7 @@ fn value_of(alloc: Global, function: Plain, args: &[Value]) -> Result<Option<Val
         Plain::Texts(function) => of_texts(alloc, function, args),
         Plain::Lists(function) => of_lists(alloc, function, args),
         Plain::Prints(function) => of_prints(alloc, function, args),
+        Plain::Names(function) => of_names(alloc, function, args),
     }
 }
 

@@ -1,0 +1,4 @@
+pub mod TextLemmas
+pub mod BitLemmas
+pub mod SeedLemmas
+pub mod LawLemmas

@@ -1,0 +1,3 @@
+pub mod Encodings
+pub mod Base32
+pub mod Identities

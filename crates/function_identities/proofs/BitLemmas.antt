@@ -1,11 +1,10 @@
 -- Bits of bytes by their places, and groups of five of them.
 use Rattle.std.proofs.Common.{◌≡◌, ◌<◌, ◌≤◌, ◌+◌, ◌-◌, ◌*◌, ◌/◌, ◌%◌, ◌^◌, ◌∙◌, ℕ, zero, suc, List, [], ◌∷◌, ◌++◌, length, map, drop, refl, sym, ap, arith, append-nil, append_assoc}
 use Rattle.std.specs.Prelude.{slice_index}
-use Rattle.std.specs.List.{flat_map}
 use Rattle.std.proofs.lemmas.List.{get_or-drop, drop_all, length-drop, length-map}
 use Rattle.std.proofs.Math.Seq.{drop-drop}
 use Rattle.std.proofs.Math.Nat.{zero-div}
-use Rattle.function_identities.specs.Base32.{byte_bits, bits_of, group_of, groups_of, symbol_of, base32}
+use Rattle.function_identities.specs.Base32.{bits_of, group_of, groups_of, symbol_of, base32}
 
 pub length-bits : (bytes : List ℕ) → length (bits_of bytes) ≡ length bytes * 8
 unfolding bits_of

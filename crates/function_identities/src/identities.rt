@@ -29,7 +29,8 @@ fn add(seed: &mut Vec<u8>, text: &Text) -> Result<(), OutOfMemory>
 // The bytes of the first text, and of the others behind a zero byte each.
 fn seed_from(alloc: Global, first: &Text, others: &[Value]) -> Result<Option<Vec<u8>>, OutOfMemory>
     ensures { IfOk result (λ seed. option_map (λ v. v.items) seed
-        ≡ option_map (λ rest. encode_utf8_all first.now ++ rest) (behind_zeros (map json others.now))) }
+        ≡ option_map (λ rest. encode_utf8_all first.now ++ rest)
+        (behind_zeros (map json others.now))) }
 {
     let mut seed = Vec::new(alloc);
     add(&mut seed, first)?;

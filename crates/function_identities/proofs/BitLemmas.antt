@@ -1,11 +1,10 @@
 -- Bits of bytes by their places, and groups of five of them.
-use Rattle.std.proofs.Common.{◌≡◌, ◌<◌, ◌≤◌, ◌+◌, ◌-◌, ◌*◌, ◌/◌, ◌%◌, ◌^◌, ◌∙◌, ℕ, zero, suc, List, [], ◌∷◌, ◌++◌, length, map, drop, refl, sym, ap, arith, append-nil, append_assoc}
+use Rattle.std.proofs.Common.{◌≡◌, ◌<◌, ◌≤◌, ◌+◌, ◌-◌, ◌*◌, ◌/◌, ◌%◌, ◌^◌, ◌∙◌, ℕ, zero, suc, List, [], ◌∷◌, ◌++◌, length, map, drop, refl, sym, ap, subst, arith, append-nil, append_assoc}
 use Rattle.std.specs.Prelude.{slice_index}
-use Rattle.std.specs.List.{flat_map}
 use Rattle.std.proofs.lemmas.List.{get_or-drop, drop_all, length-drop, length-map}
 use Rattle.std.proofs.Math.Seq.{drop-drop}
 use Rattle.std.proofs.Math.Nat.{zero-div}
-use Rattle.function_identities.specs.Base32.{byte_bits, bits_of, group_of, groups_of, symbol_of, base32}
+use Rattle.function_identities.specs.Base32.{bits_of, group_of, groups_of, symbol_of, base32}
 
 pub length-bits : (bytes : List ℕ) → length (bits_of bytes) ≡ length bytes * 8
 unfolding bits_of
@@ -93,3 +92,30 @@ length-groups (a ∷ b ∷ c ∷ d ∷ e ∷ rest) = let before = length-groups 
 
 pub length-base32 : (bytes : List ℕ) → length (base32 bytes) ≡ (length bytes * 8 + 4) / 5
 length-base32 bytes = length-map (groups_of (bits_of bytes)) symbol_of ∙ length-groups (bits_of bytes) ∙ ap (λ (n : ℕ). (n + 4) / 5) (length-bits bytes)
+
+-- ---- which symbols
+
+small_bits : (bytes : List ℕ) (i : ℕ) → slice_index (bits_of bytes) i < 2
+small_bits bytes i = subst (λ (b : ℕ). b < 2) (bit bytes i) (omega arith)
+
+small_groups : (bits : List ℕ) → ((i : ℕ) → slice_index bits i < 2) → (k : ℕ) → slice_index (groups_of bits) k < 32
+unfolding groups_of
+small_groups [] h k = omega arith
+small_groups (a ∷ []) h zero = omega (arith, h 0)
+small_groups (a ∷ []) h (suc k) = omega arith
+small_groups (a ∷ b ∷ []) h zero = omega (arith, h 0, h 1)
+small_groups (a ∷ b ∷ []) h (suc k) = omega arith
+small_groups (a ∷ b ∷ c ∷ []) h zero = omega (arith, h 0, h 1, h 2)
+small_groups (a ∷ b ∷ c ∷ []) h (suc k) = omega arith
+small_groups (a ∷ b ∷ c ∷ d ∷ []) h zero = omega (arith, h 0, h 1, h 2, h 3)
+small_groups (a ∷ b ∷ c ∷ d ∷ []) h (suc k) = omega arith
+small_groups (a ∷ b ∷ c ∷ d ∷ e ∷ rest) h zero = omega (arith, h 0, h 1, h 2, h 3, h 4)
+small_groups (a ∷ b ∷ c ∷ d ∷ e ∷ rest) h (suc k) = small_groups rest (λ i. h (suc (suc (suc (suc (suc i)))))) k
+
+symbol_among : (groups : List ℕ) → ((k : ℕ) → slice_index groups k < 32) → (i : ℕ) → i < length (map symbol_of groups) → (k : ℕ) × (k < 32) × (slice_index (map symbol_of groups) i ≡ symbol_of k)
+symbol_among [] h i l = absurd (omega arith)
+symbol_among (g ∷ groups) h zero l = (g, h 0, refl)
+symbol_among (g ∷ groups) h (suc i) l = symbol_among groups (λ k. h (suc k)) i (omega arith)
+
+pub base32_symbol : (bytes : List ℕ) (i : ℕ) → i < length (base32 bytes) → (k : ℕ) × (k < 32) × (slice_index (base32 bytes) i ≡ symbol_of k)
+base32_symbol bytes i l = symbol_among (groups_of (bits_of bytes)) (small_groups (bits_of bytes) (small_bits bytes)) i l

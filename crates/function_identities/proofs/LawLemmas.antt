@@ -1,10 +1,10 @@
 -- Base64 back to texts.
-use Rattle.std.proofs.Common.{◌≡◌, ◌<◌, ◌+◌, ◌++◌, ◌∙◌, ℕ, zero, suc, List, [], ◌∷◌, Bool, true, false, cond, ◌/◌, ◌%◌, Option, Some, None, option_map, option_and_then, Result, Ok, Err, chars, encode_utf8_all, IsUtf8, refl, sym, ap, subst, inl, inr, arith, true≢false}
-use Rattle.std.specs.Prelude.{slice_index, ◌&&◌, if◌then◌else◌}
+use Rattle.std.proofs.Common.{◌≡◌, ◌<◌, ◌+◌, ◌++◌, ◌∙◌, ℕ, zero, suc, List, [], ◌∷◌, Bool, true, false, cond, ◌/◌, ◌%◌, Option, Some, None, option_map, option_and_then, Result, Ok, Err, chars, encode_utf8_all, refl, sym, ap, subst, inl, inr, arith, true≢false}
+use Rattle.std.specs.Prelude.{◌&&◌, if◌then◌else◌}
 use Rattle.std.specs.Str.{all_scalars, is_utf8}
 use Rattle.std.proofs.Math.Dec.{ltb}
 use Rattle.std.proofs.Math.Utf8.{scalar, scalars, encode, scalar_cases}
-use Rattle.std.proofs.lemmas.Bool.{cases_Bool, ltb-true, and_left, and_right}
+use Rattle.std.proofs.lemmas.Bool.{ltb-true}
 use Rattle.std.proofs.lemmas.Str.{chars-encodes, encodes-chars, encodes-IsAscii, IsUtf8-from_is_utf8, scalars-chars}
 use Rattle.std.specs.Result.{result_ok}
 use Rattle.base64.specs.declared.decode.DecodeError.{DecodeError}

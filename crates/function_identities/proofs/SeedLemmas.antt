@@ -1,5 +1,6 @@
 -- The bytes of texts behind zero bytes, text by text.
-use Rattle.std.proofs.Common.{◌≡◌, ◌<◌, ◌≤◌, ◌+◌, ◌*◌, ◌/◌, ◌∙◌, ℕ, List, [], ◌∷◌, ◌++◌, length, get_or, take, drop, map, Option, Some, None, option_map, option_and_then, encode_utf8_all, refl, ap, sym, append_assoc, append-nil, arith}
+use Rattle.std.proofs.Common.{◌≡◌, ◌<◌, ◌≤◌, ◌+◌, ◌*◌, ◌/◌, ◌∙◌, ℕ, List, [], ◌∷◌, ◌++◌, length, get_or, take, drop, map, Option, Some, None, option_map, option_and_then, encode_utf8_all, refl, ap, sym, subst, append_assoc, append-nil, arith}
+use Rattle.std.specs.Prelude.{slice_index}
 use Rattle.std.proofs.lemmas.List.{length-take-le}
 use Rattle.sha2.specs.Sha256.{sha256}
 use Rattle.sha2.proofs.Facts256.{length-sha256}
@@ -8,9 +9,9 @@ use Rattle.arm_value.specs.View.{json}
 use Rattle.arm_value.specs.declared.value.Value.{Value}
 use Rattle.function_numbers.specs.Kinds.{text_of}
 use Rattle.function_numbers.proofs.RowLemmas.{next_in, none_left}
-use Rattle.function_identities.specs.Base32.{base32}
+use Rattle.function_identities.specs.Base32.{base32, symbol_of}
 use Rattle.function_identities.specs.Identities.{behind_zeros, seed_of, unique_string}
-use Rattle.function_identities.proofs.BitLemmas.{length-base32}
+use Rattle.function_identities.proofs.BitLemmas.{length-base32, base32_symbol}
 
 zeros-cons : (j : Json) (js : List Json) → behind_zeros (j ∷ js) ≡ option_and_then (λ s. option_map (λ rest. 0 ∷ encode_utf8_all s ++ rest) (behind_zeros js)) (text_of j)
 unfolding behind_zeros
@@ -44,14 +45,22 @@ seed_fails front vs i v all h e t before =
 pub seed_ends : (front : List ℕ) (vs : List Value) (i : ℕ) (all : Option (List ℕ)) → length vs ≤ i → option_map (λ rest. front ++ rest) (behind_zeros (map json (drop i vs))) ≡ all → ◌≡◌ {A = Option (List ℕ)} (Some front) all
 seed_ends front vs i all h before = ap Some (sym (append-nil front)) ∙ sym (ap (option_map (λ rest. front ++ rest)) (ap behind_zeros (none_left vs i h) ∙ zeros-nil)) ∙ before
 
--- ---- how long a unique string is
+-- ---- how long a unique string is, and of which symbols
 
-length_given : (o : Option (List ℕ)) (s : List ℕ) → option_map (λ seed. text (base32 (take 8 (sha256 seed)))) o ≡ Some (text s) → length s ≡ 13
-length_given None s e = absurd (cc e)
-length_given (Some seed) s e =
-    let same : base32 (take 8 (sha256 seed)) ≡ s = cc e in
+hash_length : (seed : List ℕ) → length (base32 (take 8 (sha256 seed))) ≡ 13
+hash_length seed =
     let eight : length (take 8 (sha256 seed)) ≡ 8 = length-take-le 8 (sha256 seed) (omega (arith, length-sha256 seed)) in
-    ap length (sym same) ∙ length-base32 (take 8 (sha256 seed)) ∙ ap (λ (n : ℕ). (n * 8 + 4) / 5) eight
+    length-base32 (take 8 (sha256 seed)) ∙ ap (λ (n : ℕ). (n * 8 + 4) / 5) eight
+
+hash_given : (o : Option (List ℕ)) (s : List ℕ) → option_map (λ seed. text (base32 (take 8 (sha256 seed)))) o ≡ Some (text s) → (seed : List ℕ) × (base32 (take 8 (sha256 seed)) ≡ s)
+hash_given None s e = absurd (cc e)
+hash_given (Some seed) s e = (seed, cc e)
 
 pub unique_length : (args : List Json) (s : List ℕ) → unique_string args ≡ Some (text s) → length s ≡ 13
-unique_length args s e = length_given (seed_of args) s e
+unique_length args s e = let hash = hash_given (seed_of args) s e in ap length (sym hash.1) ∙ hash_length hash.0
+
+pub unique_symbol : (args : List Json) (s : List ℕ) → unique_string args ≡ Some (text s) → (i : ℕ) → i < 13 → (k : ℕ) × (k < 32) × (slice_index s i ≡ symbol_of k)
+unique_symbol args s e i l =
+    let hash = hash_given (seed_of args) s e in
+    let within : i < length (base32 (take 8 (sha256 hash.0))) = omega (arith, hash_length hash.0, l) in
+    subst (λ (t : List ℕ). (k : ℕ) × (k < 32) × (slice_index t i ≡ symbol_of k)) hash.1 (base32_symbol (take 8 (sha256 hash.0)) i within)

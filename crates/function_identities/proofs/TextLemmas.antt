@@ -1,6 +1,5 @@
 -- Texts of bytes, and texts of ASCII characters.
-use Rattle.std.proofs.Common.{◌≡◌, ◌∙◌, ℕ, List, Bool, true, false, Option, Some, None, Result, Ok, Err, chars, IsUtf8, refl, sym, ap, inl, inr, true≢false}
-use Rattle.std.specs.Prelude.{if◌then◌else◌}
+use Rattle.std.proofs.Common.{◌≡◌, ℕ, List, true, false, Option, Some, None, Ok, Err, chars, IsUtf8, refl, sym, ap, inl, inr, true≢false}
 use Rattle.std.specs.Result.{result_ok}
 use Rattle.std.specs.Str.{is_utf8}
 use Rattle.std.proofs.lemmas.Bool.{cases_Bool}
@@ -11,7 +10,7 @@ use Rattle.base64.specs.declared.decode.DecodeError.{DecodeError}
 use Rattle.base64.proofs.EngineFacts.{IsAscii-encode_of}
 use Rattle.uuid.specs.Text.{hyphenated_text, lower}
 use Rattle.uuid.proofs.TextLemmas.{hyphenated_ascii}
-use Rattle.function_identities.specs.Encodings.{encoded, text_of_bytes}
+use Rattle.function_identities.specs.Encodings.{text_of_bytes}
 
 -- base64 and UUIDs are spelled in ASCII
 pub encoded_characters : (bytes : List ℕ) → chars (encode_of standard bytes) ≡ encode_of standard bytes

@@ -30,7 +30,8 @@ fn group_at(bytes: &[u8], place: usize) -> u8
     requires { place + 4 < 2 ^ 64 }
     ensures value { result ≡ group_of (slice_index (bits_of bytes.now) place)
         (slice_index (bits_of bytes.now) (place + 1)) (slice_index (bits_of bytes.now) (place + 2))
-        (slice_index (bits_of bytes.now) (place + 3)) (slice_index (bits_of bytes.now) (place + 4)) }
+        (slice_index (bits_of bytes.now) (place + 3))
+        (slice_index (bits_of bytes.now) (place + 4)) }
     ensures group { result < 32 }
 {
     bit_at(bytes, place) * 16

@@ -29,7 +29,7 @@ fn value_encoded(alloc: Global, value: &Value) -> Result<Option<Value>, OutOfMem
     }
 }
 
-/// `base64`: the base64 (RFC 4648, the standard alphabet with padding) of the text's bytes in UTF-8.
+/// `base64`: the base64 (RFC 4648, section 4, with padding) of the text's bytes in UTF-8.
 pub fn to_base64(alloc: Global, args: &[Value]) -> Result<Option<Value>, OutOfMemory>
     ensures { IfOk result (λ value. option_map json value ≡ row.to_base64 (map json args.now)) }
 {
@@ -77,8 +77,8 @@ fn value_decoded(alloc: Global, value: &Value) -> Result<Option<Value>, OutOfMem
     }
 }
 
-/// `base64ToString`: the text whose base64 the text is, as `to_base64` gives it; none where the text
-/// is no base64, lacks its padding, or is the base64 of bytes that are not UTF-8.
+/// `base64ToString`: the text whose base64 the text is, as `to_base64` gives it; none where the
+/// text is no base64, lacks its padding, or is the base64 of bytes that are not UTF-8.
 pub fn base64_to_string(alloc: Global, args: &[Value]) -> Result<Option<Value>, OutOfMemory>
     ensures { IfOk result (λ value. option_map json value
         ≡ row.base64_to_string (map json args.now)) }

@@ -29,7 +29,8 @@ fn add(seed: &mut Vec<u8>, text: &Text) -> Result<(), OutOfMemory>
 // The bytes of the first text, and of the others behind a zero byte each.
 fn seed_from(alloc: Global, first: &Text, others: &[Value]) -> Result<Option<Vec<u8>>, OutOfMemory>
     ensures { IfOk result (λ seed. option_map (λ v. v.items) seed
-        ≡ option_map (λ rest. encode_utf8_all first.now ++ rest) (behind_zeros (map json others.now))) }
+        ≡ option_map (λ rest. encode_utf8_all first.now ++ rest)
+        (behind_zeros (map json others.now))) }
 {
     let mut seed = Vec::new(alloc);
     add(&mut seed, first)?;
@@ -68,7 +69,8 @@ fn short_hash(alloc: Global, seed: &[u8]) -> Result<Text, OutOfMemory>
 
 /// `uniqueString`: 13 small letters and digits from 2 to 7, which follow from the texts: the base32
 /// (RFC 4648, without padding) of the first 8 bytes of the SHA-256 of the texts with a zero byte
-/// between each two. Azure does not say how it makes its own, which are others.
+/// between each two. Azure does not publish how it makes its own, and
+/// these are not expected to be the same.
 pub fn unique_string(alloc: Global, args: &[Value]) -> Result<Option<Value>, OutOfMemory>
     ensures { IfOk result (λ value. option_map json value ≡ row.unique_string (map json args.now)) }
 {
@@ -88,7 +90,7 @@ fn named_uuid(alloc: Global, name: &[u8]) -> Result<Text, OutOfMemory>
 
 /// `guid`: the UUID of version 5 (RFC 9562) of the texts with a zero byte between each two, in the
 /// name space of domain names (`6ba7b810-9dad-11d1-80b4-00c04fd430c8`), with hyphens and in small
-/// letters. Azure does not say how it makes its own, which are others.
+/// letters. Azure does not publish how it makes its own, and these are not expected to be the same.
 pub fn guid(alloc: Global, args: &[Value]) -> Result<Option<Value>, OutOfMemory>
     ensures { IfOk result (λ value. option_map json value ≡ row.guid (map json args.now)) }
 {

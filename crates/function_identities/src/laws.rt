@@ -1,8 +1,8 @@
 //! What holds of the functions beyond each one's own definition. The functions here have no body.
-ghost use Rattle.std.specs.Prelude.{◌≡◌, ◌∷◌, [], Some, List, ℕ, true, codes, length, map, option_and_then};
+ghost use Rattle.std.specs.Prelude.{◌≡◌, ◌<◌, ◌∷◌, [], Some, List, ℕ, true, codes, length, map, option_and_then, slice_index};
 ghost use Rattle.std.specs.Str.{all_scalars};
 ghost use Rattle.arm_value.specs.Json.{Json, text};
-ghost use Rattle.function_identities.specs.Base32.{base32};
+ghost use Rattle.function_identities.specs.Base32.{base32, symbol_of};
 ghost use Rattle.function_identities.specs.Encodings.{to_base64, base64_to_string};
 ghost use Rattle.function_identities.specs.Identities.{unique_string};
 
@@ -19,10 +19,12 @@ pub fn decoding_undoes_encoding()
         × (to_base64 (text t ∷ []) ≡ Some (text s)) }
 {}
 
-/// What `uniqueString` gives has 13 characters.
-pub fn unique_strings_have_13_characters()
-    ensures { (args : List Json) (s : List ℕ) → unique_string args ≡ Some (text s)
+/// What `uniqueString` gives is 13 of the symbols of base32.
+pub fn unique_strings_have_13_symbols()
+    ensures length { (args : List Json) (s : List ℕ) → unique_string args ≡ Some (text s)
         → length s ≡ 13 }
+    ensures symbols { (args : List Json) (s : List ℕ) → unique_string args ≡ Some (text s)
+        → (i : ℕ) → i < 13 → (k : ℕ) × (k < 32) × (slice_index s i ≡ symbol_of k) }
 {}
 
 /// The examples of RFC 4648, section 10, in small letters and without padding.

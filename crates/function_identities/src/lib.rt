@@ -2,8 +2,9 @@
 //!
 //! Each function takes the list of its arguments and gives its value; none where an argument is no
 //! text or their number is another. A text counts by its bytes in UTF-8. Base64 is that of RFC 4648
-//! with the standard alphabet and its padding (`specs/Encodings.antt`). Names come from texts joined
-//! with a zero byte between each two (`specs/Identities.antt`).
+//! with the standard alphabet and its padding (`specs/Encodings.antt`). Names come from texts with
+//! a zero byte between each two (`specs/Identities.antt`), in base32 (`specs/Base32.antt`) or as
+//! UUIDs.
 #![tactic(auto)]
 
 mod base32;

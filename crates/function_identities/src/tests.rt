@@ -1,3 +1,5 @@
+ghost use Rattle.std.specs.Prelude.{◌<◌, length};
+
 use crate::base32::base32;
 use crate::{base64_to_string, guid, to_base64, unique_string};
 use arm_value::{OutOfMemory, Value};
@@ -109,7 +111,9 @@ fn what_is_no_encoding_of_a_text_has_no_value(rt: HostRuntime) -> Result<(), Fai
 }
 
 // The bytes in base32.
-fn base32_text(alloc: Global, bytes: &str) -> Result<String, Fail> {
+fn base32_text(alloc: Global, bytes: &str) -> Result<String, Fail>
+    requires { length bytes.now < 100 }
+{
     let symbols = base32(alloc, bytes.as_bytes())?;
     Ok(text_of_characters(alloc, symbols.as_slice())?.into_string())
 }

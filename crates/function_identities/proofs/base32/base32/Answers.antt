@@ -1,4 +1,4 @@
-use Rattle.std.proofs.Common.{◌≡◌, ◌*◌, ◌<◌, ◌≤◌, ◌∙◌, length, ap, arith}
+use Rattle.std.proofs.Common.{◌<◌, ◌≤◌, ◌∙◌, length, ap, arith}
 use Rattle.function_identities.specs.Base32.{bits_of, symbol_of}
 use Rattle.function_identities.proofs.BitLemmas.{length-bits, symbols_more, symbols_end}
 use Rattle.function_identities.proofs.base32.base32.Goals as goal

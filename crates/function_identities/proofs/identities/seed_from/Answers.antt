@@ -1,4 +1,3 @@
-use Rattle.std.proofs.Common.{◌∙◌, sym}
 use Rattle.function_identities.proofs.SeedLemmas.{seed_more, seed_fails, seed_ends}
 use Rattle.function_identities.proofs.identities.seed_from.Goals as goal
 

@@ -1,5 +1,5 @@
 -- Format texts, character by character.
-use Rattle.std.proofs.Common.{◌≡◌, ◌<◌, ◌≤◌, ◌+◌, ◌*◌, ◌-◌, ℕ, zero, suc, Bool, true, false, cond, eqb, ltb, nat_lt, nat_le, ◌==◌, ◌&&◌, ◌||◌, List, [], ◌∷◌, ◌++◌, length, get_or, take, drop, map, slice_get, Option, Some, None, option_map, option_and_then, refl, ap, ap₂, sym, ◌∙◌, append_assoc, append-nil, arith, add-one, length-drop}
+use Rattle.std.proofs.Common.{◌≡◌, ◌<◌, ◌≤◌, ◌+◌, ◌*◌, ◌-◌, ℕ, zero, suc, Bool, true, false, eqb, nat_lt, ◌==◌, List, [], ◌∷◌, ◌++◌, length, get_or, take, drop, map, slice_get, Option, Some, None, option_map, option_and_then, refl, ap, sym, ◌∙◌, append_assoc, append-nil, arith, add-one, length-drop}
 use Rattle.std.specs.Prelude.{if◌then◌else◌}
 use Rattle.std.proofs.Math.Seq.{drop-cons}
 use Rattle.std.proofs.lemmas.List.{drop_all}
@@ -11,19 +11,20 @@ use Rattle.arm_value.specs.Json.{Json}
 use Rattle.arm_value.specs.View.{json}
 use Rattle.arm_value.specs.declared.value.Value.{Value}
 use Rattle.function_prints.specs.Printed.{printed}
-use Rattle.function_prints.specs.Format.{Field, before_closing, below, number_before_closing, argument, argument_field, is_brace, field, filled_behind, filled, put_behind, ending}
+use Rattle.function_prints.specs.Format.{Field, before_closing, argument, argument_field, is_brace, field, filled_behind, filled}
+use Rattle.function_prints.specs.Filling.{below, number_before_closing, put_behind, ending, filled_after, filled_on}
 
 -- ---- the number of a field
 
-closing-nil : before_closing [] ≡ None
+pub closing-nil : before_closing [] ≡ None
 unfolding before_closing
 closing-nil = refl
 
-closing-here : (cs : List ℕ) → before_closing (125 ∷ cs) ≡ Some []
+pub closing-here : (cs : List ℕ) → before_closing (125 ∷ cs) ≡ Some []
 unfolding before_closing
 closing-here cs = refl
 
-closing-more : (c : ℕ) (cs : List ℕ) → eqb c 125 ≡ false → before_closing (c ∷ cs) ≡ option_map (λ s. c ∷ s) (before_closing cs)
+pub closing-more : (c : ℕ) (cs : List ℕ) → eqb c 125 ≡ false → before_closing (c ∷ cs) ≡ option_map (λ s. c ∷ s) (before_closing cs)
 unfolding before_closing
 closing-more c cs e = rw e refl
 
@@ -31,7 +32,7 @@ read-nil : (n : ℕ) → read_on n [] ≡ Some n
 unfolding read_on
 read-nil n = refl
 
-read-more : (n c : ℕ) (cs : List ℕ) → read_on n (c ∷ cs) ≡ option_and_then (λ m. read_on m cs) (with_digit n c)
+pub read-more : (n c : ℕ) (cs : List ℕ) → read_on n (c ∷ cs) ≡ option_and_then (λ m. read_on m cs) (with_digit n c)
 unfolding read_on
 read-more n c cs = refl
 
@@ -232,22 +233,18 @@ no_argument vs cs old new e =
 
 -- ---- the text with its fields filled
 
-filled-nil : (js : List Json) (n : ℕ) → filled_behind js n [] ≡ Some []
+pub filled-nil : (js : List Json) (n : ℕ) → filled_behind js n [] ≡ Some []
 unfolding filled_behind
 filled-nil js n = refl
 
-filled-taken : (js : List Json) (n c : ℕ) (cs : List ℕ) → filled_behind js (suc n) (c ∷ cs) ≡ filled_behind js n cs
+pub filled-taken : (js : List Json) (n c : ℕ) (cs : List ℕ) → filled_behind js (suc n) (c ∷ cs) ≡ filled_behind js n cs
 unfolding filled_behind
 filled-taken js n c cs = refl
 
-filled-here : (js : List Json) (c : ℕ) (cs : List ℕ)
+pub filled-here : (js : List Json) (c : ℕ) (cs : List ℕ)
     → filled_behind js 0 (c ∷ cs) ≡ (if is_brace c then option_and_then (λ f. option_map (λ rest. f.0 ++ rest) (filled_behind js f.1 cs)) (field js c cs) else option_map (λ rest. c ∷ rest) (filled_behind js 0 cs))
 unfolding filled_behind
 filled-here js c cs = refl
-
--- a text, and what is filled behind it
-abbrev pub filled_after : List ℕ → List Json → ℕ → List ℕ → Option (List ℕ)
-filled_after front js n cs = option_map (λ s. front ++ s) (filled_behind js n cs)
 
 pub fill_takes : (js : List Json) (out rest : List ℕ) (k : ℕ) → 0 < length rest → 0 < k → filled_after out js (k - 1) (drop 1 rest) ≡ filled_after out js k rest
 fill_takes js out [] k h p = absurd (omega arith)
@@ -294,9 +291,6 @@ fill_puts js out more (d ∷ cs) behind c k next h z e is r f =
 -- the rest from a place on, as a slice
 pub whole_rest : (cs : List ℕ) (i : ℕ) → take (length cs - i) (drop i cs) ≡ drop i cs
 whole_rest cs i = take_all (length cs - i) (drop i cs) (omega (arith, length-drop i cs))
-
-abbrev pub filled_on : List ℕ → List Json → Option ℕ → List ℕ → Option (List ℕ)
-filled_on front js next cs = option_and_then (λ n. filled_after front js n cs) next
 
 pub filled_more : (js : List Json) (out more cs : List ℕ) (i k n : ℕ) (next : Option ℕ) (all : Option (List ℕ)) → i < length cs → next ≡ Some n
     → filled_on more js next (drop 1 (take (length cs - i) (drop i cs))) ≡ filled_after out js k (take (length cs - i) (drop i cs)) → filled_after out js k (drop i cs) ≡ all → filled_after more js n (drop (i + 1) cs) ≡ all

@@ -1,5 +1,5 @@
 -- A tree from the data of `serde_json` that it stands for.
-use Rattle.std.proofs.Common.{◌≡◌, ◌<◌, ◌≤◌, ◌+◌, ◌*◌, ◌-◌, ◌/◌, ◌%◌, ◌^◌, ◌⊎◌, ℕ, zero, suc, ℤ, pos, negsuc, Bool, true, false, nat_le, List, [], ◌∷◌, ◌++◌, Option, Some, None, is_some, cond, ltb, option_map, option_and_then, encode_utf8_all, refl, ap, ap₂, sym, ◌∙◌, append_assoc, append-nil, arith}
+use Rattle.std.proofs.Common.{◌≡◌, ◌<◌, ◌≤◌, ◌+◌, ◌*◌, ◌-◌, ◌/◌, ◌%◌, ◌^◌, ℕ, zero, suc, ℤ, pos, negsuc, Bool, true, false, nat_le, List, [], ◌∷◌, ◌++◌, Option, Some, None, is_some, cond, ltb, option_map, option_and_then, encode_utf8_all, refl, ap, sym, ◌∙◌, arith}
 use Rattle.std.specs.Prelude.{IsSomeAnd, if◌then◌else◌}
 use Rattle.std.specs.Char.{encode_utf8}
 use Rattle.std.specs.Str.{chars, chars_after, continuation_len, lead_bits}
@@ -10,7 +10,7 @@ use Rattle.serde_json.specs.Data as d
 use Rattle.serde_json.specs.Find.{as_i64, of_integer}
 use Rattle.arm_value.specs.Json.{Json, null, bool, int, text, array, object, Row, no_items, item, Pairs, no_pairs, pair}
 use Rattle.arm_value.specs.Fault.{Gives}
-use Rattle.arm_value.specs.Reading.{data_of, row_data, pairs_data, or_else, below, not_whole, items_not_whole, members_not_whole}
+use Rattle.arm_value.specs.Reading.{data_of, row_data, pairs_data, or_else, not_whole, items_not_whole, members_not_whole}
 use Rattle.function_prints.specs.Stated.{tree_of, row_of, pairs_of, shallow_tree}
 
 -- ---- data of a tree

@@ -1,5 +1,5 @@
 -- Format texts (Microsoft Learn: ARM template functions, string: `format`).
-use Rattle.std.specs.Prelude.{ℕ, zero, suc, ◌==◌, ◌||◌, nat_lt, Bool, List, [], ◌∷◌, ◌++◌, length, slice_get, Option, Some, None, option_map, option_and_then, if◌then◌else◌}
+use Rattle.std.specs.Prelude.{ℕ, zero, suc, ◌==◌, ◌||◌, Bool, List, [], ◌∷◌, ◌++◌, length, slice_get, Option, Some, None, option_map, option_and_then, if◌then◌else◌}
 use Rattle.arm_value.specs.Json.{Json, text}
 use Rattle.function_numbers.specs.Kinds.{text_of}
 use Rattle.function_numbers.specs.Numbers.{numeral}
@@ -49,18 +49,3 @@ format_by j args = option_and_then (λ s. option_map text (filled args s)) (text
 abbrev pub format : List Json → Option Json
 format [] = None
 format (j ∷ js) = format_by j js
-
--- a field behind a text
-abbrev pub put_behind : List ℕ → Option Field → Option Field
-put_behind s o = option_map (λ f. (s ++ f.0, f.1)) o
-
--- a text, with how many characters belong to the field that it ends with
-abbrev pub ending : List ℕ → Option ℕ → Option Field
-ending s o = option_map (λ n. (s, n)) o
-
--- the number below the bound that the digits before the first `}` spell, and how many these are
-abbrev pub below : ℕ → ℕ → Option ℕ
-below bound n = if nat_lt n bound then Some n else None
-
-abbrev pub number_before_closing : ℕ → List ℕ → Option (ℕ × ℕ)
-number_before_closing bound cs = option_and_then (λ digits. option_map (λ n. (n, length digits)) (option_and_then (below bound) (numeral digits))) (before_closing cs)

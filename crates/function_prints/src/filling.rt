@@ -4,7 +4,8 @@ ghost use Rattle.arm_value.specs.Json.{text};
 ghost use Rattle.arm_value.specs.View.{json};
 ghost use Rattle.function_numbers.specs.Numbers.{with_digit};
 ghost use Rattle.function_prints.specs.Format as row;
-ghost use Rattle.function_prints.specs.Format.{argument_field, below, ending, field, filled, filled_behind, format_by, is_brace, number_before_closing, put_behind};
+ghost use Rattle.function_prints.specs.Format.{argument_field, field, filled, format_by, is_brace};
+ghost use Rattle.function_prints.specs.Filling.{below, ending, filled_after, filled_on, number_before_closing, put_behind};
 
 use crate::joining::add;
 use crate::printed::printed;
@@ -64,14 +65,12 @@ fn put_argument(
     ensures { IfOk result (λ taken. ending (chars (string_bytes out.new)) taken
         ≡ put_behind (chars (string_bytes out.old)) (argument_field (map json args.now) behind.now)) }
 {
-    match number_before_closing(args.len(), behind) {
-        Some((number, digits)) => {
-            let text = printed(alloc, &args[number])?;
-            add(out, &text)?;
-            Ok(Some(digits + 1))
-        }
-        None => Ok(None),
-    }
+    let Some((number, digits)) = number_before_closing(args.len(), behind) else {
+        return Ok(None);
+    };
+    let text = printed(alloc, &args[number])?;
+    add(out, &text)?;
+    Ok(Some(digits + 1))
 }
 
 // Puts what a brace stands for last. Answers how many characters behind the brace belong to it.
@@ -115,10 +114,8 @@ fn fill_here(
 ) -> Result<Option<usize>, OutOfMemory>
     requires { 0 < length rest.now }
     ensures { IfOk result (λ next.
-        option_and_then (λ n. option_map (λ s. chars (string_bytes out.new) ++ s)
-        (filled_behind (map json args.now) n (drop 1 rest.now))) next
-        ≡ option_map (λ s. chars (string_bytes out.old) ++ s)
-        (filled_behind (map json args.now) taken rest.now)) }
+        filled_on (chars (string_bytes out.new)) (map json args.now) next (drop 1 rest.now)
+        ≡ filled_after (chars (string_bytes out.old)) (map json args.now) taken rest.now) }
 {
     if taken > 0 {
         return Ok(Some(taken - 1));

@@ -1,5 +1,7 @@
 // Values from JSON texts.
-ghost use Rattle.std.specs.Prelude.{◌≡◌, map, option_map, IfOk};
+ghost use Rattle.std.specs.Prelude.{◌≡◌, map, option_map, IfOk, IfSome};
+ghost use Rattle.arm_value.specs.Fault.{Gives};
+ghost use Rattle.arm_value.specs.Reading.{reading};
 ghost use Rattle.arm_value.specs.View.{json};
 ghost use Rattle.function_prints.specs.Stated as row;
 ghost use Rattle.function_prints.specs.Stated.{stated, stated_by};
@@ -8,8 +10,10 @@ use arm_value::{JsonFault, OutOfMemory, Value};
 use function_numbers::kinds::text_of;
 use std::alloc::{AllocError, Global};
 
+// The value that the bytes of a JSON text give.
 fn stated(alloc: Global, bytes: &[u8]) -> Result<Option<Value>, OutOfMemory>
-    ensures { IfOk result (λ value. option_map json value ≡ stated bytes.now) }
+    ensures value { IfOk result (λ value. option_map json value ≡ stated bytes.now) }
+    ensures gives { IfOk result (λ value. IfSome value (λ v. Gives (reading bytes.now) (json v))) }
 {
     match Value::from_json(alloc, bytes) {
         Ok(value) => Ok(Some(value)),

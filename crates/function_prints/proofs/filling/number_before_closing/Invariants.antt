@@ -1,5 +1,5 @@
 use Rattle.std.proofs.Common.{◌≡◌, ◌<◌, drop}
-use Rattle.function_prints.specs.Format.{number_before_closing}
+use Rattle.function_prints.specs.Filling.{number_before_closing}
 use Rattle.function_prints.proofs.FormatLemmas.{numbered_from}
 use Rattle.function_prints.proofs.filling.number_before_closing.Given as goal
 

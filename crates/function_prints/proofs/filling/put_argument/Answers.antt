@@ -3,9 +3,9 @@ use Rattle.std.specs.Str.{chars}
 use Rattle.function_prints.proofs.FormatLemmas.{puts_argument, no_argument}
 use Rattle.function_prints.proofs.filling.put_argument.Goals as goal
 
-pub returns-in_ok-add-in-Some : goal.returns-in_ok-add-in-Some
-returns-in_ok-add-in-Some c =
-    puts_argument c.args.args.now c.args.behind.now (chars (string_bytes c.args.out.now)) (chars (string_bytes c.add.new.out)) _ c.in-Some.number c.in-Some.digits c.index-args-number.result c.in-Some.ensures.value c.in-Some.ensures.within c.index-args-number.is c.in_ok-text-in-Some.ensures c.in_ok-add-in-Some.ensures
+pub returns : goal.returns
+returns c =
+    puts_argument c.args.args.now c.args.behind.now (chars (string_bytes c.args.out.now)) (chars (string_bytes c.add.new.out)) _ c.in-Some.number c.in-Some.digits c.index-args-number.result c.in-Some.ensures.value c.in-Some.ensures.within c.index-args-number.is c.in_ok-text.ensures c.in_ok-add.ensures
 
-pub returns-in-None : goal.returns-in-None
-returns-in-None c = no_argument c.args.args.now c.args.behind.now (chars (string_bytes c.args.out.now)) (chars (string_bytes c.args.out.now)) c.in-None.ensures.value
+pub returns-in_default : goal.returns-in_default
+returns-in_default c = no_argument c.args.args.now c.args.behind.now (chars (string_bytes c.args.out.now)) (chars (string_bytes c.args.out.now)) c.in_default.ensures.value

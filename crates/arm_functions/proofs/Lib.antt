@@ -1,3 +1,2 @@
 pub mod TableLemmas
 pub mod UnionLaw
-pub mod SplitLaw

@@ -8,7 +8,7 @@ use Rattle.arm_functions.specs.declared.plain.OnTruth.TheVariants.{Not, AlwaysTr
 use Rattle.arm_functions.specs.declared.plain.OnTexts.TheVariants.{ToLower, ToUpper, Trim, Substring, Replace, Split, StartsWith, EndsWith, IndexOf, LastIndexOf, Contains}
 use Rattle.arm_functions.specs.declared.plain.OnLists.TheVariants.{Size, Empty, ToArray, CreateArray, First, Last, Skip, Take, Union, Intersection, Flatten, CreateObject, ObjectItems, ObjectKeys, TryGet}
 use Rattle.arm_functions.specs.declared.plain.Naming.TheVariants.{ToBase64, FromBase64, UniqueString, Guid}
-use Rattle.arm_functions.specs.declared.plain.Printing.TheVariants.{Concat, Join, PadLeft, ToText}
+use Rattle.arm_functions.specs.declared.plain.Printing.TheVariants.{Concat, Join, PadLeft, ToText, Format, ReadJson}
 
 -- a name, the least and the most number of arguments (no most where there is none), and the function where its value follows from its arguments alone
 abbrev pub Row : Type 0
@@ -27,7 +27,7 @@ table =
     (codes "int", 1, Some 1, Some (Numbers ToInt)) ∷
     (codes "range", 2, Some 2, Some (Numbers Range)) ∷
     (codes "concat", 1, None, Some (Prints Concat)) ∷
-    (codes "format", 1, None, None) ∷
+    (codes "format", 1, None, Some (Prints Format)) ∷
     (codes "toLower", 1, Some 1, Some (Texts ToLower)) ∷
     (codes "toUpper", 1, Some 1, Some (Texts ToUpper)) ∷
     (codes "trim", 1, Some 1, Some (Texts Trim)) ∷
@@ -56,7 +56,7 @@ table =
     (codes "intersection", 1, None, Some (Lists Intersection)) ∷
     (codes "flatten", 1, Some 1, Some (Lists Flatten)) ∷
     (codes "createObject", 0, None, Some (Lists CreateObject)) ∷
-    (codes "json", 1, Some 1, None) ∷
+    (codes "json", 1, Some 1, Some (Prints ReadJson)) ∷
     (codes "items", 1, Some 1, Some (Lists ObjectItems)) ∷
     (codes "objectKeys", 1, Some 1, Some (Lists ObjectKeys)) ∷
     (codes "not", 1, Some 1, Some (Logic Not)) ∷

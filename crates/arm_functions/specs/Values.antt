@@ -11,6 +11,8 @@ use Rattle.function_lists.specs.Ends as ends
 use Rattle.function_lists.specs.Items as items
 use Rattle.function_lists.specs.Members as members
 use Rattle.function_prints.specs.Printed as prints
+use Rattle.function_prints.specs.Format as formats
+use Rattle.function_prints.specs.Stated as stated
 use Rattle.function_identities.specs.Encodings as encodings
 use Rattle.function_identities.specs.Identities as identities
 use Rattle.arm_functions.specs.declared.plain.Plain.{Plain}
@@ -26,7 +28,7 @@ use Rattle.arm_functions.specs.declared.plain.OnTruth.TheVariants.{Not, AlwaysTr
 use Rattle.arm_functions.specs.declared.plain.OnTexts.TheVariants.{ToLower, ToUpper, Trim, Substring, Replace, Split, StartsWith, EndsWith, IndexOf, LastIndexOf, Contains}
 use Rattle.arm_functions.specs.declared.plain.OnLists.TheVariants.{Size, Empty, ToArray, CreateArray, First, Last, Skip, Take, Union, Intersection, Flatten, CreateObject, ObjectItems, ObjectKeys, TryGet}
 use Rattle.arm_functions.specs.declared.plain.Naming.TheVariants.{ToBase64, FromBase64, UniqueString, Guid}
-use Rattle.arm_functions.specs.declared.plain.Printing.TheVariants.{Concat, Join, PadLeft, ToText}
+use Rattle.arm_functions.specs.declared.plain.Printing.TheVariants.{Concat, Join, PadLeft, ToText, Format, ReadJson}
 use Rattle.arm_functions.specs.Table.{row_of}
 
 -- the value of a function on numbers
@@ -92,6 +94,8 @@ of_prints Concat args = prints.concat args
 of_prints Join args = prints.join args
 of_prints PadLeft args = prints.pad_left args
 of_prints ToText args = prints.to_text args
+of_prints Format args = formats.format args
+of_prints ReadJson args = stated.read_json args
 
 -- the value of a function that makes another text of texts
 unfoldable pub of_names : Naming → List Json → Option Json

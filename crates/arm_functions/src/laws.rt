@@ -1,9 +1,7 @@
 //! What holds of the functions beyond each one's own definition. The functions here have no body.
 ghost use Rattle.std.specs.Prelude.{◌≡◌, ◌∷◌, [], Some, List, ℕ};
-ghost use Rattle.arm_value.specs.Json.{Json, text, object, pairs, Member, IsInOrder};
+ghost use Rattle.arm_value.specs.Json.{object, pairs, Member, IsInOrder};
 ghost use Rattle.function_lists.specs.Members.{union, value_at};
-ghost use Rattle.function_texts.specs.Cuts.{split};
-ghost use Rattle.function_prints.specs.Printed.{join};
 ghost use Rattle.arm_functions.specs.Laws.{later_value};
 
 /// The union of two objects has at each key what the second has there, and what the first has where
@@ -12,10 +10,4 @@ pub fn union_keeps_later_values()
     ensures { (k : List ℕ) (ms ns us : List Member) → IsInOrder ms → IsInOrder ns
         → union (object (pairs ms) ∷ object (pairs ns) ∷ []) ≡ Some (object (pairs us))
         → value_at k us ≡ later_value (value_at k ms) (value_at k ns) }
-{}
-
-/// What `split` gives of a text at another text is the whole again once `join` puts that text between.
-pub fn join_restores_what_was_split()
-    ensures { (s d : List ℕ) (pieces : Json) → split (text s ∷ text d ∷ []) ≡ Some pieces
-        → join (pieces ∷ text d ∷ []) ≡ Some (text s) }
 {}

@@ -72,6 +72,8 @@ pub enum Printing {
     Join,
     PadLeft,
     ToText,
+    Format,
+    ReadJson,
 }
 
 /// A function that makes another text of texts, which stands for them.

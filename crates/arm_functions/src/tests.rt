@@ -194,6 +194,10 @@ fn printed_forms_by_name(rt: HostRuntime) -> Result<(), Fail> {
         ("padLeft", "[42,5,\"0\"]", "\"00042\""),
         ("padLeft", "[\"abc\",2]", "\"abc\""),
         ("padLeft", "[\"a\",-1]", "none"),
+        ("format", "[\"{0}: {1}\",\"a\",8175]", "\"a: 8175\""),
+        ("format", "[\"{0:N0}\",1]", "none"),
+        ("json", "[\"{\\\"a\\\":[1]}\"]", "{\"a\":[1]}"),
+        ("json", "[\"1.5\"]", "none"),
         ("string", "[{\"a\":[1]}]", "\"{\\\"a\\\":[1]}\""),
     ];
     assert_eq!(rt; first_wrong(rt.alloc(), &calls)?.as_str(), "");

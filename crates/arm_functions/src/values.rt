@@ -104,6 +104,8 @@ fn of_prints(
         Printing::Join => function_prints::join(alloc, args),
         Printing::PadLeft => function_prints::pad_left(alloc, args),
         Printing::ToText => function_prints::to_text(alloc, args),
+        Printing::Format => function_prints::format(alloc, args),
+        Printing::ReadJson => function_prints::read_json(alloc, args),
     }
 }
 

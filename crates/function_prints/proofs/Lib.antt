@@ -1,1 +1,5 @@
 pub mod TextLemmas
+pub mod StatedLemmas
+pub mod FormatLemmas
+pub mod PieceLemmas
+pub mod RejoinLemmas

@@ -1,6 +1,6 @@
 -- Printed forms as characters.
 use Rattle.std.proofs.Common.{◌≡◌, ◌<◌, ◌≤◌, ◌+◌, ◌^◌, ℕ, zero, suc, ℤ, pos, negsuc, true, false, Bool, List, [], ◌∷◌, ◌++◌, length, get_or, drop, map, Option, Some, None, option_map, option_and_then, chars, codes, IsUtf8, refl, ap, sym, ◌∙◌, append_assoc, append-nil, arith, w64}
-use Rattle.std.specs.Prelude.{FitsSigned, slice_index, if◌then◌else◌}
+use Rattle.std.specs.Prelude.{FitsSigned, if◌then◌else◌}
 use Rattle.std.specs.Str.{chars, IsAscii, is_utf8}
 use Rattle.std.specs.Fmt.{decimal, signed_decimal}
 use Rattle.std.specs.List.{flat_map}

@@ -1,1 +1,5 @@
 pub mod Printed
+pub mod Stated
+pub mod Format
+pub mod Filling
+pub mod Pieces

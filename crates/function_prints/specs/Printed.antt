@@ -1,5 +1,5 @@
 -- The functions that print values (Microsoft Learn: ARM template functions, string and array).
-use Rattle.std.specs.Prelude.{ℕ, ◌-◌, ℤ, pos, negsuc, nat_le, ◌==◌, Bool, true, false, codes, chars, List, [], ◌∷◌, ◌++◌, length, replicate, Option, Some, None, option_map, option_and_then, if◌then◌else◌}
+use Rattle.std.specs.Prelude.{ℕ, ◌-◌, pos, nat_le, true, false, codes, chars, List, [], ◌∷◌, ◌++◌, length, replicate, Option, Some, None, option_map, option_and_then, if◌then◌else◌}
 use Rattle.std.specs.Fmt.{signed_decimal}
 use Rattle.std.specs.List.{flat_map}
 use Rattle.serde_json.specs.Written.{compact_text}

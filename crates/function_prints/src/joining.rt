@@ -11,8 +11,8 @@ use arm_value::{OutOfMemory, Text, Value};
 use function_lists::concat_arrays;
 use std::alloc::Global;
 
-// Puts the text last.
-fn add(out: &mut String, text: &Text) -> Result<(), OutOfMemory>
+/// Puts the text last.
+pub fn add(out: &mut String, text: &Text) -> Result<(), OutOfMemory>
     ensures { OnOk result (chars (string_bytes out.new) ≡ chars (string_bytes out.old) ++ text.now) }
 {
     out.push_str(text.as_str())?;

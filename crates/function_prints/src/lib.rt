@@ -1,16 +1,22 @@
-//! Template functions that print values.
+//! Template functions that print values, and `json`, which reads them.
 //!
 //! The printed form of a value is a text itself, a number's decimal digits, `True` or `False`,
 //! nothing for null, and the compact JSON text of an array or an object (`specs/Printed.antt`).
+//! Format texts stand in `specs/Format.antt`, and what a JSON text states in `specs/Stated.antt`.
 #![tactic(auto)]
 
+mod filling;
 mod joining;
+pub mod laws;
 mod padding;
 pub mod printed;
+mod stated;
 
+pub use filling::format;
 pub use joining::{concat, join};
 pub use padding::pad_left;
 pub use printed::to_text;
+pub use stated::read_json;
 
 #[cfg(test)]
 mod tests;

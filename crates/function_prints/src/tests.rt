@@ -1,5 +1,5 @@
-use crate::{concat, join, pad_left, to_text};
-use arm_value::{OutOfMemory, Value};
+use crate::{concat, format, join, pad_left, read_json, to_text};
+use arm_value::{OutOfMemory, Text, Value};
 use std::alloc::Global;
 use std::test::Fail;
 
@@ -111,5 +111,108 @@ fn texts_are_filled_on_the_left(rt: HostRuntime) -> Result<(), Fail> {
     ];
     assert_eq!(rt; first_wrong(alloc, pad_left, &filled)?.as_str(), "");
     assert_eq!(rt; padded_length(alloc, "[\"\",10000]")?, 10_000);
+    Ok(())
+}
+
+#[test]
+fn format_texts_are_filled(rt: HostRuntime) -> Result<(), Fail> {
+    let alloc = rt.alloc();
+    let filled = [
+        (
+            "[\"Hello, {0}. Number: {1}\",\"User\",8175]",
+            "\"Hello, User. Number: 8175\"",
+        ),
+        ("[\"\"]", "\"\""),
+        ("[\"{1}{0}{1}\",\"a\",\"b\"]", "\"bab\""),
+        ("[\"{00}-{001}\",1,2]", "\"1-2\""),
+        ("[\"{10}\",0,1,2,3,4,5,6,7,8,9,\"ten\"]", "\"ten\""),
+        ("[\"{{}}{{0}}\",1]", "\"{}{0}\""),
+        ("[\"{{{0}}}\",1]", "\"{1}\""),
+        ("[\"{0}\",\"{0}\"]", "\"{0}\""),
+        (
+            "[\"\u{e9}{0}\u{20ac}\",\"\u{1f600}\"]",
+            "\"\u{e9}\u{1f600}\u{20ac}\"",
+        ),
+        ("[\"{0}{1}{2}\",true,null,-5]", "\"True-5\""),
+        (
+            "[\"{0}{1}\",[1,\"a\"],{\"b\":[]}]",
+            "\"[1,\\\"a\\\"]{\\\"b\\\":[]}\"",
+        ),
+    ];
+    assert_eq!(rt; first_wrong(alloc, format, &filled)?.as_str(), "");
+    Ok(())
+}
+
+#[test]
+fn other_braces_are_refused(rt: HostRuntime) -> Result<(), Fail> {
+    let alloc = rt.alloc();
+    let refused = [
+        ("[\"{\",1]", "none"),
+        ("[\"}\",1]", "none"),
+        ("[\"{}\",1]", "none"),
+        ("[\"{x}\",1]", "none"),
+        ("[\"{-1}\",1]", "none"),
+        ("[\"{0\",1]", "none"),
+        ("[\"{0:N0}\",1]", "none"),
+        ("[\"{ 0}\",1]", "none"),
+        ("[\"{0{\",1]", "none"),
+        ("[\"{{{\",1]", "none"),
+        ("[\"{1}\",1]", "none"),
+        ("[\"{18446744073709551616}\",1]", "none"),
+        ("[\"{0}\"]", "none"),
+        ("[7,1]", "none"),
+        ("[]", "none"),
+    ];
+    assert_eq!(rt; first_wrong(alloc, format, &refused)?.as_str(), "");
+    Ok(())
+}
+
+#[test]
+fn json_texts_state_values(rt: HostRuntime) -> Result<(), Fail> {
+    let alloc = rt.alloc();
+    let stated = [
+        (
+            "[\"{\\\"b\\\":1,\\\"a\\\":[null,true]}\"]",
+            "{\"a\":[null,true],\"b\":1}",
+        ),
+        ("[\"{\\\"a\\\":1,\\\"a\\\":2}\"]", "{\"a\":2}"),
+        ("[\" [ 1 , \\\"\u{e9}\\\" ] \"]", "[1,\"\u{e9}\"]"),
+        ("[\"-12\"]", "-12"),
+        ("[\"9223372036854775807\"]", "9223372036854775807"),
+        ("[\"\\\"text\\\"\"]", "\"text\""),
+        ("[\"null\"]", "null"),
+        ("[\"9223372036854775808\"]", "none"),
+        ("[\"1.5\"]", "none"),
+        ("[\"1e2\"]", "none"),
+        ("[\"[0,{\\\"a\\\":-0}]\"]", "none"),
+        ("[\"not json\"]", "none"),
+        ("[\"\"]", "none"),
+        ("[\"[1,]\"]", "none"),
+        ("[1]", "none"),
+        ("[\"1\",\"2\"]", "none"),
+    ];
+    assert_eq!(rt; first_wrong(alloc, read_json, &stated)?.as_str(), "");
+    Ok(())
+}
+
+// A text of arrays that nest so deep.
+fn nested(alloc: Global, depth: usize) -> Result<Value, Fail> {
+    let mut text = String::new(alloc);
+    for _ in 0..depth {
+        text.push('[')?;
+    }
+    for _ in 0..depth {
+        text.push(']')?;
+    }
+    Ok(Value::Text(Text::from_string(text)))
+}
+
+#[test]
+fn json_nests_at_most_120_deep(rt: HostRuntime) -> Result<(), Fail> {
+    let alloc = rt.alloc();
+    let deepest = vec![in alloc; nested(alloc, 120)?]?;
+    assert!(rt; read_json(alloc, deepest.as_slice())?.is_some());
+    let too_deep = vec![in alloc; nested(alloc, 121)?]?;
+    assert!(rt; read_json(alloc, too_deep.as_slice())?.is_none());
     Ok(())
 }

@@ -1,0 +1,45 @@
+// Values from JSON texts.
+ghost use Rattle.std.specs.Prelude.{◌≡◌, map, option_map, IfOk, IfSome};
+ghost use Rattle.arm_value.specs.Fault.{Gives};
+ghost use Rattle.arm_value.specs.Reading.{reading};
+ghost use Rattle.arm_value.specs.View.{json};
+ghost use Rattle.function_prints.specs.Stated as row;
+ghost use Rattle.function_prints.specs.Stated.{stated, stated_by};
+
+use arm_value::{JsonFault, OutOfMemory, Value};
+use function_numbers::kinds::text_of;
+use std::alloc::{AllocError, Global};
+
+// The value that the bytes of a JSON text give.
+fn stated(alloc: Global, bytes: &[u8]) -> Result<Option<Value>, OutOfMemory>
+    ensures value { IfOk result (λ value. option_map json value ≡ stated bytes.now) }
+    ensures gives { IfOk result (λ value. IfSome value (λ v. Gives (reading bytes.now) (json v))) }
+{
+    match Value::from_json(alloc, bytes) {
+        Ok(value) => Ok(Some(value)),
+        Err(JsonFault::NotJson) => Ok(None),
+        Err(JsonFault::TooDeep) => Ok(None),
+        Err(JsonFault::NotWhole(_)) => Ok(None),
+        Err(JsonFault::OutOfMemory) => Err(AllocError),
+    }
+}
+
+fn stated_by(alloc: Global, value: &Value) -> Result<Option<Value>, OutOfMemory>
+    ensures { IfOk result (λ found. option_map json found ≡ stated_by (json value.now)) }
+{
+    match text_of(value) {
+        Some(text) => stated(alloc, text.as_str().as_bytes()),
+        None => Ok(None),
+    }
+}
+
+/// `json`: the value that the text states as JSON (RFC 8259), with whole numbers of 64 bits and
+/// nested at most 120 deep; of equal member names the last counts. None of any other text.
+pub fn read_json(alloc: Global, args: &[Value]) -> Result<Option<Value>, OutOfMemory>
+    ensures { IfOk result (λ value. option_map json value ≡ row.read_json (map json args.now)) }
+{
+    match args {
+        [value] => stated_by(alloc, value),
+        _ => Ok(None),
+    }
+}

@@ -48,7 +48,8 @@ fn number_before_closing(bound: usize, characters: &[char]) -> Option<(usize, us
 
 // Puts the character last.
 fn put_character(out: &mut String, character: char) -> Result<(), OutOfMemory>
-    ensures { OnOk result (chars (string_bytes out.new) ≡ chars (string_bytes out.old) ++ character ∷ []) }
+    ensures { OnOk result
+        (chars (string_bytes out.new) ≡ chars (string_bytes out.old) ++ character ∷ []) }
 {
     out.push(character)?;
     Ok(())
@@ -63,7 +64,8 @@ fn put_argument(
     behind: &[char],
 ) -> Result<Option<usize>, OutOfMemory>
     ensures { IfOk result (λ taken. ending (chars (string_bytes out.new)) taken
-        ≡ put_behind (chars (string_bytes out.old)) (argument_field (map json args.now) behind.now)) }
+        ≡ put_behind (chars (string_bytes out.old))
+        (argument_field (map json args.now) behind.now)) }
 {
     let Some((number, digits)) = number_before_closing(args.len(), behind) else {
         return Ok(None);
@@ -82,7 +84,8 @@ fn put_field(
     behind: &[char],
 ) -> Result<Option<usize>, OutOfMemory>
     ensures { IfOk result (λ taken. ending (chars (string_bytes out.new)) taken
-        ≡ put_behind (chars (string_bytes out.old)) (field (map json args.now) brace behind.now)) }
+        ≡ put_behind (chars (string_bytes out.old))
+        (field (map json args.now) brace behind.now)) }
 {
     match behind {
         [second, ..] => if *second == brace {
@@ -144,7 +147,8 @@ fn filled(alloc: Global, characters: &[char], args: &[Value]) -> Result<Option<T
 }
 
 fn format_by(alloc: Global, value: &Value, args: &[Value]) -> Result<Option<Value>, OutOfMemory>
-    ensures { IfOk result (λ found. option_map json found ≡ format_by (json value.now) (map json args.now)) }
+    ensures { IfOk result (λ found. option_map json found
+        ≡ format_by (json value.now) (map json args.now)) }
 {
     match text_of(value) {
         Some(text) => {
@@ -159,8 +163,8 @@ fn format_by(alloc: Global, value: &Value, args: &[Value]) -> Result<Option<Valu
 }
 
 /// `format`: the text with the printed form of an argument in place of its number in braces, as
-/// `{0}` for the first one behind the text, and one brace in place of two; none where a brace stands
-/// otherwise, or where there is no such argument.
+/// `{0}` for the first one behind the text, and one brace in place of two. None where a brace stands
+/// otherwise, as in `{0:N0}`, or where there is no such argument.
 pub fn format(alloc: Global, args: &[Value]) -> Result<Option<Value>, OutOfMemory>
     ensures { IfOk result (λ value. option_map json value ≡ row.format (map json args.now)) }
 {

@@ -14,6 +14,11 @@ abbrev pub on : Part → Parts → List ℕ
 on A parts = parts.a
 on B parts = parts.b
 
+-- of two things, the one of that part
+abbrev pub of_part : {T : Type 0} → Part → T → T → T
+of_part A a b = a
+of_part B a b = b
+
 -- the part that is not meant
 abbrev pub other : Part → Part
 other A = B

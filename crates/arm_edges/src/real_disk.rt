@@ -1,6 +1,6 @@
-ghost use Rattle.std.specs.Prelude.{◌≡◌, ◌≤◌, false, length, Ok, IfOk};
+ghost use Rattle.std.specs.Prelude.{◌≡◌, ◌≤◌, false, length, Ok, IfOk, string_bytes};
 ghost use Rattle.arm_edges.specs.Faults.{HasCause};
-ghost use Rattle.arm_edges.specs.Disk.{no_parts, largest_fits};
+ghost use Rattle.arm_edges.specs.Disk.{no_parts, of_part, largest_fits};
 
 use crate::{Disk, Failed, Part};
 use std::fs::{File, OpenOptions};
@@ -87,9 +87,20 @@ impl<R: Files<File = File> + Send + Drop> RealDisk<R> {
         self.faults
     }
 
+    /// The path of the file that holds the part.
+    pub fn path(&self, part: Part) -> &str
+        ensures { result.now ≡ string_bytes (of_part part self.now.files.a.path self.now.files.b.path) }
+    {
+        match part {
+            Part::A => self.files.a.path.as_str(),
+            Part::B => self.files.b.path.as_str(),
+        }
+    }
+
     /// The files at these paths, in part A and part B.
     pub fn new(rt: R, path_a: String, path_b: String) -> RealDisk<R>
-        ensures { result.faults ≡ 0 }
+        ensures paths { result.files.a.path ≡ path_a × result.files.b.path ≡ path_b }
+        ensures faults { result.faults ≡ 0 }
     {
         RealDisk {
             files: PartFiles {

@@ -110,7 +110,11 @@ fn real_disks_keep_what_was_written(rt: HostRuntime) -> Result<(), Fail> {
     let alloc = rt.alloc();
     let (a, b) = ("arm_edges-disk", "arm_edges-disk.b");
     let mut disk = RealDisk::new(rt, String::from_str(alloc, a)?, String::from_str(alloc, b)?);
+    assert_eq!(rt; disk.path(Part::A), a);
+    assert_eq!(rt; disk.path(Part::B), b);
     let got = write_and_read(&mut disk);
+    assert_eq!(rt; fs::metadata(&rt, a)?.len(), 5);
+    assert_eq!(rt; fs::metadata(&rt, b)?.len(), 1);
     fs::remove_file(&rt, a)?;
     fs::remove_file(&rt, b)?;
     assert_eq!(rt; got, Ok((5, 1, *b"\0abc")));

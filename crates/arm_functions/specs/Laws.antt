@@ -1,5 +1,5 @@
 -- What holds of the functions beyond each one's own definition.
-use Rattle.std.specs.Prelude.{List, [], ◌∷◌, Option, Some, None}
+use Rattle.std.specs.Prelude.{[], ◌∷◌, Option, Some, None}
 use Rattle.arm_value.specs.Json.{Json, object}
 use Rattle.function_lists.specs.Members.{union}
 

@@ -1,5 +1,5 @@
 -- The template functions: their names, how many arguments each takes, and which have a value that follows from their arguments alone (Microsoft Learn: ARM template functions).
-use Rattle.std.specs.Prelude.{ℕ, codes, List, [], ◌∷◌, Option, Some, None, option_map, option_and_then, if◌then◌else◌}
+use Rattle.std.specs.Prelude.{ℕ, codes, List, [], ◌∷◌, Option, Some, None, option_map, if◌then◌else◌}
 use Rattle.arm_value.specs.Look.{is_same_folded}
 use Rattle.arm_functions.specs.declared.plain.Plain.{Plain}
 use Rattle.arm_functions.specs.declared.plain.Plain.TheVariants.{Numbers, Logic, Texts, Lists, Prints, Names}

@@ -1,5 +1,5 @@
 -- What the functions whose value follows from their arguments alone give.
-use Rattle.std.specs.Prelude.{ℕ, nat_le, Bool, true, false, ◌&&◌, List, length, Option, Some, None, option_and_then, if◌then◌else◌}
+use Rattle.std.specs.Prelude.{ℕ, nat_le, Bool, ◌&&◌, List, length, Option, Some, None, if◌then◌else◌}
 use Rattle.arm_value.specs.Json.{Json}
 use Rattle.function_numbers.specs.Numbers as numbers
 use Rattle.function_numbers.specs.Logic as logic

@@ -42,7 +42,12 @@ const ROWS: [Row; 68] = [
     ("padLeft", 2, Some(3), Some(Prints(Printing::PadLeft))),
     ("string", 1, Some(1), Some(Prints(Printing::ToText))),
     ("base64", 1, Some(1), Some(Names(Naming::ToBase64))),
-    ("base64ToString", 1, Some(1), Some(Names(Naming::FromBase64))),
+    (
+        "base64ToString",
+        1,
+        Some(1),
+        Some(Names(Naming::FromBase64)),
+    ),
     ("array", 1, Some(1), Some(Lists(OnLists::ToArray))),
     ("createArray", 0, None, Some(Lists(OnLists::CreateArray))),
     ("first", 1, Some(1), Some(Lists(OnLists::First))),

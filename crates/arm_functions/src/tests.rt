@@ -213,7 +213,11 @@ fn texts_that_stand_for_texts_by_name(rt: HostRuntime) -> Result<(), Fail> {
         ("base64ToString", "[\"aGVsbG8\"]", "none"),
         ("uniqueString", "[\"abc\"]", "\"xj4bnp4pahh6u\""),
         ("uniqueString", "[\"abc\",1]", "none"),
-        ("guid", "[\"python.org\"]", "\"886313e1-3b8a-5372-9b90-0c9aee199e5d\""),
+        (
+            "guid",
+            "[\"python.org\"]",
+            "\"886313e1-3b8a-5372-9b90-0c9aee199e5d\"",
+        ),
         ("guid", "[null]", "none"),
     ];
     assert_eq!(rt; first_wrong(rt.alloc(), &calls)?.as_str(), "");

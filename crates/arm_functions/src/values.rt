@@ -110,11 +110,7 @@ fn of_prints(
 }
 
 #[tactic(auto, unfolding(crate::specs::Values::of_names))]
-fn of_names(
-    alloc: Global,
-    function: Naming,
-    args: &[Value],
-) -> Result<Option<Value>, OutOfMemory>
+fn of_names(alloc: Global, function: Naming, args: &[Value]) -> Result<Option<Value>, OutOfMemory>
     ensures { IfOk result (λ value. option_map json value ≡ of_names function (map json args.now)) }
 {
     match function {

@@ -1,0 +1,9 @@
+pub mod KeyLemmas
+pub mod Answers
+pub mod Gather
+pub mod Words
+pub mod HeldLemmas
+pub mod RowLemmas
+pub mod IdLemmas
+pub mod EvalLemmas
+pub mod GotLemmas

@@ -1,0 +1,13 @@
+pub mod Look
+pub mod Part
+pub mod Loop
+pub mod Id
+pub mod Object
+pub mod Find
+pub mod Row
+pub mod Held
+pub mod Meaning
+pub mod Known
+pub mod Answer
+pub mod Sight
+pub mod Got

@@ -1,0 +1,101 @@
+// What an expression sees.
+
+use arm_ids::{Key, Place};
+use arm_value::{Text, Value};
+
+/// What is known of a parameter, a variable or an output.
+#[derive(Drop)]
+pub enum Slot {
+    Known(Value),
+    /// It has no value.
+    Absent,
+    /// It is not known yet.
+    Late,
+}
+
+/// What is known of the state of a resource.
+#[derive(Drop)]
+pub enum Seen {
+    Now(Value),
+    /// There is no such state.
+    Never,
+    /// It is not known yet.
+    Later,
+}
+
+/// A parameter or a variable. Names are compared whatever the case of ASCII letters.
+#[derive(Drop)]
+pub struct Named {
+    pub name: Text,
+    pub slot: Slot,
+}
+
+/// A loop around an expression.
+#[derive(Drop)]
+pub struct Looping {
+    /// An output's loop has no name.
+    pub name: Option<Text>,
+    /// Counted from 0.
+    pub index: u32,
+    /// Whether it is the loop of a resource or of an output.
+    pub main: bool,
+}
+
+/// The state of the resource at a key.
+#[derive(Drop)]
+pub struct StateAt {
+    pub key: Key,
+    pub seen: Seen,
+}
+
+/// A resource of the template.
+#[derive(Drop)]
+pub struct Spelled {
+    /// Its type and its name with a `/` between, as they are spelled.
+    pub spelling: Text,
+    pub key: Key,
+}
+
+/// A nested deployment, with its outputs.
+#[derive(Drop)]
+pub struct ModuleAt {
+    pub key: Key,
+    pub outputs: Vec<OutputAt>,
+}
+
+/// An output of a nested deployment.
+#[derive(Drop)]
+pub struct OutputAt {
+    pub name: Text,
+    /// Its type, as it is spelled.
+    pub kind: Text,
+    pub slot: Slot,
+}
+
+/// What an expression sees.
+///
+/// Of entries of one name, or of one key, the first counts. A parameter, variable or output that is
+/// not listed has no value.
+#[derive(Drop)]
+pub struct Env<'a> {
+    pub parameters: Vec<Named>,
+    pub variables: Vec<Named>,
+    /// The loops around, the nearest first.
+    pub loops: Vec<Looping>,
+    /// Where the template is deployed.
+    pub place: &'a Place,
+    pub states: Vec<StateAt>,
+    /// The resources of the template instance in which the expression stands.
+    pub names: Vec<Spelled>,
+    /// The nested deployments of that instance, and behind them those of the instances around.
+    pub modules: Vec<ModuleAt>,
+}
+
+/// What a key means that is not listed among the states.
+#[derive(Clone, Copy, PartialEq, Eq, Debug)]
+pub enum Unlisted {
+    /// There is no such state.
+    Never,
+    /// It is not known yet.
+    Later,
+}

@@ -1,0 +1,10 @@
+mod Answering
+mod Building
+mod Complete
+mod CompleteFile
+mod Keeping
+mod Open
+mod Reading
+mod Running
+mod Sound
+mod SoundClosing

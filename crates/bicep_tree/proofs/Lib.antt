@@ -1,0 +1,5 @@
+mod Examples
+pub mod FormLemmas
+mod NumberLemmas
+pub mod ViewLemmas
+mod WordLemmas

@@ -1,0 +1,9 @@
+pub mod Tree
+pub mod Nesting
+pub mod Precedence
+pub mod Terminals
+pub mod Forms
+pub mod Expressions
+pub mod Declarations
+pub mod Offset
+pub mod View

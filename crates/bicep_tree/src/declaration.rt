@@ -1,0 +1,34 @@
+// Statements of a file.
+
+use crate::expr::{Body, Decorator, Expr, Resource, Value};
+use crate::leaf::{Name, Quoted, TypeName};
+
+/// A declaration. The first number is the offset of its word; a resource has its own.
+#[derive(Drop)]
+pub enum Declaration {
+    /// `metadata name = e`
+    Metadata(usize, Name, Expr),
+    /// `targetScope = e`
+    TargetScope(usize, Expr),
+    /// `param name type`
+    Param(usize, Name, TypeName),
+    /// `param name type = e`
+    ParamWith(usize, Name, TypeName, Expr),
+    /// `var name = value`
+    Var(usize, Name, Value),
+    /// `output name type = value`
+    Output(usize, Name, TypeName, Value),
+    Resource(Resource),
+    /// `module name 'path' = body`
+    Module(usize, Name, Quoted, Body),
+}
+
+/// A declaration and the decorators before it.
+#[derive(Drop)]
+pub struct Statement {
+    pub decorators: Vec<Decorator>,
+    pub declaration: Declaration,
+}
+
+/// The statements of a file in order.
+pub type File = Vec<Statement>;

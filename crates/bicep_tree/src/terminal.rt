@@ -1,0 +1,50 @@
+// What the grammar sees in a token.
+
+use crate::leaf::{Access, Literal, Operator};
+use arm_value::Text;
+
+/// A token as the grammar takes it: a word that is a value is no name.
+#[derive(Drop)]
+pub enum Terminal {
+    Name(Text),
+    Literal(Literal),
+    /// The characters of an interpolated text before its first hole.
+    LeftPiece(Text),
+    /// The characters between two holes.
+    MiddlePiece(Text),
+    /// The characters behind the last hole.
+    RightPiece(Text),
+    /// An operator that stands between operands; `-` may stand before one.
+    Operator(Operator),
+    /// `!`
+    Not,
+    /// `.`, `.?` or `::`
+    Access(Access),
+    /// `(`
+    OpenParen,
+    /// `)`
+    CloseParen,
+    /// `[`
+    OpenBracket,
+    /// `[?`
+    SafeBracket,
+    /// `]`
+    CloseBracket,
+    /// `{`
+    OpenBrace,
+    /// `}`
+    CloseBrace,
+    /// `,`
+    Comma,
+    /// `:`
+    Colon,
+    /// `?`
+    Question,
+    /// `=`
+    Assign,
+    /// `@`
+    At,
+    Newline,
+    /// A number beyond what a literal holds.
+    Other,
+}

@@ -2,10 +2,11 @@
 use Rattle.std.proofs.Common.{◌≡◌, Some, None, refl, subst}
 use Rattle.arm_value.specs.Json.{Json}
 use Rattle.arm_ids.specs.declared.id.ResourceId.{ResourceId}
-use Rattle.reading.specs.Knowledge.{Known, Told, value, no_value, waits, told, Means, IsFinal, IsAwaited}
+use Rattle.reading.specs.Knowledge.{Known, Told, value, no_value, waits, told, Means, IsFinal}
+use Rattle.reading.specs.Knowledge.{IsAwaited}
 use Rattle.reading.proofs.Completion.{told_means}
-use Rattle.arm_eval.specs.Look.{Look, parameter, variable, output, state, Looking}
-use Rattle.arm_eval.specs.Answer.{is, is_none, needs, is_late, answer_of, answered}
+use Rattle.arm_env.specs.Look.{Look, parameter, variable, output, state, Looking}
+use Rattle.arm_env.specs.Answer.{is, is_none, needs, is_late, answer_of, answered}
 use Rattle.arm_eval.specs.Got.{IsEntry}
 
 value_told : (t : Told Look Json) (v : Json) → answer_of t ≡ is v → t ≡ value v
@@ -52,10 +53,14 @@ module _ (p : Look → Known Json) (r : Looking Json) where
   unfolding answered
   says_none e = let t = none_told (told p r) e in (t, means no_value t)
 
-  pub says_needs : (k : ResourceId) → answered p r ≡ needs k → (told p r ≡ waits (state k)) × IsAwaited p r (state k)
+  pub says_needs : (k : ResourceId) → answered p r ≡ needs k
+      → (told p r ≡ waits (state k)) × IsAwaited p r (state k)
   unfolding answered
   says_needs k e = let t = state_told (told p r) k e in (t, means (waits (state k)) t)
 
-  pub says_late : answered p r ≡ is_late → (c : Look) × (IsEntry c × ((told p r ≡ waits c) × IsAwaited p r c))
+  pub says_late : answered p r ≡ is_late
+      → (c : Look) × (IsEntry c × ((told p r ≡ waits c) × IsAwaited p r c))
   unfolding answered
   says_late e = let t = entry_told (told p r) e in (t.0, (t.1.0, (t.1.1, means (waits t.0) t.1.1)))
+
+pub ruleset says = (says_value, says_none, says_needs, says_late)

@@ -1,9 +1,8 @@
-pub mod KeyLemmas
-pub mod Answers
-pub mod Gather
-pub mod Words
-pub mod HeldLemmas
-pub mod RowLemmas
-pub mod IdLemmas
-pub mod EvalLemmas
 pub mod GotLemmas
+pub mod TextLemmas
+pub mod BracketLemmas
+pub mod TreeLemmas
+pub mod TurnLemmas
+pub mod ObjectLemmas
+pub mod NestLemmas
+pub mod RoundLemmas

@@ -3,7 +3,7 @@ use Rattle.std.specs.Prelude.{◌≡◌, Some, None}
 use Rattle.arm_value.specs.Json.{Json}
 use Rattle.arm_value.specs.View.{json}
 use Rattle.reading.specs.Knowledge.{Known, value, no_value, waits, told, IsFinal, IsAwaited}
-use Rattle.arm_eval.specs.Look.{Look, parameter, variable, output, state, Looking}
+use Rattle.arm_env.specs.Look.{Look, parameter, variable, output, state, Looking}
 use Rattle.arm_eval.specs.declared.got.Got.{Got}
 use Rattle.arm_eval.specs.declared.got.Got.TheVariants as got
 
@@ -14,7 +14,8 @@ IsEntry (variable name) = Unit {0}
 IsEntry (output k name) = Unit {0}
 IsEntry (state k) = ⊥
 
--- the value, or none, of what looks only at what is known, and then under every completion; else the first entry that is looked at and is not known yet
+-- the value, or none, of what looks only at what is known, and then under every completion; else
+-- the first entry that is looked at and is not known yet
 abbrev pub Says : (Look → Known Json) → Looking Json → Got → Type 0
 Says p r (got.Value v) = (told p r ≡ value (json v)) × IsFinal p r (Some (json v))
 Says p r got.NoValue = (told p r ≡ no_value) × IsFinal p r None

@@ -2,24 +2,17 @@
 //! in which some entries are not known yet.
 #![tactic(auto)]
 
-mod access;
-pub mod env;
-mod expression;
-mod find;
-mod function;
+mod copying;
 pub mod got;
-mod held;
-mod ids;
 pub mod laws;
-mod loops;
-mod objects;
-mod outputs;
-mod sight;
-mod stop;
-mod strict;
+mod texts;
+mod tree;
+mod whole;
 
-pub use env::{Env, Looping, ModuleAt, Named, OutputAt, Seen, Slot, Spelled, StateAt, Unlisted};
-pub use got::{Got, eval, eval_with};
+pub use arm_env::env::{
+    Env, Looping, ModuleAt, Named, OutputAt, Seen, Slot, Spelled, StateAt, Unlisted,
+};
+pub use got::{Got, eval, eval_tree, eval_tree_with, eval_with};
 
 #[cfg(test)]
 mod tests;

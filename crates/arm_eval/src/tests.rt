@@ -1,6 +1,6 @@
 use crate::{
     Env, Got, Looping, ModuleAt, Named, OutputAt, Seen, Slot, Spelled, StateAt, Unlisted, eval,
-    eval_with,
+    eval_tree, eval_with,
 };
 use arm_expr::read;
 use arm_ids::{Key, Place};
@@ -409,5 +409,109 @@ fn a_key_that_is_not_listed(rt: HostRuntime) -> Result<(), Fail> {
         found.as_str(),
         "needs /subscriptions/s1/resourcegroups/g/providers/a/b/other"
     );
+    Ok(())
+}
+
+// The first of the trees that is answered otherwise than wanted, with its answer.
+fn first_wrong_tree(alloc: Global, samples: &[(&str, &str)]) -> Result<String, Fail> {
+    let place = place(alloc)?;
+    let env = environment(alloc, &place)?;
+    for (text, wanted) in samples {
+        let tree = Value::from_json(alloc, text.as_bytes())?;
+        let found = shown(alloc, eval_tree(alloc, &env, &tree)?)?;
+        if found.as_str() != *wanted {
+            return Ok(format!(in alloc; "{text} {found}")?);
+        }
+    }
+    Ok(String::new(alloc))
+}
+
+#[test]
+fn texts_in_trees(rt: HostRuntime) -> Result<(), Fail> {
+    let samples = [
+        ("[1,true,null,\"a\"]", "[1,true,null,\"a\"]"),
+        ("\"[add(1, 2)]\"", "3"),
+        ("\"[[add(1, 2)]\"", "\"[add(1, 2)]\""),
+        ("\"[x\"", "\"[x\""),
+        ("\"[[x\"", "\"[[x\""),
+        ("\"[\"", "\"[\""),
+        ("\"x]\"", "\"x]\""),
+        ("\"[]\"", "none"),
+        ("\"[add(1,]\"", "none"),
+        ("\" [add(1, 2)]\"", "\" [add(1, 2)]\""),
+        (
+            "{\"b\":\"[variables('v')]\",\"a\":[\"[copyIndex()]\"]}",
+            "{\"a\":[5],\"b\":\"var\"}",
+        ),
+        ("{\"b\":\"[variables('gone')]\",\"a\":1}", "none"),
+        ("[\"[variables('gone')]\",\"[variables('soon')]\"]", "late"),
+    ];
+    assert_eq!(rt; first_wrong_tree(rt.alloc(), &samples)?.as_str(), "");
+    Ok(())
+}
+
+#[test]
+fn loops_in_trees(rt: HostRuntime) -> Result<(), Fail> {
+    let samples = [
+        (
+            "{\"copy\":[{\"name\":\"n\",\"count\":3,\"input\":\"[copyIndex('n')]\"}]}",
+            "{\"n\":[0,1,2]}",
+        ),
+        (
+            "{\"a\":1,\"copy\":[{\"Name\":\"n\",\"COUNT\":\"[add(1, 1)]\",\"input\":\"[add(copyIndex('N', 5), copyIndex())]\"}]}",
+            "{\"a\":1,\"n\":[10,11]}",
+        ),
+        (
+            "{\"copy\":[{\"name\":\"n\",\"count\":0,\"input\":\"[nope()]\"}]}",
+            "{\"n\":[]}",
+        ),
+        ("{\"Copy\":[1]}", "{\"Copy\":[1]}"),
+        ("{\"copy\":[1]}", "none"),
+        ("{\"copy\":{}}", "none"),
+        ("{\"copy\":[]}", "{}"),
+        ("{\"copy\":[{\"name\":\"n\",\"count\":1}]}", "none"),
+        (
+            "{\"copy\":[{\"name\":\"n\",\"count\":801,\"input\":1}]}",
+            "none",
+        ),
+        (
+            "{\"copy\":[{\"name\":\"n\",\"count\":-1,\"input\":1}]}",
+            "none",
+        ),
+        ("{\"copy\":[{\"name\":1,\"count\":1,\"input\":1}]}", "none"),
+        (
+            "{\"n\":1,\"copy\":[{\"name\":\"n\",\"count\":1,\"input\":1}]}",
+            "none",
+        ),
+        (
+            "{\"copy\":[{\"name\":\"copy\",\"count\":1,\"input\":1}]}",
+            "none",
+        ),
+        (
+            "{\"copy\":[{\"name\":\"n\",\"count\":1,\"input\":1},{\"name\":\"n\",\"count\":1,\"input\":1}]}",
+            "none",
+        ),
+        (
+            "{\"copy\":[{\"name\":\"o\",\"count\":2,\"input\":{\"copy\":[{\"name\":\"i\",\"count\":2,\"input\":\"[concat(copyIndex('o'), copyIndex('i'))]\"}]}}]}",
+            "{\"o\":[{\"i\":[\"00\",\"01\"]},{\"i\":[\"10\",\"11\"]}]}",
+        ),
+        (
+            "{\"copy\":[{\"name\":\"n\",\"count\":\"[parameters('soon')]\",\"input\":1}]}",
+            "late",
+        ),
+        (
+            "{\"copy\":[{\"name\":\"n\",\"count\":1,\"input\":1,\"mode\":1}]}",
+            "none",
+        ),
+        (
+            "{\"N\":1,\"copy\":[{\"name\":\"n\",\"count\":1,\"input\":\"[[x]\"}]}",
+            "{\"N\":1,\"n\":[\"[x]\"]}",
+        ),
+        (
+            "{\"a\":\"[variables('gone')]\",\"copy\":[{\"name\":\"n\",\"count\":1,\"input\":\"[variables('soon')]\"}]}",
+            "late",
+        ),
+    ];
+    assert_eq!(rt; first_wrong_tree(rt.alloc(), &samples)?.as_str(), "");
     Ok(())
 }

@@ -1,8 +1,9 @@
 // What holds of every reading. A law has no body: its contract is the law.
-ghost use Rattle.std.specs.Prelude.{◌≡◌, ◌++◌, Option, option_and_then};
-ghost use Rattle.reading.specs.Reading.{Reading, continued, both, joined};
-ghost use Rattle.reading.specs.World.{value_in, reads_in, reads_onward, Agree};
-ghost use Rattle.reading.specs.Knowledge.{Known, told, and_then, both_told, Means, Grows, IsToldStill};
+ghost use Rattle.std.specs.Prelude.{◌≡◌, ◌++◌, Option, Some, option_and_then};
+ghost use Rattle.reading.specs.Reading.{Reading, continued, both, joined, through};
+ghost use Rattle.reading.specs.World.{value_in, reads_in, reads_in_turn, reads_onward, Each, Agree};
+ghost use Rattle.reading.specs.Knowledge.{Known, told, blanked, and_then, both_told, Means, Grows};
+ghost use Rattle.reading.specs.Knowledge.{IsToldStill, IsSeen, IsToldThrough};
 
 /// Where worlds have the same for all cells that a reading reads, it has one value in them, and
 /// reads the same.
@@ -38,4 +39,18 @@ pub fn reading_both<C, J, A, B>()
         × (reads_in w (both r s) ≡ reads_in w r ++ reads_in w s) }
     ensures by_knowledge { (p : C → Known J) (r : Reading C J A) (s : Reading C J B)
         → told p (both r s) ≡ both_told (told p r) (told p s) }
+{}
+
+/// A reading through others has one of them in the place of each cell. In a world in which these
+/// have the values of the cells that are read, it has the same value, and reads what they read, one
+/// after another. Where exactly as much is known of each cell that is read as is told of the
+/// reading in its place, the same is told, and in place of a cell what its reading waits for.
+pub fn reading_through<C, D, J, A>()
+    ensures in_a_world { (w : D → Option J) (v : C → Option J) (h : C → Reading D J (Option J))
+        (r : Reading C J A) → Each (λ c. value_in w (h c) ≡ Some (v c)) (reads_in v r)
+        → (value_in w (through h r) ≡ value_in v r)
+        × (reads_in w (through h r) ≡ reads_in_turn w h (reads_in v r)) }
+    ensures by_knowledge { (p : D → Known J) (q : C → Known J) (h : C → Reading D J (Option J))
+        (r : Reading C J A) → Each (λ c. IsSeen (q c) (told p (h c))) (reads_in (blanked q) r)
+        → IsToldThrough (λ c. told p (h c)) (told q r) (told p (through h r)) }
 {}

@@ -1,6 +1,6 @@
 use Rattle.arm_value.specs.Json.{Json}
-use Rattle.arm_eval.specs.Look.{Look}
-use Rattle.arm_eval.specs.Meaning.{value}
+use Rattle.arm_env.specs.Look.{Look}
+use Rattle.expression_values.specs.Meaning.{value}
 use Rattle.reading.proofs.Agreement.{agree}
 use Rattle.arm_eval.proofs.laws.worlds_that_agree.Goals as goal
 

@@ -1,0 +1,64 @@
+-- When two keys are one.
+use Rattle.std.proofs.Common.{◌≡◌, ◌↔◌, ℕ, List, [], ◌∷◌, Bool, true, false, ◌&&◌, IsTrue, bytes_eq}
+use Rattle.std.proofs.Common.{refl, sym, ap, ◌∙◌}
+use Rattle.std.proofs.lemmas.Slice.Eq.{bytes_eq-Decides}
+use Rattle.arm_ids.specs.declared.id.ResourceId.{ResourceId}
+use Rattle.arm_env.specs.Find.{are_same, is_same_key}
+
+both_ways : (a b : Bool) → (a ≡ true → b ≡ true) → (b ≡ true → a ≡ true) → a ≡ b
+both_ways true true f g = refl
+both_ways true false f g = sym (f refl)
+both_ways false true f g = g refl
+both_ways false false f g = refl
+
+parts : (a b : Bool) → (a && b) ≡ true → (a ≡ true) × (b ≡ true)
+parts true true e = (refl, refl)
+parts true false e = cc
+parts false b e = cc
+
+whole : (a b : Bool) → a ≡ true → b ≡ true → (a && b) ≡ true
+whole true true e f = refl
+whole true false e f = cc
+whole false b e f = cc
+
+same_texts : (xs ys : List (List ℕ)) → are_same xs ys ≡ true → xs ≡ ys
+same_texts [] [] e = refl
+same_texts [] (y ∷ ys) e = cc
+same_texts (x ∷ xs) [] e = cc
+same_texts (x ∷ xs) (y ∷ ys) e =
+    let both = parts (bytes_eq x y) (are_same xs ys) e in
+    let first : x ≡ y = (bytes_eq-Decides x y).0 both.0 in
+    let rest : xs ≡ ys = same_texts xs ys both.1 in
+    cc
+
+texts_same : (xs : List (List ℕ)) → are_same xs xs ≡ true
+texts_same [] = refl
+texts_same (x ∷ xs) = whole (bytes_eq x x) (are_same xs xs) ((bytes_eq-Decides x x).1 refl)
+    (texts_same xs)
+
+text_same : (x : List ℕ) → bytes_eq x x ≡ true
+text_same x = (bytes_eq-Decides x x).1 refl
+
+record_same : (i j : ResourceId) → i.subscription ≡ j.subscription → i.group ≡ j.group
+    → i.types ≡ j.types → i.names ≡ j.names → i ≡ j
+record_same i j s g t n = λ k. record { subscription = s k; group = g k; types = t k; names = n k }
+
+pub key_same : (i : ResourceId) → is_same_key i i ≡ true
+key_same i =
+    whole _ _ (text_same i.subscription)
+    (whole _ _ (text_same i.group) (whole _ _ (texts_same i.types) (texts_same i.names)))
+
+pub one_key : (i j : ResourceId) → is_same_key i j ≡ true → i ≡ j
+one_key i j e =
+    let a = parts (bytes_eq i.subscription j.subscription) _ e in
+    let b = parts (bytes_eq i.group j.group) _ a.1 in
+    let c = parts (are_same i.types j.types) (are_same i.names j.names) b.1 in
+    record_same i j ((bytes_eq-Decides _ _).0 a.0) ((bytes_eq-Decides _ _).0 b.0)
+    (same_texts _ _ c.0) (same_texts _ _ c.1)
+
+equal_tests : (i j : ResourceId) → i ≡ j → is_same_key i j ≡ true
+equal_tests i j e = ap (λ k. is_same_key i k) (sym e) ∙ key_same i
+
+-- a test that holds where two keys are one
+pub same_key : (r : Bool) (i j : ResourceId) → IsTrue r ↔ (i ≡ j) → r ≡ is_same_key i j
+same_key r i j h = both_ways r _ (λ e. equal_tests i j (h.0 e)) (λ e. h.1 (one_key i j e))

@@ -1,0 +1,6 @@
+pub mod KeyLemmas
+pub mod Answers
+pub mod Gather
+pub mod Words
+pub mod HeldLemmas
+pub mod IdLemmas

@@ -1,0 +1,11 @@
+pub mod Look
+pub mod Part
+pub mod Loop
+pub mod Id
+pub mod Object
+pub mod Find
+pub mod Names
+pub mod Held
+pub mod Known
+pub mod Answer
+pub mod Sight

@@ -1,0 +1,101 @@
+// The functions of the evaluator, and their names.
+ghost use Rattle.std.specs.Prelude.{◌≡◌, chars, map, option_map};
+ghost use Rattle.arm_value.specs.View.{json};
+ghost use Rattle.arm_value.specs.Look.{is_same_folded};
+ghost use Rattle.arm_env.specs.Names.{lazy_named, placed_named, strict_named};
+
+use arm_value::{Text, Value, folded_eq};
+
+/// A function that looks at its arguments only as far as needed.
+#[derive(Clone, Copy, PartialEq, Eq, Debug)]
+pub enum Lazy {
+    If,
+    And,
+    Or,
+    Coalesce,
+}
+
+/// A function of the values of all its arguments that needs what stands around it.
+#[derive(Clone, Copy, PartialEq, Eq, Debug)]
+pub enum Strict {
+    Parameters,
+    Variables,
+    Reference,
+    CopyIndex,
+    ResourceId,
+    SubscriptionResourceId,
+    ResourceGroup,
+    Subscription,
+    Deployment,
+}
+
+/// What `reference` asks of a state: its properties, or the whole.
+#[derive(Clone, Copy, PartialEq, Eq, Debug)]
+pub enum Asked {
+    Properties,
+    Whole,
+}
+
+/// Whether the name is the word but for the case of ASCII letters.
+#[tactic(auto, using(function_numbers::proofs::WordLemmas::is_folded))]
+pub fn is_word(name: &Text, word: &str) -> bool
+    ensures { result ≡ is_same_folded name.now (chars word.now) }
+{
+    folded_eq(name.as_str(), word)
+}
+
+/// The function of the name that looks at its arguments only as far as needed.
+#[tactic(auto, unfolding(crate::specs::Names::lazy_named), using(crate::proofs::Words::words))]
+pub fn lazy_named(name: &Text) -> Option<Lazy>
+    ensures { result ≡ lazy_named name.now }
+{
+    if is_word(name, "if") {
+        Some(Lazy::If)
+    } else if is_word(name, "and") {
+        Some(Lazy::And)
+    } else if is_word(name, "or") {
+        Some(Lazy::Or)
+    } else if is_word(name, "coalesce") {
+        Some(Lazy::Coalesce)
+    } else {
+        None
+    }
+}
+
+// The function of the name that needs the place.
+#[tactic(auto, unfolding(crate::specs::Names::placed_named), using(crate::proofs::Words::words))]
+fn placed_named(name: &Text) -> Option<Strict>
+    ensures { result ≡ placed_named name.now }
+{
+    if is_word(name, "resourceId") {
+        Some(Strict::ResourceId)
+    } else if is_word(name, "subscriptionResourceId") {
+        Some(Strict::SubscriptionResourceId)
+    } else if is_word(name, "resourceGroup") {
+        Some(Strict::ResourceGroup)
+    } else if is_word(name, "subscription") {
+        Some(Strict::Subscription)
+    } else if is_word(name, "deployment") {
+        Some(Strict::Deployment)
+    } else {
+        None
+    }
+}
+
+/// The function of the name that needs what stands around it.
+#[tactic(auto, unfolding(crate::specs::Names::strict_named), using(crate::proofs::Words::words))]
+pub fn strict_named(name: &Text) -> Option<Strict>
+    ensures { result ≡ strict_named name.now }
+{
+    if is_word(name, "parameters") {
+        Some(Strict::Parameters)
+    } else if is_word(name, "variables") {
+        Some(Strict::Variables)
+    } else if is_word(name, "reference") {
+        Some(Strict::Reference)
+    } else if is_word(name, "copyIndex") {
+        Some(Strict::CopyIndex)
+    } else {
+        placed_named(name)
+    }
+}

@@ -1,0 +1,139 @@
+// What an expression gives to an access right behind it.
+ghost use Rattle.std.specs.Prelude.{◌≡◌, ◌∷◌, [], true, chars, Some, None, map, option_map, IfOk};
+ghost use Rattle.std.specs.Prelude.{MatchOption, ◌≤◌, codes, nat_le, if◌then◌else◌};
+ghost use Rattle.arm_value.specs.Json.{Json, nesting, put, put_each, text, array, object, row};
+ghost use Rattle.arm_value.specs.Json.{pairs};
+ghost use Rattle.arm_value.specs.Look.{fold};
+ghost use Rattle.arm_value.specs.View.{json, member};
+ghost use Rattle.reading.specs.Reading.{Reading, continued, pure, done};
+ghost use Rattle.arm_env.specs.Part.{item_at, part_of, kept};
+ghost use Rattle.arm_env.specs.Object.{object_of};
+ghost use Rattle.arm_env.specs.Answer.{given, plain_answer, Gives};
+ghost use Rattle.arm_env.specs.Sight.{held_of};
+
+use crate::env::OutputAt;
+use crate::stop::Stop;
+use arm_ids::Key;
+use arm_value::{Field, Fields, Items, OutOfMemory, Text, Value, folded_eq};
+use std::alloc::Global;
+
+/// The deepest nesting of the value of a part.
+const MOST_NESTING: u32 = 100;
+
+/// What an expression gives to an access right behind it.
+#[derive(Drop)]
+pub enum Held<'a> {
+    /// A value that was made.
+    Owned(Value),
+    /// A value of the environment, or a part of one.
+    Lent(&'a Value),
+    /// A whole state.
+    Whole(&'a Value),
+    /// The nested deployment at a key.
+    Deployment(Key),
+    /// Its outputs.
+    Outputs(Key),
+    /// One of its outputs.
+    Output(Key, &'a OutputAt),
+}
+
+/// The value, where it nests at most 100 deep.
+pub fn keep(value: Value) -> Result<Value, Stop>
+    ensures { Gives json result (given (kept (json value))) }
+{
+    if value.nesting() <= MOST_NESTING {
+        Ok(value)
+    } else {
+        Err(Stop::NoValue)
+    }
+}
+
+/// A copy of the value, where it nests at most 100 deep.
+pub fn keep_copy(alloc: Global, value: &Value) -> Result<Value, Stop>
+    ensures { Gives json result (given (kept (json value.now))) }
+{
+    if value.nesting() <= MOST_NESTING {
+        Ok(value.copy(alloc)?)
+    } else {
+        Err(Stop::NoValue)
+    }
+}
+
+/// A value that was made, for an access behind it.
+pub fn own<'a>(value: Option<Value>) -> Result<Held<'a>, Stop>
+    ensures { Gives held_of result (plain_answer (option_map json value)) }
+{
+    match value {
+        Some(value) => if value.nesting() <= MOST_NESTING {
+            Ok(Held::Owned(value))
+        } else {
+            Err(Stop::NoValue)
+        },
+        None => Err(Stop::NoValue),
+    }
+}
+
+/// A value of the environment, for an access behind it.
+pub fn lend<'a>(value: Option<&'a Value>) -> Result<Held<'a>, Stop>
+    ensures { Gives held_of result (plain_answer (option_map (λ v. json v.now) value.entry)) }
+{
+    match value {
+        Some(value) => if value.nesting() <= MOST_NESTING {
+            Ok(Held::Lent(value))
+        } else {
+            Err(Stop::NoValue)
+        },
+        None => Err(Stop::NoValue),
+    }
+}
+
+fn item_at(items: &Items, place: i64) -> Option<&Value>
+    ensures { option_map (λ v. json v.now) result ≡ item_at place items.now }
+{
+    if place < 0 {
+        return None;
+    }
+    items.at(place as usize)
+}
+
+#[tactic(auto, using(function_numbers::proofs::RowLemmas::items_of_row))]
+fn item_in<'a>(items: &'a Items, index: &Value) -> Option<&'a Value>
+    ensures { option_map (λ v. json v.now) result
+        ≡ part_of (array (row items.now)) (json index.now) }
+{
+    match index {
+        Value::Int(place) => item_at(items, *place),
+        _ => None,
+    }
+}
+
+fn member_in<'a>(fields: &'a Fields, index: &Value) -> Option<&'a Value>
+    ensures { option_map (λ v. json v.now) result
+        ≡ part_of (object (pairs fields.now)) (json index.now) }
+{
+    match index {
+        Value::Text(name) => fields.look(name.as_str()),
+        _ => None,
+    }
+}
+
+/// The member of an object by a name, or the item of an array at a place.
+pub fn part_of<'a>(value: &'a Value, index: &Value) -> Option<&'a Value>
+    ensures { option_map (λ v. json v.now) result ≡ part_of (json value.now) (json index.now) }
+{
+    match value {
+        Value::Array(items) => item_in(items, index),
+        Value::Object(fields) => member_in(fields, index),
+        _ => None,
+    }
+}
+
+/// A copy of a part of a value that was made.
+pub fn own_part<'a>(alloc: Global, value: Value, index: &Value) -> Result<Held<'a>, Stop>
+    ensures { Gives held_of result (plain_answer (part_of (json value) (json index.now))) }
+{
+    match part_of(&value, index) {
+        Some(part) => own(Some(part.copy(alloc)?)),
+        None => Err(Stop::NoValue),
+    }
+}

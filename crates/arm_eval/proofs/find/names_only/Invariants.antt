@@ -1,6 +1,0 @@
-use Rattle.std.proofs.Common.{◌≡◌, drop}
-use Rattle.arm_eval.specs.Find.{names_only}
-use Rattle.arm_eval.proofs.find.names_only.Given as goal
-
-abbrev pub invariant-loop-resource : goal.invariant-loop-resource
-invariant-loop-resource l = names_only l.text l.key (drop l.resource-index l.names) ≡ names_only l.text l.key l.names

@@ -1,9 +1,0 @@
-use Rattle.std.proofs.Common.{◌≡◌, take, map, true}
-use Rattle.arm_eval.specs.Held.{output_member}
-use Rattle.arm_eval.specs.Known.{declared}
-use Rattle.arm_eval.specs.Answer.{gathered, so_far}
-use Rattle.arm_eval.specs.Sight.{known_by}
-use Rattle.arm_eval.proofs.outputs.look_at_each.Given as goal
-
-abbrev pub invariant-loop-output : goal.invariant-loop-output
-invariant-loop-output l = gathered (λ _. true) (known_by l.sight) (map (λ x. output_member l.key (declared x)) (take l.output-index l.outputs)) ≡ so_far l.complete true

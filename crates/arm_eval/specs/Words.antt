@@ -1,0 +1,79 @@
+-- What the code's words for texts and trees stand for.
+use Rattle.std.specs.Prelude.{◌<◌, ◌++◌, ℕ, List, [], ◌∷◌, map, Option, Some, None, option_map, option_and_then, ◌&&◌, if◌then◌else◌}
+use Rattle.std.specs.Str.{chars}
+use Rattle.arm_value.specs.Json.{Json, array, object, row, pairs, items, Member, put_each, nesting}
+use Rattle.arm_value.specs.View.{json}
+use Rattle.arm_value.specs.declared.value.Value.{Value}
+use Rattle.arm_value.specs.declared.value.Field.{Field}
+use Rattle.reading.specs.Reading.{joined}
+use Rattle.arm_env.specs.Look.{Looking, Surroundings}
+use Rattle.arm_env.specs.Part.{kept}
+use Rattle.arm_eval.specs.Trees.{Part, Copy, tree_value, own_member, copied, copy_in, concat, names_of, are_new, differ, is_copy}
+use Rattle.arm_eval.specs.declared.copying.Copying.{Copying}
+use Rattle.arm_eval.specs.declared.whole.Own.{Own}
+use Rattle.arm_eval.specs.declared.whole.Own.TheVariants as own
+use Rattle.arm_eval.specs.Text as text
+use Rattle.arm_eval.specs.declared.texts.Said as saids
+use Rattle.arm_eval.specs.declared.texts.Said.TheVariants as said
+
+abbrev pub said_of : saids.Said → text.Said
+said_of (said.Plain s) = text.plain (chars s.now)
+said_of said.Expression = text.expression
+
+-- the loop that the code's parts are
+abbrev pub copying_of : Copying → Copy
+copying_of c = record { name = c.name.now; count = tree_value (json c.count.now); input = tree_value (json c.input.now) }
+
+-- its count and its input nest less than this
+abbrev pub NestsBelow : ℕ → Copying → Type 0
+NestsBelow n c = (nesting (json c.count.now) < n) × (nesting (json c.input.now) < n)
+
+abbrev pub tree_in : Part → Json
+tree_in p = p.tree
+
+-- what trees, members and loops of the code give
+abbrev pub values_of : Surroundings → List Value → List (Looking Json)
+values_of here vs = map (λ v. tree_value (json v) here) vs
+
+abbrev pub owns_of : Surroundings → List Field → List (Looking (List Member))
+owns_of here fs = map (λ f. own_member f.name (tree_value (json f.value) here)) fs
+
+abbrev pub copies_of : Surroundings → List Value → List (Looking Member)
+copies_of here vs = map (λ v. copied here (copy_in (json v))) vs
+
+-- the members that an object's own member is
+abbrev pub own_of : List ℕ → Own → List Member
+own_of name own.Nothing = []
+own_of name (own.Value v) = (name, json v) ∷ []
+
+-- own members, put in their order
+abbrev pub put_all : List (List Member) → List Member
+put_all mss = put_each [] (concat mss)
+
+-- one more behind the others, or among them, where all are there
+abbrev pub with_last : {A : Type 0} → Option (List A) → Option A → Option (List A)
+with_last xs x = option_map (λ p. p.0 ++ p.1 ∷ []) (joined xs x)
+
+abbrev pub with_each : Option (List Member) → Option (List Member) → Option (List Member)
+with_each ms ns = option_map (λ p. put_each p.0 p.1) (joined ms ns)
+
+-- the array of values that are all there
+abbrev pub kept_array : Option (List Json) → Option Json
+kept_array js = option_and_then (λ js. kept (array (row js))) js
+
+-- the object of own members and of given ones, whose names are new and differ
+abbrev pub kept_object : List Member → List Member → Option Json
+kept_object own given = kept (object (pairs (put_each own given)))
+
+abbrev pub whole_object : List (List ℕ) → Option (List Member) → List Member → Option Json
+whole_object names own given = option_and_then (λ own. if are_new names (names_of given) && differ (names_of given) then kept_object own given else None) own
+
+-- the trees of an array
+abbrev pub trees_in : Json → Option (List Json)
+trees_in (array js) = Some (items js)
+trees_in _ = None
+
+-- the tree of the first member `copy`
+abbrev pub copy_tree : List Member → Option Json
+copy_tree [] = None
+copy_tree (m ∷ ms) = if is_copy m.0 then Some m.1 else copy_tree ms

@@ -1,0 +1,209 @@
+// The loops that the member `copy` of an object holds, and the names that they give.
+ghost use Rattle.std.specs.Prelude.{◌≡◌, ◌≤◌, ◌<◌, ◌∷◌, ℕ, suc, List, length, chars, bytes_eq, map, option_map, IfOk, MatchOption, codes};
+ghost use Rattle.std.specs.List.{list_any};
+ghost use Rattle.arm_value.specs.Json.{nesting, items_nesting, members_nesting, pairs};
+ghost use Rattle.arm_value.specs.View.{json, member};
+ghost use Rattle.arm_eval.specs.Trees as trees;
+ghost use Rattle.arm_eval.specs.Trees.{names_of, parts, looping_of};
+ghost use Rattle.arm_eval.specs.Words.{copying_of, NestsBelow, tree_in, trees_in, copy_tree};
+
+use arm_env::env::Looping;
+use arm_env::function::is_word;
+use arm_value::{Field, OutOfMemory, Text, Value};
+use function_numbers::kinds::text_of;
+use std::alloc::Global;
+
+/// Whether it is the name of the member that holds loops.
+pub(crate) fn is_copy(name: &Text) -> bool
+    ensures { result ≡ trees.is_copy name.now }
+{
+    name.as_str() == "copy"
+}
+
+/// The tree of the member `copy`.
+pub(crate) fn copy_tree(fields: &[Field]) -> Option<&Value>
+    ensures tree { option_map (λ v. json v.now) result ≡ copy_tree (map member fields.now) }
+    ensures nests { MatchOption result (Unit {0})
+        (λ v. nesting (json v.now) ≤ members_nesting (map member fields.now)) }
+{
+    for field in fields {
+        if is_copy(&field.name) {
+            return Some(&field.value);
+        }
+    }
+    None
+}
+
+/// The trees of an array.
+pub(crate) fn trees_in(tree: &Value) -> Option<&[Value]>
+    ensures trees { option_map (λ vs. map json vs.now) result ≡ trees_in (json tree.now) }
+    ensures nests { MatchOption result (Unit {0})
+        (λ vs. items_nesting (map json vs.now) < nesting (json tree.now)) }
+{
+    match tree {
+        Value::Array(items) => Some(items.as_slice()),
+        _ => None,
+    }
+}
+
+// The value of the first member of the name, whatever the case of its letters.
+#[tactic(auto, using(arm_value::proofs::JsonLemmas::member_nests))]
+fn part_named<'a>(fields: &'a [Field], name: &str) -> Option<&'a Value>
+    ensures tree { option_map (λ v. json v.now) result ≡ option_map tree_in
+        (trees.part_named (chars name.now) (parts (pairs (map member fields.now)))) }
+    ensures nests { MatchOption result (Unit {0})
+        (λ v. nesting (json v.now) ≤ members_nesting (map member fields.now)) }
+{
+    for field in fields {
+        if is_word(&field.name, name) {
+            return Some(&field.value);
+        }
+    }
+    None
+}
+
+/// A loop that gives an object a member.
+#[derive(Drop)]
+pub(crate) struct Copying<'a> {
+    pub(crate) name: &'a Text,
+    pub(crate) count: &'a Value,
+    pub(crate) input: &'a Value,
+}
+
+// The loop of a name, by the other two members.
+fn with_name<'a>(fields: &'a [Field], name: &'a Text) -> Option<Copying<'a>>
+    ensures copy { option_map copying_of result ≡ trees.with_name name.now
+        (trees.part_named (codes "count") (parts (pairs (map member fields.now))))
+        (trees.part_named (codes "input") (parts (pairs (map member fields.now)))) }
+    ensures nests { MatchOption result (Unit {0})
+        (λ c. NestsBelow (suc (members_nesting (map member fields.now))) c) }
+{
+    match part_named(fields, "count") {
+        Some(count) => match part_named(fields, "input") {
+            Some(input) => Some(Copying { name, count, input }),
+            None => None,
+        },
+        None => None,
+    }
+}
+
+// The loop that members are, whose name is a text.
+fn loop_of<'a>(fields: &'a [Field]) -> Option<Copying<'a>>
+    ensures copy { option_map copying_of result
+        ≡ trees.copy_by (parts (pairs (map member fields.now))) }
+    ensures nests { MatchOption result (Unit {0})
+        (λ c. NestsBelow (suc (members_nesting (map member fields.now))) c) }
+{
+    match part_named(fields, "name") {
+        Some(name) => match text_of(name) {
+            Some(name) => with_name(fields, name),
+            None => None,
+        },
+        None => None,
+    }
+}
+
+/// The loop that an object of exactly a name, a count and an input is.
+pub(crate) fn copy_of<'a>(tree: &'a Value) -> Option<Copying<'a>>
+    ensures copy { option_map copying_of result ≡ trees.copy_in (json tree.now) }
+    ensures nests { MatchOption result (Unit {0}) (λ c. NestsBelow (nesting (json tree.now)) c) }
+{
+    match tree {
+        Value::Object(fields) => if fields.len() == 3 {
+            loop_of(fields.as_slice())
+        } else {
+            None
+        },
+        _ => None,
+    }
+}
+
+/// A count from 0 to 800.
+pub(crate) fn count_of(value: &Value) -> Option<u32>
+    ensures { result ≡ trees.count_of (json value.now) }
+{
+    match value {
+        Value::Int(number) => if 0 <= *number && *number <= 800 {
+            Some(*number as u32)
+        } else {
+            None
+        },
+        _ => None,
+    }
+}
+
+/// The loops inside a loop of a name, which has the index 0.
+pub(crate) fn loops_inside(
+    alloc: Global,
+    loops: &[Looping],
+    name: &Text,
+) -> Result<Vec<Looping>, OutOfMemory>
+    ensures { IfOk result (λ ls. ls.items ≡ looping_of name.now 0 ∷ loops.now) }
+{
+    let mut inside = Vec::new(alloc);
+    inside.push(Looping {
+        name: Some(name.copy(alloc)?),
+        index: 0,
+        main: false,
+    })?;
+    for looping in loops {
+        let name = match &looping.name {
+            Some(name) => Some(name.copy(alloc)?),
+            None => None,
+        };
+        inside.push(Looping {
+            name,
+            index: looping.index,
+            main: looping.main,
+        })?;
+    }
+    Ok(inside)
+}
+
+/// Lets the nearest loop be at the index.
+pub(crate) fn turn_to(loops: &mut Vec<Looping>, index: u32)
+    requires { 0 < length loops.old.items }
+    ensures { (name : List ℕ) (before : ℕ) (around : List Looping)
+        → loops.old.items ≡ looping_of name before ∷ around
+        → loops.new.items ≡ looping_of name index ∷ around }
+{
+    loops[0].index = index;
+}
+
+fn is_listed(fields: &[Field], name: &Text) -> bool
+    ensures { result ≡ list_any (bytes_eq name.now) (names_of (map member fields.now)) }
+{
+    for field in fields {
+        if name.same(&field.name) {
+            return true;
+        }
+    }
+    false
+}
+
+/// Whether none of the names is one of the object's.
+pub(crate) fn are_new(fields: &[Field], given: &[Field]) -> bool
+    ensures { result
+        ≡ trees.are_new (names_of (map member fields.now)) (names_of (map member given.now)) }
+{
+    for field in given {
+        if is_listed(fields, &field.name) {
+            return false;
+        }
+    }
+    true
+}
+
+/// Whether the names differ.
+pub(crate) fn differ(given: &[Field]) -> bool
+    ensures { result ≡ trees.differ (names_of (map member given.now)) }
+{
+    let mut rest = given;
+    while let [first, others @ ..] = rest {
+        if is_listed(others, &first.name) {
+            return false;
+        }
+        rest = others;
+    }
+    true
+}

@@ -1,0 +1,208 @@
+-- Expressions of the code, form by form.
+use Rattle.std.proofs.Common.{◌≡◌, ◌<◌, ◌+◌, ℕ, suc, ℤ, List, [], ◌∷◌, map, drop, length, get_or}
+use Rattle.std.proofs.Common.{false, Option, None, nat_le, refl, sym, ap, ◌∙◌, subst, arith}
+use Rattle.std.proofs.Common.{add-one}
+use Rattle.std.proofs.Math.Seq.{drop-cons}
+use Rattle.std.proofs.lemmas.Bool.Decides.{nat_tests}
+use Rattle.std.specs.Prelude.{if◌then◌else◌}
+use Rattle.std.specs.declared.vec.Vec.{Vec}
+use Rattle.std.specs.declared.boxed.Box.{Box}
+use Rattle.std.specs.declared.alloc.Global.{Global}
+use Rattle.arm_value.specs.Json.{Json, text, int}
+use Rattle.arm_expr.specs.Tree as tree
+use Rattle.arm_expr.specs.Tree.{trees}
+use Rattle.arm_expr.specs.View.{tree_of}
+use Rattle.arm_expr.specs.declared.expr.Expr.{Expr}
+use Rattle.arm_expr.specs.declared.expr.Expr.TheVariants as e
+use Rattle.arm_expr.proofs.ViewLemmas.{tree_of-Text, tree_of-Int, tree_of-Call, tree_of-Member}
+use Rattle.arm_expr.proofs.ViewLemmas.{tree_of-Index}
+use Rattle.reading.specs.Reading.{pure, none, continued, both}
+use Rattle.reading.specs.Knowledge.{Known}
+use Rattle.arm_env.specs.Look.{Look, Looking, Surroundings}
+use Rattle.arm_env.specs.Held.{Held, held_value}
+use Rattle.expression_values.specs.Meaning.{called, held, values, value, indexed, outcome}
+use Rattle.expression_values.specs.Row.{if_row, chosen}
+use Rattle.function_numbers.specs.Kinds.{truth_of}
+use Rattle.arm_env.specs.Answer.{Answer, is, is_none, needs, is_late, answered, outcome_answer}
+use Rattle.arm_env.specs.Answer.{Stops}
+use Rattle.arm_env.specs.declared.stop.Stop.TheVariants as stop
+use Rattle.expression_values.specs.Args.{outs}
+use Rattle.arm_env.specs.declared.stop.Stop.{Stop}
+use Rattle.arm_env.proofs.Answers.{both_answers, answered-done, answered-both}
+use Rattle.expression_values.proofs.Answers.{answered-outcome}
+use Rattle.arm_env.proofs.Answers.{goes, stops}
+
+values-outs : (here : Surroundings) (es : List Expr)
+    → values here (trees (map tree_of es)) ≡ outs here es
+values-outs here [] = refl
+values-outs here (x ∷ xs) = ap (λ os. value here (tree_of x) ∷ os) (values-outs here xs)
+
+pub held-Text : (here : Surroundings) (s : List ℕ)
+    → held here (tree_of (e.Text s)) ≡ held_value (pure (text s))
+held-Text here s = ap (held here) (tree_of-Text s)
+
+pub held-Int : (here : Surroundings) (z : ℤ)
+    → held here (tree_of (e.Int z)) ≡ held_value (pure (int z))
+held-Int here z = ap (held here) (tree_of-Int z)
+
+pub held-Call : (here : Surroundings) (name : List ℕ) (es : Vec Expr Global)
+    → held here (tree_of (e.Call name es)) ≡ called here name (outs here es.items)
+held-Call here name es = ap (held here) (tree_of-Call name es)
+    ∙ ap (called here name) (values-outs here es.items)
+
+pub held-Member : (here : Surroundings) (x : Box Expr Global) (name : List ℕ)
+    → held here (tree_of (e.Member x name)) ≡ held here (tree.member (tree_of x.value) name)
+held-Member here x name = ap (held here) (tree_of-Member x name)
+
+pub held-Index : (here : Surroundings) (x i : Box Expr Global)
+    → held here (tree_of (e.Index x i)) ≡ held here (tree.index (tree_of x.value) (tree_of i.value))
+held-Index here x i = ap (held here) (tree_of-Index x i)
+
+pub ruleset meanings = (held-Text, held-Int, held-Call, held-Member, held-Index)
+
+-- an index, by what is answered of both parts
+index_is : (A B : Type 0) (s : Answer A) (t : Answer B) (o : A) (u : B) → s ≡ is o → t ≡ is u
+    → both_answers s t ≡ is (o, u)
+index_is A B (is x) (is y) o u e f =
+    let a : x ≡ o = cc in
+    let b : y ≡ u = cc in
+    λ i. is (a i, b i)
+index_is A B (is x) is_none o u e f = absurd cc
+index_is A B (is x) (needs k) o u e f = absurd cc
+index_is A B (is x) is_late o u e f = absurd cc
+index_is A B is_none t o u e f = absurd cc
+index_is A B (needs k) t o u e f = absurd cc
+index_is A B is_late t o u e f = absurd cc
+
+both_out : (p : Look → Known Json) (r : Looking Held) (q : Looking Json)
+    → answered p (both (outcome r) (outcome q))
+    ≡ both_answers (outcome_answer (answered p r)) (outcome_answer (answered p q))
+both_out p r q = answered-both p (outcome r) (outcome q)
+    ∙ (λ i. both_answers (answered-outcome p r i) (answered-outcome p q i))
+
+pub index_told : (p : Look → Known Json) (here : Surroundings) (r : Looking Held) (q : Looking Json)
+    (h : Option Held) (o : Option Json) → outcome_answer (answered p r) ≡ is h
+    → outcome_answer (answered p q) ≡ is o
+    → answered p (continued (both (outcome r) (outcome q)) (λ z. indexed here z.0 z.1))
+    ≡ answered p (indexed here h o)
+index_told p here r q h o e f =
+    goes p (both (outcome r) (outcome q)) (λ z. indexed here z.0 z.1) (h, o)
+    (both_out p r q ∙ index_is (Option Held) (Option Json) _ _ h o e f)
+
+-- the first of both that stops
+first_stops : (A B : Type 0) (s : Stop) (t : Answer A) (u : Answer B) → Stops s (outcome_answer t)
+    → Stops s (both_answers (outcome_answer t) u)
+first_stops A B stop.NoValue (is x) u h = absurd cc
+first_stops A B stop.NoValue is_none u h = absurd cc
+first_stops A B stop.NoValue (needs k) u h = absurd cc
+first_stops A B stop.NoValue is_late u h = absurd cc
+first_stops A B (stop.Needs l) (is x) u h = absurd cc
+first_stops A B (stop.Needs l) is_none u h = absurd cc
+first_stops A B (stop.Needs l) (needs k) u h = cc
+first_stops A B (stop.Needs l) is_late u h = absurd cc
+first_stops A B stop.Late (is x) u h = absurd cc
+first_stops A B stop.Late is_none u h = absurd cc
+first_stops A B stop.Late (needs k) u h = absurd cc
+first_stops A B stop.Late is_late u h = refl
+first_stops A B stop.OutOfMemory t u h = tt
+
+second_stops : (A B : Type 0) (s : Stop) (t : Answer A) (u : Answer B) (o : A) → t ≡ is o
+    → Stops s (outcome_answer u) → Stops s (both_answers t (outcome_answer u))
+second_stops A B s is_none u o e h = absurd cc
+second_stops A B s (needs k) u o e h = absurd cc
+second_stops A B s is_late u o e h = absurd cc
+second_stops A B stop.NoValue (is x) (is y) o e h = absurd cc
+second_stops A B stop.NoValue (is x) is_none o e h = absurd cc
+second_stops A B stop.NoValue (is x) (needs k) o e h = absurd cc
+second_stops A B stop.NoValue (is x) is_late o e h = absurd cc
+second_stops A B (stop.Needs l) (is x) (is y) o e h = absurd cc
+second_stops A B (stop.Needs l) (is x) is_none o e h = absurd cc
+second_stops A B (stop.Needs l) (is x) (needs k) o e h = cc
+second_stops A B (stop.Needs l) (is x) is_late o e h = absurd cc
+second_stops A B stop.Late (is x) (is y) o e h = absurd cc
+second_stops A B stop.Late (is x) is_none o e h = absurd cc
+second_stops A B stop.Late (is x) (needs k) o e h = absurd cc
+second_stops A B stop.Late (is x) is_late o e h = refl
+second_stops A B stop.OutOfMemory (is x) u o e h = tt
+
+pub base_stops_index : (s : Stop) (p : Look → Known Json) (here : Surroundings) (r : Looking Held)
+    (q : Looking Json) → Stops s (outcome_answer (answered p r))
+    → Stops s (answered p (continued (both (outcome r) (outcome q)) (λ z. indexed here z.0 z.1)))
+base_stops_index s p here r q h =
+    let P : Answer (Option Held × Option Json) → Type 0 = Stops s in
+    stops s p (both (outcome r) (outcome q)) (λ z. indexed here z.0 z.1)
+    (subst P (sym (both_out p r q))
+    (first_stops Held (Option Json) s (answered p r) (outcome_answer (answered p q)) h))
+
+pub index_stops : (s : Stop) (p : Look → Known Json) (here : Surroundings) (r : Looking Held)
+    (q : Looking Json) (h : Option Held) → outcome_answer (answered p r) ≡ is h
+    → Stops s (outcome_answer (answered p q))
+    → Stops s (answered p (continued (both (outcome r) (outcome q)) (λ z. indexed here z.0 z.1)))
+index_stops s p here r q h e f =
+    let P : Answer (Option Held × Option Json) → Type 0 = Stops s in
+    stops s p (both (outcome r) (outcome q)) (λ z. indexed here z.0 z.1)
+    (subst P (sym (both_out p r q))
+    (second_stops (Option Held) Json s (outcome_answer (answered p r)) (answered p q) h e f))
+
+-- the first of what is left
+pub left : {A : Type 0} (xs : List A) (i : ℕ) (x : A) → i < length xs → x ≡ get_or xs i x
+    → drop i xs ≡ x ∷ drop (i + 1) xs
+left xs i x h e = rw (add-one, drop-cons xs i x h) (ap (λ y. y ∷ drop (suc i) xs) (sym e))
+
+-- a turn of a loop over the arguments of a row
+pub turn : (row : List (Looking Json) → Looking Json) (p : Look → Known Json) (here : Surroundings)
+    (es : List Expr) (i : ℕ) (x : Expr) → i < length es → x ≡ get_or es i x
+    → answered p (row (outs here es)) ≡ answered p (row (outs here (drop i es)))
+    → answered p (row (outs here es)) ≡ answered p
+    (row (value here (tree_of x) ∷ outs here (drop (i + 1) es)))
+turn row p here es i x l e so_far = so_far
+    ∙ ap (λ xs. answered p (row (outs here xs))) (left es i x l e)
+
+-- a part that stops the whole
+pub stops_at : {A B : Type 0} (p : Look → Known Json) (s : Stop) (t : Answer B) (o : Looking A)
+    (f : A → Looking B) → t ≡ answered p (continued o f) → Stops s (answered p o) → Stops s t
+stops_at {A} {B} p s t o f e h = let P : Answer B
+    → Type 0 = Stops s in subst P (sym e) (stops s p o f h)
+
+length-outs : (here : Surroundings) (es : List Expr) → length (outs here es) ≡ length es
+length-outs here [] = refl
+length-outs here (x ∷ xs) = ap suc (length-outs here xs)
+
+not_le : (k n : ℕ) → n < k → nat_le k n ≡ false
+not_le k n h = grind (arith, nat_tests)
+
+-- fewer than k arguments
+pub too_few : (k : ℕ) (p : Look → Known Json) (here : Surroundings) (es : List Expr)
+    (r : Looking Json) → length es < k
+    → answered p (if nat_le k (length (outs here es)) then r else none) ≡ is_none
+too_few k p here es r h =
+    ap (λ n. answered p (if nat_le k n then r else none)) (length-outs here es)
+    ∙ ap (λ b. answered p (if b then r else none)) (not_le k (length es) h) ∙ answered-done p None
+
+-- three in all
+pub three : {A : Type 0} (xs : List A) (a b c : A) → length xs ≡ 3 → a ≡ get_or xs 0 a
+    → b ≡ get_or xs 1 b → c ≡ get_or xs 2 c → xs ≡ a ∷ b ∷ c ∷ []
+three [] a b c h p q r = absurd (omega arith)
+three (x ∷ []) a b c h p q r = absurd (omega arith)
+three (x ∷ y ∷ []) a b c h p q r = absurd (omega arith)
+three (x ∷ y ∷ z ∷ []) a b c h p q r = cc
+three (x ∷ y ∷ z ∷ u ∷ xs) a b c h p q r = absurd (omega arith)
+
+-- another count than three
+pub if_wrong : (p : Look → Known Json) (here : Surroundings) (es : List Expr) → (length es ≡ 3 → ⊥)
+    → answered p (if_row (outs here es)) ≡ is_none
+if_wrong p here [] h = answered-done p None
+if_wrong p here (a ∷ []) h = answered-done p None
+if_wrong p here (a ∷ b ∷ []) h = answered-done p None
+if_wrong p here (a ∷ b ∷ c ∷ []) h = absurd (h (omega arith))
+if_wrong p here (a ∷ b ∷ c ∷ d ∷ es) h = answered-done p None
+
+-- the argument that the condition chooses
+pub if_args : (p : Look → Known Json) (here : Surroundings) (es : List Expr) (a b c : Expr)
+    (v : Json) → length es ≡ 3 → a ≡ get_or es 0 a → b ≡ get_or es 1 b → c ≡ get_or es 2 c
+    → answered p (value here (tree_of a)) ≡ is v
+    → answered p (if_row (outs here es)) ≡ answered p
+    (chosen (truth_of v) (value here (tree_of b)) (value here (tree_of c)))
+if_args p here es a b c v h x y z e =
+    ap (λ l. answered p (if_row (outs here l))) (three es a b c h x y z)
+    ∙ goes p (value here (tree_of a)) _ v e

@@ -1,0 +1,4 @@
+pub mod Answers
+pub mod AccessLemmas
+pub mod RowLemmas
+pub mod EvalLemmas

@@ -1,0 +1,15 @@
+use Rattle.std.proofs.Common.{refl, subst}
+use Rattle.arm_value.specs.Json.{Json, object, pairs}
+use Rattle.arm_value.specs.View.{json}
+use Rattle.arm_env.specs.Part.{kept}
+use Rattle.arm_env.specs.Answer.{Gives, given}
+use Rattle.expression_values.proofs.AccessLemmas.{kept_same, shown_put}
+use Rattle.expression_values.proofs.access.shown.Goals as goal
+
+pub returns : goal.returns
+returns c =
+    let same = kept_same (object (pairs c.args.fields))
+    (json c.in_ok-outputs.outputs) c.in_ok-outputs.ensures in
+    let all = shown_put (object (pairs c.args.fields)) c.set.new.self
+    (rw (c.in_ok-set.ensures, c.new-whole.ensures, same) refl) in
+    subst (λ (j : Json). Gives json c.keep-2.result (given (kept j))) all c.keep-2.ensures

@@ -1,0 +1,340 @@
+use Rattle.std.proofs.Common.{◌≡◌, ◌+◌, ◌++◌, ◌∷◌, [], List, map, drop, option_map, Some, None}
+use Rattle.std.proofs.Common.{true, false, refl, sym, ap, ◌∙◌, subst, arith}
+use Rattle.std.proofs.lemmas.Result.{err_from_is_err_and}
+use Rattle.std.proofs.lemmas.List.{drop_all}
+use Rattle.std.specs.Prelude.{if◌then◌else◌}
+use Rattle.arm_value.specs.Json.{Json, bool, null}
+use Rattle.arm_value.specs.View.{json}
+use Rattle.arm_value.proofs.JsonLemmas.{map-push}
+use Rattle.arm_expr.specs.View.{tree_of}
+use Rattle.arm_expr.specs.declared.expr.Expr.{Expr}
+use Rattle.function_numbers.specs.Kinds.{truth_of}
+use Rattle.reading.specs.Reading.{pure}
+use Rattle.expression_values.specs.Row.{if_row, all_true, one_true, first_there, unless_false, unless_true}
+use Rattle.expression_values.specs.Row.{is_null, chosen}
+use Rattle.arm_env.specs.Look.{Looking}
+use Rattle.expression_values.specs.Meaning.{value, held}
+use Rattle.arm_env.specs.Answer.{Answer, answered, Gives, is, so_far, outcome_answer}
+use Rattle.arm_env.specs.Sight.{known_by, here}
+use Rattle.expression_values.specs.Args.{outs}
+use Rattle.arm_env.proofs.Answers.{goes, stops, answered-done}
+use Rattle.expression_values.proofs.EvalLemmas.{turn, stops_at, too_few, three, if_wrong, if_args}
+use Rattle.expression_values.proofs.EvalLemmas.{held-Member, held-Index, index_told, index_stops}
+use Rattle.expression_values.proofs.EvalLemmas.{base_stops_index}
+use Rattle.arm_env.proofs.Gather.{gathered-nil, one_value, one_none, all_stops}
+use Rattle.expression_values.proofs.expression.+eval.Goals as goal
+use Rattle.expression_values.proofs.expression.+eval.Goals.{all_values-in-Some+in_ok-push-in-Some}
+use Rattle.expression_values.proofs.expression.+eval.Goals.{all_values-in-None}
+use Rattle.expression_values.proofs.expression.+eval.Goals.{if_value-in_default-via-then-args-lt3}
+use Rattle.expression_values.proofs.expression.+eval.Goals.{if_value-in_default-via-else-args-lt3+else-args-lt4}
+
+pub all_true-returns-in_err-value : goal.all_true-returns-in_err-value
+all_true-returns-in_err-value t c =
+    let r = err_from_is_err_and c.from_residual.result c.from_residual.ensures.1 in
+    let p = known_by c.args.sight.now in
+    rw (r.1, r.2)
+    (stops_at p _ _ _ _
+    (turn all_true p (here c.args.sight.now) c.args.args.now c.loop-arg.arg-index
+    c.arg-item.result c.loop-arg-test.true c.arg-item.is c.loop-arg.invariant)
+    c.in_err-value.ensures)
+
+pub all_true-returns-in-Some-false : goal.all_true-returns-in-Some-false
+all_true-returns-in-Some-false t c =
+    let p = known_by c.args.sight.now in
+    let is : truth_of (json c.in_ok-value.value) ≡ Some false =
+    sym c.in-Some-false.ensures ∙ ap Some c.in-Some-false.field-0-test in
+    let rest =
+    all_true (outs (here c.args.sight.now) (drop (c.loop-arg.arg-index + 1) c.args.args.now)) in
+    turn all_true p (here c.args.sight.now) c.args.args.now c.loop-arg.arg-index c.arg-item.result
+    c.loop-arg-test.true c.arg-item.is c.loop-arg.invariant ∙ goes p _ _ _ c.in_ok-value.ensures
+    ∙ ap (λ b. answered p (unless_false b rest)) is ∙ answered-done p (Some (bool false))
+
+pub all_true-returns-in-None : goal.all_true-returns-in-None
+all_true-returns-in-None t c =
+    let p = known_by c.args.sight.now in
+    let rest =
+    all_true (outs (here c.args.sight.now) (drop (c.loop-arg.arg-index + 1) c.args.args.now)) in
+    turn all_true p (here c.args.sight.now) c.args.args.now c.loop-arg.arg-index c.arg-item.result
+    c.loop-arg-test.true c.arg-item.is c.loop-arg.invariant ∙ goes p _ _ _ c.in_ok-value.ensures
+    ∙ ap (λ b. answered p (unless_false b rest)) (sym c.in-None.ensures) ∙ answered-done p None
+
+pub all_true-loop-arg-preserved : goal.all_true-loop-arg-preserved
+all_true-loop-arg-preserved t c =
+    let p = known_by c.args.sight.now in
+    let is : truth_of (json c.in_ok-value.value) ≡ Some true =
+    sym c.in-Some-true.ensures ∙ ap Some c.in-Some-true.field-0-test in
+    let rest =
+    all_true (outs (here c.args.sight.now) (drop (c.loop-arg.arg-index + 1) c.args.args.now)) in
+    turn all_true p (here c.args.sight.now) c.args.args.now c.loop-arg.arg-index c.arg-item.result
+    c.loop-arg-test.true c.arg-item.is c.loop-arg.invariant ∙ goes p _ _ _ c.in_ok-value.ensures
+    ∙ ap (λ b. answered p (unless_false b rest)) is
+
+pub all_true-returns : goal.all_true-returns
+all_true-returns t c =
+    let p = known_by c.args.sight.now in
+    c.loop-arg.invariant ∙ ap (λ l. answered p (all_true (outs (here c.args.sight.now) l)))
+    (drop_all c.loop-arg.arg-index c.args.args.now c.loop-arg-test.false)
+    ∙ answered-done p (Some (bool true))
+
+pub one_true-returns-in_err-value : goal.one_true-returns-in_err-value
+one_true-returns-in_err-value t c =
+    let r = err_from_is_err_and c.from_residual.result c.from_residual.ensures.1 in
+    let p = known_by c.args.sight.now in
+    rw (r.1, r.2)
+    (stops_at p _ _ _ _
+    (turn one_true p (here c.args.sight.now) c.args.args.now c.loop-arg.arg-index
+    c.arg-item.result c.loop-arg-test.true c.arg-item.is c.loop-arg.invariant)
+    c.in_err-value.ensures)
+
+pub one_true-returns-in-Some-true : goal.one_true-returns-in-Some-true
+one_true-returns-in-Some-true t c =
+    let p = known_by c.args.sight.now in
+    let is : truth_of (json c.in_ok-value.value) ≡ Some true =
+    sym c.in-Some-true.ensures ∙ ap Some c.in-Some-true.field-0-test in
+    let rest =
+    one_true (outs (here c.args.sight.now) (drop (c.loop-arg.arg-index + 1) c.args.args.now)) in
+    turn one_true p (here c.args.sight.now) c.args.args.now c.loop-arg.arg-index c.arg-item.result
+    c.loop-arg-test.true c.arg-item.is c.loop-arg.invariant ∙ goes p _ _ _ c.in_ok-value.ensures
+    ∙ ap (λ b. answered p (unless_true b rest)) is ∙ answered-done p (Some (bool true))
+
+pub one_true-returns-in-None : goal.one_true-returns-in-None
+one_true-returns-in-None t c =
+    let p = known_by c.args.sight.now in
+    let rest =
+    one_true (outs (here c.args.sight.now) (drop (c.loop-arg.arg-index + 1) c.args.args.now)) in
+    turn one_true p (here c.args.sight.now) c.args.args.now c.loop-arg.arg-index c.arg-item.result
+    c.loop-arg-test.true c.arg-item.is c.loop-arg.invariant ∙ goes p _ _ _ c.in_ok-value.ensures
+    ∙ ap (λ b. answered p (unless_true b rest)) (sym c.in-None.ensures) ∙ answered-done p None
+
+pub one_true-loop-arg-preserved : goal.one_true-loop-arg-preserved
+one_true-loop-arg-preserved t c =
+    let p = known_by c.args.sight.now in
+    let is : truth_of (json c.in_ok-value.value) ≡ Some false =
+    sym c.in-Some-false.ensures ∙ ap Some c.in-Some-false.field-0-test in
+    let rest =
+    one_true (outs (here c.args.sight.now) (drop (c.loop-arg.arg-index + 1) c.args.args.now)) in
+    turn one_true p (here c.args.sight.now) c.args.args.now c.loop-arg.arg-index c.arg-item.result
+    c.loop-arg-test.true c.arg-item.is c.loop-arg.invariant ∙ goes p _ _ _ c.in_ok-value.ensures
+    ∙ ap (λ b. answered p (unless_true b rest)) is
+
+pub one_true-returns : goal.one_true-returns
+one_true-returns t c =
+    let p = known_by c.args.sight.now in
+    c.loop-arg.invariant ∙ ap (λ l. answered p (one_true (outs (here c.args.sight.now) l)))
+    (drop_all c.loop-arg.arg-index c.args.args.now c.loop-arg-test.false)
+    ∙ answered-done p (Some (bool false))
+
+pub first_there-returns-in_err-value : goal.first_there-returns-in_err-value
+first_there-returns-in_err-value t c =
+    let r = err_from_is_err_and c.from_residual.result c.from_residual.ensures.1 in
+    let p = known_by c.args.sight.now in
+    rw (r.1, r.2)
+    (stops_at p _ _ _ _
+    (turn first_there p (here c.args.sight.now) c.args.args.now c.loop-arg.arg-index
+    c.arg-item.result c.loop-arg-test.true c.arg-item.is c.loop-arg.invariant)
+    c.in_err-value.ensures)
+
+pub first_there-returns-then-not-is_null : goal.first_there-returns-then-not-is_null
+first_there-returns-then-not-is_null t c =
+    let p = known_by c.args.sight.now in
+    let is : is_null (json c.in_ok-value.value) ≡ false = grind arith in
+    let rest =
+    first_there (outs (here c.args.sight.now) (drop (c.loop-arg.arg-index + 1) c.args.args.now))
+    in
+    turn first_there p (here c.args.sight.now) c.args.args.now c.loop-arg.arg-index
+    c.arg-item.result c.loop-arg-test.true c.arg-item.is c.loop-arg.invariant
+    ∙ goes p _ _ _ c.in_ok-value.ensures
+    ∙ ap (λ b. answered p (if b then rest else pure (json c.in_ok-value.value))) is
+    ∙ answered-done p (Some (json c.in_ok-value.value))
+
+pub first_there-loop-arg-preserved : goal.first_there-loop-arg-preserved
+first_there-loop-arg-preserved t c =
+    let p = known_by c.args.sight.now in
+    let is : is_null (json c.in_ok-value.value) ≡ true = grind arith in
+    let rest =
+    first_there (outs (here c.args.sight.now) (drop (c.loop-arg.arg-index + 1) c.args.args.now))
+    in
+    turn first_there p (here c.args.sight.now) c.args.args.now c.loop-arg.arg-index
+    c.arg-item.result c.loop-arg-test.true c.arg-item.is c.loop-arg.invariant
+    ∙ goes p _ _ _ c.in_ok-value.ensures
+    ∙ ap (λ b. answered p (if b then rest else pure (json c.in_ok-value.value))) is
+
+pub first_there-returns : goal.first_there-returns
+first_there-returns t c =
+    let p = known_by c.args.sight.now in
+    c.loop-arg.invariant ∙ ap (λ l. answered p (first_there (outs (here c.args.sight.now) l)))
+    (drop_all c.loop-arg.arg-index c.args.args.now c.loop-arg-test.false)
+    ∙ answered-done p (Some null)
+
+pub and_value-returns-then-args-lt2 : goal.and_value-returns-then-args-lt2
+and_value-returns-then-args-lt2 t c =
+    too_few 2 (known_by c.args.sight.now) (here c.args.sight.now) c.args.args.now _ (omega arith)
+
+pub or_value-returns-then-args-lt2 : goal.or_value-returns-then-args-lt2
+or_value-returns-then-args-lt2 t c =
+    too_few 2 (known_by c.args.sight.now) (here c.args.sight.now) c.args.args.now _ (omega arith)
+
+pub coalesce_value-returns-then-args-lt1 : goal.coalesce_value-returns-then-args-lt1
+coalesce_value-returns-then-args-lt1 t c =
+    too_few 1 (known_by c.args.sight.now) (here c.args.sight.now) c.args.args.now _ (omega arith)
+
+pub all_values-loop-arg-init : goal.all_values-loop-arg-init
+all_values-loop-arg-init t c = gathered-nil Json (known_by c.args.sight.now) (List Json) (λ xs. xs)
+    ∙ ap (λ vs. is (map json vs)) (sym c.new-values.ensures.items)
+
+pub all_values-returns-in_err-value : goal.all_values-returns-in_err-value
+all_values-returns-in_err-value t c =
+    let r = err_from_is_err_and c.from_residual.result c.from_residual.ensures.1 in
+    rw (r.1, r.2) (all_stops Json Expr (known_by c.args.sight.now)
+    (λ e. value (here c.args.sight.now) (tree_of e)) _ c.args.args.now c.loop-arg.arg-index
+    c.arg-item.result c.loop-arg.complete
+    (map json c.loop-arg.values.items) c.loop-arg-test.true c.arg-item.is c.loop-arg.invariant
+    c.in_err-value.ensures)
+
+pub all_values-loop-arg-preserved : goal.all_values-loop-arg-preserved
+all_values-loop-arg-preserved t c =
+    let p = known_by c.args.sight.now in
+    let h : Expr → Looking Json = λ e. value (here c.args.sight.now) (tree_of e) in
+    elim c.match-branch-2.branch [
+      | all_values-in-Some+in_ok-push-in-Some w ↦
+          let found : outcome_answer (answered p (h c.arg-item.result))
+          ≡ is (Some (json w.in-Some.value)) =
+          c.in_ok-value.ensures ∙ ap (λ o. is (option_map json o)) w.in-Some.is in
+          let items = ap (λ v. v.items) w.values-is ∙ w.in_ok-push-in-Some.ensures.items in
+          one_value Json p (List Json) (λ xs. xs) Expr h (λ xs v. xs ++ v ∷ [])
+          (λ xs v. refl) c.args.args.now c.loop-arg.arg-index c.arg-item.result
+          c.loop-arg.complete (map json c.loop-arg.values.items)
+          (json w.in-Some.value) c.loop-arg-test.true c.arg-item.is c.loop-arg.invariant found
+          ∙ ap (so_far c.loop-arg.complete)
+          (sym (ap (map json) items ∙ map-push json c.loop-arg.values.items w.in-Some.value))
+          ∙ ap (λ b. so_far b (map json c.match-branch-2.values.items)) (sym w.complete-is)
+      | all_values-in-None w ↦
+          let found : outcome_answer (answered p (h c.arg-item.result)) ≡ is None =
+          c.in_ok-value.ensures ∙ ap (λ o. is (option_map json o)) w.in-None.is in
+          one_none Json p (List Json) (λ xs. xs) Expr h c.args.args.now c.loop-arg.arg-index
+          c.arg-item.result c.loop-arg.complete (map json c.loop-arg.values.items)
+          (map json c.match-branch-2.values.items) c.loop-arg-test.true c.arg-item.is
+          c.loop-arg.invariant found
+          ∙ ap (λ b. so_far b (map json c.match-branch-2.values.items)) (sym w.complete-is)
+    ]
+
+pub if_value-returns-in_default : goal.if_value-returns-in_default
+if_value-returns-in_default t c =
+    elim c.in_default.branch [
+      | if_value-in_default-via-then-args-lt3 w ↦ if_wrong (known_by c.args.sight.now)
+          (here c.args.sight.now) c.args.args.now (λ h. grind arith)
+      | if_value-in_default-via-else-args-lt3+else-args-lt4 w ↦ if_wrong (known_by c.args.sight.now)
+          (here c.args.sight.now) c.args.args.now (λ h. grind arith)
+    ]
+
+pub if_value-returns-in_err-value : goal.if_value-returns-in_err-value
+if_value-returns-in_err-value t c =
+    let r = err_from_is_err_and c.from_residual.result c.from_residual.ensures.1 in
+    let p = known_by c.args.sight.now in
+    let all = three _ _ _ _ (omega arith) c.condition-item.is c.yes-item.is c.no-item.is in
+    rw (r.1, r.2)
+    (stops_at p _ _ _ _ (ap (λ l. answered p (if_row (outs (here c.args.sight.now) l))) all)
+    c.in_err-value.ensures)
+
+pub if_value-returns-in-Some-true : goal.if_value-returns-in-Some-true
+if_value-returns-in-Some-true t c =
+    let p = known_by c.args.sight.now in
+    let h = here c.args.sight.now in
+    let args = if_args p h _ _ _ _ _ (omega arith) c.condition-item.is c.yes-item.is c.no-item.is
+    c.in_ok-value.ensures in
+    let is : truth_of (json c.in_ok-value.value) ≡ Some true =
+    sym c.in-Some-true.ensures ∙ ap Some c.in-Some-true.field-0-test in
+    let P : Answer Json → Type 0 = Gives json c.value_of-in-Some-true.result in
+    subst P (sym
+    (args ∙ ap
+    (λ b. answered p
+    (chosen b (value h (tree_of c.yes-item.result)) (value h (tree_of c.no-item.result)))) is))
+    c.value_of-in-Some-true.ensures
+
+pub if_value-returns-in-Some-false : goal.if_value-returns-in-Some-false
+if_value-returns-in-Some-false t c =
+    let p = known_by c.args.sight.now in
+    let h = here c.args.sight.now in
+    let args = if_args p h _ _ _ _ _ (omega arith) c.condition-item.is c.yes-item.is c.no-item.is
+    c.in_ok-value.ensures in
+    let is : truth_of (json c.in_ok-value.value) ≡ Some false =
+    sym c.in-Some-false.ensures ∙ ap Some c.in-Some-false.field-0-test in
+    let P : Answer Json → Type 0 = Gives json c.value_of-in-Some-false.result in
+    subst P (sym
+    (args ∙ ap
+    (λ b. answered p
+    (chosen b (value h (tree_of c.yes-item.result)) (value h (tree_of c.no-item.result)))) is))
+    c.value_of-in-Some-false.ensures
+
+pub if_value-returns : goal.if_value-returns
+if_value-returns t c =
+    let p = known_by c.args.sight.now in
+    let h = here c.args.sight.now in
+    let args = if_args p h _ _ _ _ _ (omega arith) c.condition-item.is c.yes-item.is c.no-item.is
+    c.in_ok-value.ensures in
+    args ∙ ap
+    (λ b. answered p
+    (chosen b (value h (tree_of c.yes-item.result)) (value h (tree_of c.no-item.result))))
+    (sym c.in-None.ensures) ∙ answered-done p None
+
+pub held-returns-in_err-base-in-Member : goal.held-returns-in_err-base-in-Member
+held-returns-in_err-base-in-Member t c =
+    let r = err_from_is_err_and c.from_residual-in_err-base-in-Member.result
+    c.from_residual-in_err-base-in-Member.ensures.1 in
+    let h = here c.args.sight.now in
+    let whole = ap (λ e. held h (tree_of e)) c.in-Member.is
+    ∙ held-Member h c.in-Member.base c.in-Member.name in
+    rw (r.1, r.2, whole, sym c.deref-in-Member.ensures)
+    (stops _ (known_by c.args.sight.now) (held h (tree_of c.deref-in-Member.result.now)) _
+    c.in_err-base-in-Member.ensures)
+
+pub held-returns-in_ok-base-in-Member : goal.held-returns-in_ok-base-in-Member
+held-returns-in_ok-base-in-Member t c =
+    let h = here c.args.sight.now in
+    let whole = ap (λ e. held h (tree_of e)) c.in-Member.is
+    ∙ held-Member h c.in-Member.base c.in-Member.name in
+    rw (
+      whole,
+      sym c.deref-in-Member.ensures,
+      goes (known_by c.args.sight.now)
+          (held h (tree_of c.deref-in-Member.result.now)) _ _ c.in_ok-base-in-Member.ensures,
+    )
+    c.member.ensures
+
+pub held-returns-in_err-base-in-Index : goal.held-returns-in_err-base-in-Index
+held-returns-in_err-base-in-Index t c =
+    let r = err_from_is_err_and c.from_residual-in_err-base-in-Index.result
+    c.from_residual-in_err-base-in-Index.ensures.1 in
+    let h = here c.args.sight.now in
+    let whole = ap (λ e. held h (tree_of e)) c.in-Index.is
+    ∙ held-Index h c.in-Index.base c.in-Index.index in
+    rw (r.1, r.2, whole, sym c.deref-in-Index.ensures)
+    (base_stops_index _ (known_by c.args.sight.now) h
+    (held h (tree_of c.deref-in-Index.result.now)) _ c.in_err-base-in-Index.ensures)
+
+pub held-returns-in_err-index-in-Index : goal.held-returns-in_err-index-in-Index
+held-returns-in_err-index-in-Index t c =
+    let r = err_from_is_err_and c.from_residual-in_err-index-in-Index.result
+    c.from_residual-in_err-index-in-Index.ensures.1 in
+    let h = here c.args.sight.now in
+    let whole = ap (λ e. held h (tree_of e)) c.in-Index.is
+    ∙ held-Index h c.in-Index.base c.in-Index.index in
+    rw (r.1, r.2, whole, sym c.deref-in-Index.ensures, sym c.deref-in-Index-2.ensures)
+    (index_stops _ (known_by c.args.sight.now) h (held h (tree_of c.deref-in-Index.result.now))
+    (value h (tree_of c.deref-in-Index-2.result.now)) _ c.in_ok-base-in-Index.ensures
+    c.in_err-index-in-Index.ensures)
+
+pub held-returns-in_ok-index-in-Index : goal.held-returns-in_ok-index-in-Index
+held-returns-in_ok-index-in-Index t c =
+    let h = here c.args.sight.now in
+    let whole = ap (λ e. held h (tree_of e)) c.in-Index.is
+    ∙ held-Index h c.in-Index.base c.in-Index.index in
+    rw (
+      whole,
+      sym c.deref-in-Index.ensures,
+      sym c.deref-in-Index-2.ensures,
+      index_told
+          (known_by c.args.sight.now) h (held h (tree_of c.deref-in-Index.result.now))
+          (value h (tree_of c.deref-in-Index-2.result.now)) _ _ c.in_ok-base-in-Index.ensures
+          c.in_ok-index-in-Index.ensures,
+    ) c.indexed.ensures

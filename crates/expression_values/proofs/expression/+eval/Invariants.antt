@@ -1,0 +1,32 @@
+use Rattle.std.proofs.Common.{◌≡◌, drop, take, map}
+use Rattle.arm_value.specs.View.{json}
+use Rattle.arm_expr.specs.View.{tree_of}
+use Rattle.expression_values.specs.Row.{all_true, one_true, first_there}
+use Rattle.expression_values.specs.Meaning.{value}
+use Rattle.arm_env.specs.Answer.{answered, gathered, so_far}
+use Rattle.arm_env.specs.Sight.{known_by, here}
+use Rattle.expression_values.specs.Args.{outs}
+use Rattle.expression_values.proofs.expression.+eval.Given as goal
+
+-- the rest gives what the whole gives
+abbrev pub invariant-all_true-loop-arg : goal.invariant-all_true-loop-arg
+invariant-all_true-loop-arg l =
+    answered (known_by l.sight) (all_true (outs (here l.sight) l.args))
+    ≡ answered (known_by l.sight) (all_true (outs (here l.sight) (drop l.arg-index l.args)))
+
+abbrev pub invariant-one_true-loop-arg : goal.invariant-one_true-loop-arg
+invariant-one_true-loop-arg l =
+    answered (known_by l.sight) (one_true (outs (here l.sight) l.args))
+    ≡ answered (known_by l.sight) (one_true (outs (here l.sight) (drop l.arg-index l.args)))
+
+abbrev pub invariant-first_there-loop-arg : goal.invariant-first_there-loop-arg
+invariant-first_there-loop-arg l =
+    answered (known_by l.sight) (first_there (outs (here l.sight) l.args))
+    ≡ answered (known_by l.sight) (first_there (outs (here l.sight) (drop l.arg-index l.args)))
+
+-- the values so far, or none where one of them is none
+abbrev pub invariant-all_values-loop-arg : goal.invariant-all_values-loop-arg
+invariant-all_values-loop-arg l =
+    gathered (λ xs. xs) (known_by l.sight)
+    (map (λ e. value (here l.sight) (tree_of e)) (take l.arg-index l.args))
+    ≡ so_far l.complete (map json l.values.items)

@@ -1,0 +1,3 @@
+pub mod Row
+pub mod Meaning
+pub mod Args

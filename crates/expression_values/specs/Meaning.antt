@@ -1,0 +1,107 @@
+-- The value of an expression, and what is looked at for it.
+use Rattle.std.specs.Prelude.{ℕ, List, [], ◌∷◌, Option, Some, None, option_map, is_some, codes}
+use Rattle.std.specs.Prelude.{if◌then◌else◌}
+use Rattle.arm_value.specs.Json.{Json, int, text}
+use Rattle.arm_value.specs.Look.{fold, look}
+use Rattle.arm_ids.specs.declared.id.ResourceId.{ResourceId}
+use Rattle.arm_expr.specs.Tree as tree
+use Rattle.arm_expr.specs.Tree.{Tree, Trees}
+use Rattle.arm_functions.specs.Values.{function_value}
+use Rattle.function_numbers.specs.Kinds.{of_none}
+use Rattle.reading.specs.Reading.{done, ask, pure, none, read, continued, both}
+use Rattle.arm_env.specs.declared.function.Asked.{Asked}
+use Rattle.arm_env.specs.declared.function.Asked.TheVariants.{Properties, Whole}
+use Rattle.arm_env.specs.declared.function.Lazy.{Lazy}
+use Rattle.arm_env.specs.declared.function.Strict.{Strict}
+use Rattle.arm_env.specs.declared.function.Strict.TheVariants as strict
+use Rattle.arm_env.specs.Look.{parameter, variable, state, Looking, Surroundings, all}
+use Rattle.arm_env.specs.Names.{lazy_named, strict_named}
+use Rattle.arm_env.specs.Loop.{copy_index}
+use Rattle.arm_env.specs.Id.{resource_id, subscription_id}
+use Rattle.arm_env.specs.Object as object
+use Rattle.arm_env.specs.Find.{outputs_of, key_named}
+use Rattle.expression_values.specs.Row.{lazy_row, only_text, texts_in, asked}
+use Rattle.arm_env.specs.Held.{Held, state_whole, deployment, capped, held_value, forced, access}
+use Rattle.arm_env.specs.Held.{access_by}
+
+-- the state at a key, or its properties
+abbrev pub state_asked : ResourceId → Asked → Looking Held
+state_asked k Properties =
+    held_value (continued (read (state k)) (λ s. done (look (codes "properties") s)))
+state_asked k Whole = continued (read (state k)) (λ s. pure (state_whole s))
+
+-- a nested deployment, or else a resource
+abbrev pub referred : Surroundings → Asked → ResourceId → Looking Held
+referred here a k =
+    if is_some (outputs_of k here.deployments) then pure (deployment k) else state_asked k a
+
+abbrev pub reference : Surroundings → List ℕ × Asked → Looking Held
+reference here p = continued (done (key_named p.0 here)) (referred here p.1)
+
+-- the functions of the values of all their arguments
+abbrev pub strict_row : Surroundings → Strict → List Json → Looking Held
+strict_row here strict.Parameters vs =
+    continued (done (only_text vs)) (λ name. held_value (read (parameter (fold name))))
+strict_row here strict.Variables vs =
+    continued (done (only_text vs)) (λ name. held_value (read (variable (fold name))))
+strict_row here strict.Reference vs = continued (done (asked vs)) (reference here)
+strict_row here strict.CopyIndex vs = held_value (done (copy_index here.loops vs))
+strict_row here strict.ResourceId vs =
+    continued (done (texts_in vs))
+    (λ ts. held_value (done (option_map text (resource_id here.place ts))))
+strict_row here strict.SubscriptionResourceId vs =
+    continued (done (texts_in vs))
+    (λ ts. held_value (done (option_map text (subscription_id here.place ts))))
+strict_row here strict.ResourceGroup vs =
+    held_value (done (of_none (object.resource_group here.place) vs))
+strict_row here strict.Subscription vs =
+    held_value (done (of_none (object.subscription here.place) vs))
+strict_row here strict.Deployment vs = held_value (done (of_none (object.deployment here.place) vs))
+
+-- any other function, or none of the name
+abbrev pub strict_call : Surroundings → List ℕ → Option Strict → List Json → Looking Held
+strict_call here name (Some f) vs = strict_row here f vs
+strict_call here name None vs = held_value (done (function_value name vs))
+
+abbrev pub call_by : Surroundings → List ℕ → Option Lazy → List (Looking Json) → Looking Held
+call_by here name (Some f) os = held_value (lazy_row f os)
+call_by here name None os = continued (all os) (strict_call here name (strict_named name))
+
+-- the call of a function by its name, from what its arguments give
+unfoldable pub called : Surroundings → List ℕ → List (Looking Json) → Looking Held
+called here name os = call_by here name (lazy_named name) os
+
+-- what is used without an access behind it
+unfoldable pub used : Surroundings → Looking Held → Looking Json
+used here o = capped (continued o (forced here))
+
+-- always a value: that of the reading, or that it has none
+unfoldable pub outcome : {A : Type 0} → Looking A → Looking (Option A)
+outcome (done o) = done (Some o)
+outcome (ask c k) = ask c (λ v. outcome (k v))
+
+-- an access where the whole may have no value
+abbrev pub indexed : Surroundings → Option Held → Option Json → Looking Held
+indexed here None i = none
+indexed here (Some h) i = access_by here h i
+
+-- what an expression gives to an access right behind it; an index is looked at also behind a whole
+-- without a value
+abbrev mutual
+  pub held : Surroundings → Tree → Looking Held
+  held here (tree.text t) = held_value (pure (text t))
+  held here (tree.int z) = held_value (pure (int z))
+  held here (tree.call name es) = called here name (values here es)
+  held here (tree.member e name) = continued (held here e) (λ h. access here h (text name))
+  held here (tree.index e i) =
+      continued (both (outcome (held here e)) (outcome (used here (held here i))))
+      (λ p. indexed here p.0 p.1)
+
+  -- what arguments give
+  pub values : Surroundings → Trees → List (Looking Json)
+  values here tree.none = []
+  values here (tree.more e es) = used here (held here e) ∷ values here es
+
+-- the value of an expression
+abbrev pub value : Surroundings → Tree → Looking Json
+value here e = used here (held here e)

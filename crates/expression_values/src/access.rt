@@ -1,0 +1,236 @@
+// Accesses, and what is used without one behind it.
+ghost use Rattle.std.specs.Prelude.{◌≡◌, ◌∷◌, [], chars, map, option_map, codes};
+ghost use Rattle.arm_value.specs.Json.{Json, put_each, text, object, pairs};
+ghost use Rattle.arm_value.specs.View.{json};
+ghost use Rattle.arm_env.specs.Held as held;
+ghost use Rattle.arm_env.specs.Held.{is_word, capped, forced, outputs_at, no_part, kind_of_output};
+ghost use Rattle.arm_env.specs.Held.{output_by, output_at, part_of_output, access, access_by};
+ghost use Rattle.arm_env.specs.Known.{declared, output_with};
+ghost use Rattle.arm_env.specs.Answer.{answered, given, Gives, Sees};
+ghost use Rattle.expression_values.specs.Meaning.{indexed};
+ghost use Rattle.arm_env.specs.Part.{kept};
+ghost use Rattle.arm_env.specs.Object.{object_of};
+ghost use Rattle.arm_env.specs.Sight.{known_by, here, held_of};
+
+use arm_env::env::OutputAt;
+use arm_env::function;
+use arm_env::held::{Held, keep, keep_copy, lend, own_part, part_of};
+use arm_env::outputs::{fields_at, look_at_outputs, output_named, typed};
+use arm_env::sight::{Sight, output_value};
+use arm_env::stop::Stop;
+use arm_ids::Key;
+use arm_value::{Fields, Text, Value};
+use std::alloc::Global;
+
+// Whether the index is the word, whatever the case of its letters.
+fn is_word(word: &str, index: &Value) -> bool
+    ensures { result ≡ is_word (chars word.now) (json index.now) }
+{
+    match index {
+        Value::Text(name) => function::is_word(name, word),
+        _ => false,
+    }
+}
+
+// A part that a nested deployment does not have.
+#[tactic(auto, using(crate::proofs::Answers::answers))]
+fn no_part<'a>(sight: &Sight<'a>, key: &Key) -> Result<Held<'a>, Stop>
+    ensures { Gives held_of result
+        (answered (known_by sight.now) (no_part (here sight.now) key.now)) }
+{
+    look_at_outputs(sight, key)?;
+    Err(Stop::NoValue)
+}
+
+#[tactic(auto, using(crate::proofs::Answers::answers, arm_env::proofs::Words::words))]
+fn part_of_deployment<'a>(sight: &Sight<'a>, key: Key, index: &Value) -> Result<Held<'a>, Stop>
+    ensures { Gives held_of result (answered (known_by sight.now)
+        (access (here sight.now) (held.deployment key) (json index.now))) }
+{
+    if is_word("outputs", index) {
+        return Ok(Held::Outputs(key));
+    }
+    no_part(sight, &key)
+}
+
+#[tactic(auto, using(crate::proofs::Answers::answers))]
+fn output_at<'a>(sight: &Sight<'a>, key: Key, index: &Value) -> Result<Held<'a>, Stop>
+    ensures { Gives held_of result
+        (answered (known_by sight.now) (output_at (here sight.now) key (json index.now))) }
+{
+    match index {
+        Value::Text(name) => match output_named(sight, &key, name) {
+            Some(output) => Ok(Held::Output(key, output)),
+            None => no_part(sight, &key),
+        },
+        _ => no_part(sight, &key),
+    }
+}
+
+#[tactic(auto, using(crate::proofs::Answers::answers))]
+fn kind_of<'a>(
+    alloc: Global,
+    sight: &Sight<'a>,
+    key: &Key,
+    output: &OutputAt,
+) -> Result<Held<'a>, Stop>
+    ensures { Gives held_of result (answered (known_by sight.now)
+        (kind_of_output (here sight.now) key.now (declared output.now))) }
+{
+    look_at_outputs(sight, key)?;
+    Ok(Held::Owned(Value::Text(output.kind.copy(alloc)?)))
+}
+
+#[tactic(auto, using(crate::proofs::Answers::answers, arm_env::proofs::Words::words))]
+fn part_of_output<'a>(
+    alloc: Global,
+    sight: &Sight<'a>,
+    key: &Key,
+    output: &OutputAt,
+    index: &Value,
+) -> Result<Held<'a>, Stop>
+    ensures { Gives held_of result (answered (known_by sight.now)
+        (part_of_output (here sight.now) key.now (declared output.now) (json index.now))) }
+{
+    if is_word("value", index) {
+        return lend(Some(output_value(sight, key, output)?));
+    }
+    if is_word("type", index) {
+        return kind_of(alloc, sight, key, output);
+    }
+    no_part(sight, key)
+}
+
+/// What stands under a name or at a place.
+#[tactic(auto, using(crate::proofs::Answers::answers))]
+pub(crate) fn access<'a>(
+    alloc: Global,
+    sight: &Sight<'a>,
+    base: Held<'a>,
+    index: &Value,
+) -> Result<Held<'a>, Stop>
+    ensures { Gives held_of result (answered (known_by sight.now)
+        (access (here sight.now) (held_of base.entry) (json index.now))) }
+{
+    match base {
+        Held::Owned(value) => own_part(alloc, value, index),
+        Held::Lent(value) => lend(part_of(value, index)),
+        Held::Whole(value) => lend(part_of(value, index)),
+        Held::Deployment(key) => part_of_deployment(sight, key, index),
+        Held::Outputs(key) => output_at(sight, key, index),
+        Held::Output(key, output) => part_of_output(alloc, sight, &key, output, index),
+    }
+}
+
+// Looks at all that the whole looks at.
+fn look_at_all<'a>(sight: &Sight<'a>, base: Held<'a>) -> Result<(), Stop>
+    ensures { Sees result
+        (answered (known_by sight.now) (forced (here sight.now) (held_of base.entry))) }
+{
+    match base {
+        Held::Owned(_value) => Ok(()),
+        Held::Lent(_value) => Ok(()),
+        Held::Whole(_value) => Ok(()),
+        Held::Deployment(key) => look_at_outputs(sight, &key),
+        Held::Outputs(key) => look_at_outputs(sight, &key),
+        Held::Output(key, output) => look_at_output(sight, &key, output),
+    }
+}
+
+// Looks at all outputs of the nested deployment, and at one of them.
+fn look_at_output(sight: &Sight, key: &Key, output: &OutputAt) -> Result<(), Stop>
+    ensures { Sees result (answered (known_by sight.now)
+        (forced (here sight.now) (held.one_output key.now (declared output.now)))) }
+{
+    look_at_outputs(sight, key)?;
+    let _value = output_value(sight, key, output)?;
+    Ok(())
+}
+
+/// What stands at an index that may have no value.
+#[tactic(auto, using(crate::proofs::Answers::answers))]
+pub(crate) fn access_by<'a>(
+    alloc: Global,
+    sight: &Sight<'a>,
+    base: Held<'a>,
+    index: Option<Value>,
+) -> Result<Held<'a>, Stop>
+    ensures { Gives held_of result (answered (known_by sight.now)
+        (access_by (here sight.now) (held_of base.entry) (option_map json index))) }
+{
+    match index {
+        Some(index) => access(alloc, sight, base, &index),
+        None => {
+            look_at_all(sight, base)?;
+            Err(Stop::NoValue)
+        }
+    }
+}
+
+/// What stands at an index, where the whole may have no value.
+#[tactic(auto, using(crate::proofs::Answers::answers))]
+pub(crate) fn indexed<'a>(
+    alloc: Global,
+    sight: &Sight<'a>,
+    base: Option<Held<'a>>,
+    index: Option<Value>,
+) -> Result<Held<'a>, Stop>
+    ensures { Gives held_of result (answered (known_by sight.now)
+        (indexed (here sight.now) (option_map held_of base.entry) (option_map json index))) }
+{
+    match base {
+        Some(base) => access_by(alloc, sight, base, index),
+        None => Err(Stop::NoValue),
+    }
+}
+
+/// What stands under a name.
+pub(crate) fn member<'a>(
+    alloc: Global,
+    sight: &Sight<'a>,
+    base: Held<'a>,
+    name: &Text,
+) -> Result<Held<'a>, Stop>
+    ensures { Gives held_of result (answered (known_by sight.now)
+        (access (here sight.now) (held_of base.entry) (text name.now))) }
+{
+    let name = Value::Text(name.copy(alloc)?);
+    access(alloc, sight, base, &name)
+}
+
+// The nested deployment at a key, as `reference` shows it.
+fn shown(alloc: Global, fields: Fields) -> Result<Value, Stop>
+    ensures { Gives json result
+        (given (kept (object_of ((codes "outputs", object (pairs fields)) ∷ [])))) }
+{
+    let outputs = keep(Value::Object(fields))?;
+    let mut whole = Fields::new();
+    whole.set(alloc, "outputs", outputs)?;
+    keep(Value::Object(whole))
+}
+
+#[tactic(auto, using(crate::proofs::Answers::answers))]
+fn used_output(alloc: Global, sight: &Sight, key: &Key, output: &OutputAt) -> Result<Value, Stop>
+    ensures { Gives json result (answered (known_by sight.now)
+        (capped (forced (here sight.now) (held.one_output key.now (declared output.now))))) }
+{
+    look_at_outputs(sight, key)?;
+    let value = output_value(sight, key, output)?;
+    keep(typed(alloc, output, value)?)
+}
+
+/// The value of what is used without an access behind it.
+#[tactic(auto, using(crate::proofs::Answers::answers))]
+pub(crate) fn used<'a>(alloc: Global, sight: &Sight<'a>, held: Held<'a>) -> Result<Value, Stop>
+    ensures { Gives json result
+        (answered (known_by sight.now) (capped (forced (here sight.now) (held_of held.entry)))) }
+{
+    match held {
+        Held::Owned(value) => keep(value),
+        Held::Lent(value) => keep_copy(alloc, value),
+        Held::Whole(value) => keep_copy(alloc, value),
+        Held::Deployment(key) => shown(alloc, fields_at(alloc, sight, &key)?),
+        Held::Outputs(key) => keep(Value::Object(fields_at(alloc, sight, &key)?)),
+        Held::Output(key, output) => used_output(alloc, sight, &key, output),
+    }
+}

@@ -3,14 +3,14 @@ use Rattle.std.proofs.Common.{◌≡◌, ◌≢◌, ◌≤◌, ℕ, List, [], �
 use Rattle.std.specs.List.{AllByRecursion, list_any}
 use Rattle.arm_value.specs.Look.{fold, is_same_folded}
 use Rattle.literal_template.specs.declared.resource.Resource.{Resource}
-use Rattle.bicep_literal.specs.Grammar.{Declaration}
+use Rattle.bicep_literal.specs.Literal.{Declaration}
 use Rattle.bicep_literal.specs.Source.{Differ, taken, symbol_of, kind_and_name, KeysDiffer, DeclareEach, FileDeclares}
 use Rattle.bicep_literal.specs.Checks.{is_taken, is_same_symbol, is_same_key, clash, are_apart, are_proper}
 use Rattle.bicep_literal.specs.declared.entry.Entry.{Entry}
-use Rattle.bicep_literal.proofs.Leaves.{eq_word, word_eq}
+use Rattle.bicep_literal.proofs.ValueLemmas.{eq_word, word_eq}
 use Rattle.bicep_literal.proofs.Putting.{all_map}
 use Rattle.bicep_literal.proofs.EntryLemmas.{or_parts, and_parts, not_true, within, below}
-use Rattle.bicep_literal.proofs.FileRemains.{EnterEach}
+use Rattle.bicep_literal.proofs.Entering.{EnterEach}
 
 abbrev pub folded_symbol : Entry → List ℕ
 folded_symbol e = fold e.symbol

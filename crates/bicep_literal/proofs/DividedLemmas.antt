@@ -1,11 +1,14 @@
 -- Texts at their first `@`, in bytes and in characters.
-use Rattle.std.proofs.Common.{◌≡◌, ◌≢◌, ◌<◌, ◌+◌, ◌==◌, ℕ, suc, Bool, true, false, List, [], ◌∷◌, ◌++◌, length, get_or, Option, Some, None, subst, refl, ap, sym, ◌∙◌, lit<, arith, length-append}
-use Rattle.std.specs.Str.{chars, IsUtf8}
+use Rattle.std.proofs.Common.{◌≡◌, ◌≢◌, ◌<◌, ◌+◌, ◌==◌, ℕ, zero, suc, Bool, true, false, List, [], ◌∷◌, ◌++◌, length, get_or, Option, Some, None, subst, refl, ap, sym, ◌∙◌, lit<, arith, length-append}
+use Rattle.std.specs.Str.{chars, IsUtf8, IsAscii}
 use Rattle.std.proofs.lemmas.Str.{chars-append, chars-IsAscii, encodes-chars, encode_ascii, IsUtf8-from_ascii}
 use Rattle.std.proofs.lemmas.Bool.Decides.{nat_tests}
 use lib.Utf8.{encode, encodes}
 use Rattle.bicep_literal.specs.Entries.{divided}
-use Rattle.bicep_literal.proofs.BracketLemmas.{one_ascii}
+
+one_ascii : (c : ℕ) → c < 128 → IsAscii (c ∷ [])
+one_ascii c h zero = h
+one_ascii c h (suc i) = lit< tt
 
 is_at : (c : ℕ) → (c == 64) ≡ true → c ≡ 64
 is_at c e = grind (arith, nat_tests)

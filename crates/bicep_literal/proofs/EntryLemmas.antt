@@ -7,16 +7,16 @@ use Rattle.arm_value.specs.Look.{first_by}
 use Rattle.arm_ids.specs.Segments.{segments, is_empty}
 use Rattle.literal_template.specs.Resources.{is_deployment}
 use Rattle.literal_template.specs.declared.resource.Resource.{Resource}
-use Rattle.bicep_literal.specs.Grammar.{Declaration}
+use Rattle.bicep_literal.specs.Literal.{Declaration}
 use Rattle.bicep_literal.specs.Source.{in_order, each_in_order, Differ, without_name, is_reserved, Fits, Declares}
-use Rattle.bicep_literal.specs.Machine.{distinct}
+use Rattle.bicep_literal.specs.Values.{distinct}
 use Rattle.bicep_literal.specs.Entries.{divided, is_name, parted, is_fit, is_proper, body_of, resource_of, with_parts, entry_of}
 use Rattle.bicep_literal.specs.declared.entry.Entry.{Entry}
 use Rattle.bicep_literal.proofs.Putting.{all_absent, length-put_each}
 use Rattle.bicep_literal.proofs.Ordered.{each, pairs-members, each-keys, pairs_nesting_stays}
 use Rattle.bicep_literal.proofs.PartedLemmas.{without_yes, without_no, parting_sound, parting_complete, without_each, first_each, name_stays}
-use Rattle.bicep_literal.proofs.Remains.{FinePairs}
-use Rattle.bicep_literal.proofs.SoundPlaces.{distinct_is}
+use Rattle.bicep_literal.proofs.Entering.{FinePairs}
+use Rattle.bicep_literal.proofs.ValueLemmas.{distinct_is}
 
 -- ---- the type text
 

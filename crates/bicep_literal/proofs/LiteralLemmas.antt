@@ -6,7 +6,7 @@ use Rattle.arm_value.specs.Look.{is_same_folded}
 use Rattle.literal_template.specs.Literals.{pairs_are_plain}
 use Rattle.literal_template.specs.Resources.{heads, directives, is_head, is_directive, IsLiteral}
 use Rattle.literal_template.specs.declared.resource.Resource.{Resource}
-use Rattle.bicep_literal.specs.Grammar.{Declaration}
+use Rattle.bicep_literal.specs.Literal.{Declaration}
 use Rattle.bicep_literal.specs.Source.{each_in_order, without_name, is_reserved, Declares, DeclareEach}
 use Rattle.bicep_literal.specs.Entries.{is_name}
 use Rattle.bicep_literal.proofs.Ordered.{each, pairs-members, keys-each, pair_plain, plain_pair, put_plain, put_without, put_shallow, are_members, pairs_nesting_stays, pairs_plain_stay}

@@ -2,10 +2,10 @@
 use Rattle.std.specs.Prelude.{ℕ, nat_le, ◌&&◌, ◌||◌, not, Bool, true, List, [], ◌∷◌, length, map, Option, Some, None, option_and_then, if◌then◌else◌}
 use Rattle.std.specs.List.{list_any}
 use Rattle.arm_value.specs.Look.{is_same_folded}
-use Rattle.bicep_lexer.specs.Reading.{Standing}
+use Rattle.bicep_tree.specs.Tree.{FileTree}
 use Rattle.literal_template.specs.declared.resource.Resource.{Resource}
 use Rattle.bicep_literal.specs.Source.{taken}
-use Rattle.bicep_literal.specs.Stages.{read}
+use Rattle.bicep_literal.specs.Entries.{read}
 use Rattle.bicep_literal.specs.declared.entry.Entry.{Entry}
 
 unfoldable pub is_taken : List ℕ → Bool
@@ -36,6 +36,6 @@ are_proper es = nat_le (length es) 800 && (not (list_any (λ e. is_taken e.symbo
 abbrev pub kept : List Entry → Option (List Resource)
 kept es = if are_proper es then Some (map (λ e. e.resource) es) else None
 
--- the resources that tokens declare
-abbrev pub declared : List Standing → Option (List Resource)
-declared ts = option_and_then kept (read ts)
+-- the resources that a file declares
+abbrev pub declared : FileTree → Option (List Resource)
+declared f = option_and_then kept (read f)

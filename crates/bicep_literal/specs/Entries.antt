@@ -6,7 +6,10 @@ use Rattle.arm_ids.specs.Segments.{segments, is_empty}
 use Rattle.literal_template.specs.Resources.{is_deployment}
 use Rattle.literal_template.specs.declared.resource.Resource.{Resource}
 use Rattle.bicep_literal.specs.Source.{is_reserved}
-use Rattle.bicep_literal.specs.Machine.{distinct}
+use Rattle.bicep_tree.specs.Tree as tree
+use Rattle.bicep_tree.specs.Tree.{ObjectTree, ResourceTree, DeclarationTree, StatementTree, FileTree}
+use Rattle.bicep_literal.specs.Literal.{only_body}
+use Rattle.bicep_literal.specs.Values.{distinct, members_of}
 use Rattle.bicep_literal.specs.declared.entry.Entry.{Entry}
 
 -- what stands before the first `@` and behind it
@@ -61,3 +64,20 @@ with_parts path ms = option_and_then (λ p. option_and_then (λ q. resource_of p
 -- the resource that a statement with this type text and these members declares
 abbrev pub entry_of : List ℕ → List ℕ → List Member → Option Entry
 entry_of symbol path ms = option_map (λ r. record { symbol = symbol; resource = r }) (with_parts (divided path) (parted ms))
+
+-- the resource that a resource's tree declares, with its symbol
+abbrev pub resource_entry : ResourceTree → Option Entry
+resource_entry (tree.resource at n p x b) = option_and_then (entry_of n.text p.text) (option_and_then members_of (only_body x b))
+
+abbrev pub declared_entry : DeclarationTree → Option Entry
+declared_entry (tree.a_resource r) = resource_entry r
+declared_entry _ = None
+
+abbrev pub statement_entry : StatementTree → Option Entry
+statement_entry (tree.statement tree.no_decorator d) = declared_entry d
+statement_entry _ = None
+
+-- the resources of a file, each with its symbol
+abbrev pub read : FileTree → Option (List Entry)
+read [] = Some []
+read (s ∷ ss) = option_and_then (λ e. option_map (λ es. e ∷ es) (read ss)) (statement_entry s)

@@ -1,11 +1,6 @@
-pub mod Forms
-pub mod Grammar
+pub mod Literal
 pub mod Source
-pub mod Lexemes
-pub mod Machine
-pub mod Views
+pub mod Values
 pub mod Entries
-pub mod Stages
-pub mod StageViews
 pub mod Checks
 pub mod Refused

@@ -9,7 +9,10 @@ use Rattle.bicep_lexer.specs.Grammar as lexer
 use Rattle.literal_template.specs.Literals.{pairs_are_plain}
 use Rattle.literal_template.specs.Resources.{is_among, heads, directives, is_deployment}
 use Rattle.literal_template.specs.declared.resource.Resource.{Resource}
-use Rattle.bicep_literal.specs.Grammar.{Declaration, SpellFile}
+use Rattle.bicep_tree.specs.Tree.{FileTree}
+use Rattle.bicep_tree.specs.Declarations.{Spells}
+use Rattle.bicep_tree.specs.Nesting.{file_nesting}
+use Rattle.bicep_literal.specs.Literal.{Declaration, declarations}
 
 -- the value with the members of each object in the order of their bytes
 abbrev mutual
@@ -115,10 +118,14 @@ pub record FileDeclares (ds : List Declaration) (rs : List Resource) : Type 0 wh
   pub keys : KeysDiffer rs
   pub few : length rs ≤ 800
 
--- the source is in the literal form, and declares these resources
+-- the file is in the literal form, and declares these resources
+abbrev pub TreeDeclares : FileTree → List Resource → Type 0
+TreeDeclares f rs = (ds : List Declaration) × (declarations f ≡ Some ds) × FileDeclares ds rs
+
+-- the source spells a file in which no expression nests above 64; the file is in the literal form, and declares these resources
 abbrev pub SourceDeclares : List ℕ → List Resource → Type 0
 SourceDeclares source rs =
-    (tokens : List Standing) × (ds : List Declaration) × lexer.Spells source tokens × SpellFile tokens ds × FileDeclares ds rs
+    (tokens : List Standing) × (f : FileTree) × lexer.Spells source tokens × Spells f tokens × (file_nesting f ≤ 64) × TreeDeclares f rs
 
 -- no source declares two lists of resources
 abbrev pub DeclareOneList : Type 0

@@ -6,13 +6,13 @@ ghost use Rattle.bicep_literal.specs.Entries.{divided, is_name, name_text, part,
 ghost use Rattle.bicep_literal.specs.Source.{is_reserved};
 ghost use Rattle.std.specs.List.{list_any};
 ghost use Rattle.arm_value.specs.Json.{keys};
-ghost use Rattle.bicep_literal.specs.Views.{Gives};
+ghost use Rattle.bicep_literal.specs.Values.{Gives};
 
 use crate::object::{MOST_NESTING, distinct};
 use crate::proper::{is_proper, is_reserved};
 use crate::stop::Stop;
-use crate::words::is_word;
 use arm_value::{Field, Fields, Text, Value, deepest_member};
+use bicep_tree::is_word;
 use literal_template::Resource;
 use std::alloc::Global;
 
@@ -55,7 +55,7 @@ fn name_text(name: Option<Text>, value: Value) -> Result<Text, Stop>
 }
 
 // A member more: it is the name, or one of the others.
-#[tactic(auto, using(crate::proofs::ViewLemmas::views))]
+#[tactic(auto, using(crate::proofs::ValueLemmas::views))]
 fn part(name: Option<Text>, others: &mut Vec<Field>, field: Field) -> Result<Option<Text>, Stop>
     ensures { Gives (λ n. (n, map member others.new.items)) result
         (part name (map member others.old.items) (member field)) }

@@ -1,18 +1,29 @@
-// Why a source declares no resources.
-
 use bicep_lexer::LexFault;
+use bicep_parser::ParseFault;
 use thiserror::Error;
 
+/// Why the resources of a file are not told.
+#[derive(Clone, Copy, Debug, Error, PartialEq, Eq)]
+pub enum LiteralFault {
+    /// The file is not in the literal form.
+    #[error("not literal")]
+    NotLiteral,
+    #[error("out of memory")]
+    OutOfMemory,
+}
+
 /// Why a source declares no resources.
-#[derive(Debug, Clone, Copy, PartialEq, Eq, Error)]
+#[derive(Clone, Copy, Debug, Error, PartialEq, Eq)]
 pub enum SourceFault {
     /// What the lexer met, which is never its want of memory.
     #[error("{0}")]
     Lexical(LexFault),
-    /// The source is in no literal form.
+    /// What the parser met, which is never its want of memory.
+    #[error("{0}")]
+    Syntax(ParseFault),
+    /// The file is not in the literal form.
     #[error("not literal")]
     NotLiteral,
-    /// Memory was refused.
     #[error("out of memory")]
     OutOfMemory,
 }

@@ -3,8 +3,7 @@
 ghost use Rattle.std.specs.Prelude.{◌≡◌, ◌≤◌, map};
 ghost use Rattle.arm_value.specs.Json.{members_nesting};
 ghost use Rattle.arm_value.specs.View.{json, member};
-ghost use Rattle.bicep_literal.specs.Machine.{distinct, array_of, object_of};
-ghost use Rattle.bicep_literal.specs.Views.{Gives};
+ghost use Rattle.bicep_literal.specs.Values.{distinct, array_of, object_of, Gives};
 
 use crate::stop::Stop;
 use arm_value::{Field, Fields, Items, Value, deepest_item, deepest_member};
@@ -14,7 +13,7 @@ use std::alloc::Global;
 pub const MOST_NESTING: u32 = 90;
 
 /// The members in the order of their names, where these differ.
-#[tactic(auto, unfolding(crate::specs::Machine::distinct))]
+#[tactic(auto, unfolding(crate::specs::Values::distinct))]
 pub fn distinct(alloc: Global, members: Vec<Field>) -> Result<Fields, Stop>
     requires { members_nesting (map member members.items) ≤ 119 }
     ensures { Gives (λ f. f) result (distinct (map member members.items)) }
@@ -29,7 +28,7 @@ pub fn distinct(alloc: Global, members: Vec<Field>) -> Result<Fields, Stop>
 }
 
 /// The array of these items.
-#[tactic(auto, unfolding(crate::specs::Machine::array_of))]
+#[tactic(auto, unfolding(crate::specs::Values::array_of))]
 pub fn array(items: Vec<Value>) -> Result<Value, Stop>
     ensures { Gives json result (array_of (map json items.items)) }
 {
@@ -41,7 +40,7 @@ pub fn array(items: Vec<Value>) -> Result<Value, Stop>
 }
 
 /// The object of these members.
-#[tactic(auto, unfolding(crate::specs::Machine::object_of))]
+#[tactic(auto, unfolding(crate::specs::Values::object_of))]
 pub fn object(alloc: Global, members: Vec<Field>) -> Result<Value, Stop>
     ensures { Gives json result (object_of (map member members.items)) }
 {

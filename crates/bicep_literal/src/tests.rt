@@ -75,7 +75,7 @@ fn members_become_bodies(rt: HostRuntime) -> Result<(), Fail> {
 }
 
 // What follows the name of a resource and is in no literal form.
-const WRONG_BODIES: [&str; 27] = [
+const WRONG_BODIES: [&str; 18] = [
     "\n b: 1\n b: 2",
     "\n name: 'b'",
     "\n b: { c: 1, c: 2 }",
@@ -90,20 +90,37 @@ const WRONG_BODIES: [&str; 27] = [
     "\n dependson: []",
     "\n parent: 1",
     "\n Existing: 1",
-    "\n true: 1",
     "\n b: -1",
     "\n b: c",
     "\n b: 'x${1}'",
-    "\n b: [1 2]",
-    "\n b: [1,\n 2",
-    "\n b: { c: 1 d: 2 }",
-    "\n b 1",
-    "\n b:\n 1",
-    "\n b: 1]",
-    "\n 1: 1",
-    "\n b: [1}",
     "\n b: (1)",
 ];
+
+// What follows the name of a resource and is no part of a file, with the place of the token.
+const NO_BODIES: [(&str, usize); 9] = [
+    ("\n true: 1", 55),
+    ("\n b: [1 2]", 61),
+    ("\n b: [1,\n 2", 64),
+    ("\n b: { c: 1 d: 2 }", 65),
+    ("\n b 1", 57),
+    ("\n b:\n 1", 57),
+    ("\n b: 1]", 59),
+    ("\n 1: 1", 55),
+    ("\n b: [1}", 60),
+];
+
+#[test]
+fn what_is_no_file_is_refused_at_its_place(rt: HostRuntime) -> Result<(), Fail> {
+    let alloc = rt.alloc();
+    for row in &NO_BODIES {
+        let source = with_body(alloc, row.0)?;
+        let at = row.1;
+        let wanted = format!(in alloc; "not a file at {at}")?;
+        let found = told(alloc, source.as_str())?;
+        assert_eq!(rt; found.as_str(), wanted.as_str(), "{}", row.0);
+    }
+    Ok(())
+}
 
 #[test]
 fn other_members_are_refused(rt: HostRuntime) -> Result<(), Fail> {
@@ -161,7 +178,7 @@ const FILES: [(&str, &str); 20] = [
     ),
     (
         "resource a 'A/b@1' = {name: 'x'} resource b 'A/b@1' = {name: 'y'}",
-        "not literal",
+        "not a file at 33",
     ),
     (
         "resource a 'A/b@1' = {name: 'x'}\nresource A 'A/b@1' = {name: 'y'}",
@@ -177,17 +194,17 @@ const FILES: [(&str, &str); 20] = [
     ),
     ("param x int", "not literal"),
     ("resource a 'A/b@1' = {}", "not literal"),
-    ("resource a 'A/b@1' = [name: 'x']", "not literal"),
-    ("resource a 'A/b@1' = 1", "not literal"),
+    ("resource a 'A/b@1' = [name: 'x']", "not a file at 22"),
+    ("resource a 'A/b@1' = 1", "not a file at 21"),
     ("resource a 'A/b@1' existing = {name: 'x'}", "not literal"),
     ("resource a 'A/b@1' = if (true) {name: 'x'}", "not literal"),
     (
         "@batchSize(1)\nresource a 'A/b@1' = {name: 'x'}",
         "not literal",
     ),
-    ("resource 'a' 'A/b@1' = {name: 'x'}", "not literal"),
-    ("Resource a 'A/b@1' = {name: 'x'}", "not literal"),
-    ("resource a 'A/b@1' = {name: 'x'", "not literal"),
+    ("resource 'a' 'A/b@1' = {name: 'x'}", "not a file at 9"),
+    ("Resource a 'A/b@1' = {name: 'x'}", "not a file at 0"),
+    ("resource a 'A/b@1' = {name: 'x'", "not a file at 31"),
     ("resource a 'A", "open text at 11"),
     ("#", "bad character at 0"),
 ];
@@ -220,17 +237,13 @@ fn is_declared(alloc: Global, source: &str) -> bool {
 }
 
 #[test]
-fn values_nest_up_to_ninety(rt: HostRuntime) -> Result<(), Fail> {
+fn values_nest_as_deep_as_expressions(rt: HostRuntime) -> Result<(), Fail> {
     let alloc = rt.alloc();
-    assert!(rt; is_declared(alloc, nested(alloc, 90)?.as_str()));
-    for depth in [91, 92, 120, 121, 20000] {
+    assert!(rt; is_declared(alloc, nested(alloc, 63)?.as_str()));
+    for depth in [64, 65, 120, 121, 20000] {
         let source = nested(alloc, depth)?;
-        assert_eq!(rt;
-            told(alloc, source.as_str())?.as_str(),
-            "not literal",
-            "{}",
-            depth
-        );
+        let found = told(alloc, source.as_str())?;
+        assert!(rt; found.as_str().starts_with("too deep at "), "{}", depth);
     }
     Ok(())
 }

@@ -1,18 +1,10 @@
 // Words of a source.
 
-ghost use Rattle.std.specs.Prelude.{◌≡◌, nat_lt, IsTrue, bytes_eq, chars};
-ghost use Rattle.std.specs.List.{list_all, list_any};
+ghost use Rattle.std.specs.Prelude.{◌≡◌, chars};
+ghost use Rattle.std.specs.List.{list_any};
 ghost use Rattle.arm_value.specs.Look.{is_same_folded};
 
 use arm_value::folded_eq;
-
-/// Whether the text is the word, which is of ASCII characters.
-pub fn is_word(text: &str, word: &str) -> bool
-    requires { IsTrue (list_all (λ b. nat_lt b 128) word.now) }
-    ensures { result ≡ bytes_eq (chars text.now) word.now }
-{
-    text == word
-}
 
 /// Whether the text is the word, in letters of any case.
 pub fn is_same_word(text: &str, word: &str) -> bool

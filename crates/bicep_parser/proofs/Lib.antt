@@ -1,10 +1,3 @@
 mod Answering
-mod Building
-mod Complete
-mod CompleteFile
-mod Keeping
-mod Open
-mod Reading
-mod Running
-mod Sound
-mod SoundClosing
+mod Progress
+mod StepLemmas

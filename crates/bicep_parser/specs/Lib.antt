@@ -1,5 +1,2 @@
-pub mod Kept
-pub mod Stack
-pub mod Closing
-pub mod Machine
+pub mod Answers
 pub mod Refused

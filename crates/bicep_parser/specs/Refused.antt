@@ -1,5 +1,5 @@
 -- Which tokens are refused.
-use Rattle.std.specs.Prelude.{◌≡◌, ℕ, ◌<◌, List}
+use Rattle.std.specs.Prelude.{◌≡◌, ℕ, ◌+◌, ◌-◌, ◌^◌, ◌<◌, min, List, [], ◌∷◌, ◌++◌, length, ◌⊎◌}
 use Rattle.bicep_lexer.specs.Reading.{Standing}
 use Rattle.bicep_tree.specs.Tree.{FileTree}
 use Rattle.bicep_tree.specs.Nesting.{file_nesting}
@@ -7,11 +7,40 @@ use Rattle.bicep_tree.specs.Declarations.{Spells}
 use Rattle.bicep_parser.specs.declared.fault.ParseFault.{ParseFault}
 use Rattle.bicep_parser.specs.declared.fault.ParseFault.TheVariants as fault
 
--- no file is spelled, or one that nests too deep; nothing is said where memory ran out
-abbrev pub IsRefused : List Standing → ParseFault → Type 0
-IsRefused ts (fault.NotAFile at) = (f : FileTree) → Spells f ts → ⊥
-IsRefused ts (fault.TooDeep at) = (f : FileTree) × Spells f ts × (64 < file_nesting f)
-IsRefused ts fault.OutOfMemory = Unit {0}
+-- Why tokens are refused: no file is spelled, or one that nests too deep. Nothing is said where memory ran out.
+abbrev pub Refuses : List Standing → ParseFault → Type 0
+Refuses ts (fault.NotAFile at) = (f : FileTree) → Spells f ts → ⊥
+Refuses ts (fault.TooDeep at) = (f : FileTree) × Spells f ts × (64 < file_nesting f)
+Refuses ts fault.OutOfMemory = Unit {0}
+
+-- no file begins with these tokens
+abbrev pub BeginNoFile : List Standing → Type 0
+BeginNoFile ts = (more : List Standing) (f : FileTree) → Spells f (ts ++ more) → ⊥
+
+-- no file begins with the tokens up to the one at this place
+pub record BreaksAt (ts : List Standing) (at : ℕ) : Type 0 where
+  pub before : List Standing
+  pub token : Standing
+  pub after : List Standing
+  pub split : ts ≡ before ++ token ∷ after
+  pub place : at ≡ token.1
+  pub none : BeginNoFile (before ++ token ∷ [])
+
+-- the offset behind a token, at most 2^64 - 1
+abbrev pub behind : Standing → ℕ
+behind t = min (t.1 + length t.2) (2 ^ 64 - 1)
+
+-- the place is behind the last token, and 0 where there is none
+abbrev pub EndsAt : List Standing → ℕ → Type 0
+EndsAt [] at = at ≡ 0
+EndsAt (t ∷ []) at = at ≡ behind t
+EndsAt (t ∷ ts) at = EndsAt ts at
+
+-- the place of a fault: where the tokens are no file, a token with which no file goes on, or their end
+abbrev pub TellsPlace : List Standing → ParseFault → Type 0
+TellsPlace ts (fault.NotAFile at) = BreaksAt ts at ⊎ EndsAt ts at
+TellsPlace ts (fault.TooDeep at) = Unit {0}
+TellsPlace ts fault.OutOfMemory = Unit {0}
 
 -- no tokens spell two files
 abbrev pub SpellOneFile : Type 0

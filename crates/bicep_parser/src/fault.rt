@@ -1,17 +1,15 @@
-// Why tokens are no file.
+// Why tokens are not parsed.
 
 use thiserror::Error;
 
-/// Why a file is not read.
+/// Why tokens are not parsed. A place is the offset of a byte in the source.
 #[derive(Debug, Clone, Copy, PartialEq, Eq, Error)]
 pub enum ParseFault {
-    /// The tokens spell no file. The offset in bytes is that of the first token with which no file
-    /// can go on, or the end of the last token where something is missing there.
-    #[error("not a file")]
+    /// The tokens spell no file: the token with which no file goes on, or the end of the last token.
+    #[error("not a file at {0}")]
     NotAFile(usize),
-    /// An expression nests above 64. The offset in bytes is that of a token behind it, or of the
-    /// last token.
-    #[error("too deep")]
+    /// An expression nests above 64: the token behind which that is known, or the end of the last one.
+    #[error("too deep at {0}")]
     TooDeep(usize),
     /// Memory was refused.
     #[error("out of memory")]

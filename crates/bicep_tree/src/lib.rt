@@ -22,3 +22,4 @@ pub use leaf::{
 };
 pub use terminal::Terminal;
 pub use token::terminal_of;
+pub use words::is_word;

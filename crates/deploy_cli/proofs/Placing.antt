@@ -6,7 +6,7 @@ use Rattle.arm_ids.specs.Segments.{is_empty}
 use Rattle.arm_ids.specs.declared.id.Place.{Place}
 use Rattle.literal_template.specs.Resources.{IsLiteral}
 use Rattle.literal_template.specs.declared.resource.Resource.{Resource}
-use Rattle.bicep_literal.specs.Grammar.{Declaration}
+use Rattle.bicep_literal.specs.Literal.{Declaration}
 use Rattle.bicep_literal.specs.Source.{DeclareEach}
 use Rattle.deploy_cli.specs.Words.{Deploy}
 use Rattle.deploy_cli.specs.Names.{is_name_byte, is_group_name}
@@ -52,7 +52,7 @@ each_can d (e ∷ ds) (r ∷ rs) named declared literal =
 
 -- the resources that are ready can be put
 pub all_can : (folder : Folder) (d : Deploy) (rs : List Resource) → IsPrepared folder d rs → AllByRecursion IsLiteral rs → AllByRecursion (CanPut (place_of d)) rs
-all_can folder d rs is literal = each_can d is.1.program.declares.1 rs is.1.group is.1.program.declares.4.each literal
+all_can folder d rs is literal = each_can d is.1.program.declares.5.0 rs is.1.group is.1.program.declares.5.2.each literal
 
 -- a place of these parts
 pub place_made : (a b c e i j k l : List ℕ) → a ≡ i → b ≡ j → c ≡ k → e ≡ l → ◌≡◌ {A = Place} (record { subscription = a; group = b; location = c; deployment = e }) (record { subscription = i; group = j; location = k; deployment = l })

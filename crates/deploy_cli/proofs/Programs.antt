@@ -12,10 +12,10 @@ use Rattle.deploy_cli.specs.Program.{IsNotBuilt}
 pub too_large : (bytes : List ℕ) (declared : List Resource) → DeclareOneList → IsUtf8 bytes → SourceDeclares bytes declared → 4194304 < length (template_bytes declared) → IsNotBuilt bytes
 too_large bytes declared one text declares large = record {
   is_text = text;
-  tokens = (declares.0, declares.2);
+  file = (declares.0, declares.1, declares.2, declares.3, declares.4);
   none = λ rs is. omega (arith, large, is.small, ap (λ (l : List Resource). length (template_bytes l)) (one bytes rs declared is.declares declares));
 }
 
 -- the source is in no literal form
 pub not_literal : (bytes : List ℕ) → IsUtf8 bytes → IsNoSource bytes NotLiteral → IsNotBuilt bytes
-not_literal bytes text is = record { is_text = text; tokens = is.0; none = λ rs program. is.1 rs program.declares }
+not_literal bytes text is = record { is_text = text; file = is.0; none = λ rs program. is.1 rs program.declares }

@@ -6,7 +6,7 @@ use Rattle.literal_template.specs.Template.{template_bytes, StatedBy}
 use Rattle.literal_template.specs.declared.resource.Resource.{Resource}
 use Rattle.deploy_cli.specs.Words.{Deploy}
 use Rattle.deploy_cli.specs.Names.{is_group_name, is_deployment_name}
-use Rattle.deploy_cli.specs.Program.{IsProgram, IsLexical, IsNotBuilt}
+use Rattle.deploy_cli.specs.Program.{IsProgram, IsLexical, IsSyntax, IsNotBuilt}
 use Rattle.deploy_cli.specs.declared.ending.Ending.{Ending}
 use Rattle.deploy_cli.specs.declared.ending.Ending.TheVariants as ending
 
@@ -23,6 +23,7 @@ WasRead folder name bytes = folder.tells ≡ true → folder.file name ≡ Some 
 abbrev pub IsRefused : List ℕ → Ending → Type 0
 IsRefused bytes ending.NotText = ¬ IsUtf8 bytes
 IsRefused bytes (ending.Lexical f place) = IsLexical bytes f place
+IsRefused bytes (ending.Syntax f place) = IsSyntax bytes f place
 IsRefused bytes ending.NotBuilt = IsNotBuilt bytes
 IsRefused bytes ending.OutOfMemory = Unit {0}
 IsRefused bytes _ = ⊥
@@ -65,6 +66,7 @@ IsNotPrepared folder before now d ending.TooLarge = IsTooLarge folder d.file
 IsNotPrepared folder before now d ending.TreeFault = Rose before now
 IsNotPrepared folder before now d ending.NotText = (bytes : List ℕ) × WasRead folder d.file bytes × (¬ IsUtf8 bytes)
 IsNotPrepared folder before now d (ending.Lexical f place) = (bytes : List ℕ) × WasRead folder d.file bytes × IsLexical bytes f place
+IsNotPrepared folder before now d (ending.Syntax f place) = (bytes : List ℕ) × WasRead folder d.file bytes × IsSyntax bytes f place
 IsNotPrepared folder before now d ending.NotBuilt = (bytes : List ℕ) × WasRead folder d.file bytes × IsNotBuilt bytes
 IsNotPrepared folder before now d ending.BadGroup = IsRead folder d × (is_group_name d.group ≡ false)
 IsNotPrepared folder before now d ending.BadDeployment = IsRead folder d × (is_group_name d.group ≡ true) × (is_deployment_name d.name ≡ false)

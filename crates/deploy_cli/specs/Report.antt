@@ -4,8 +4,10 @@ use Rattle.arm_edges.specs.Faults.{Rose}
 use Rattle.arm_edges.specs.declared.faults.Failed.{Failed}
 use Rattle.bicep_lexer.specs.declared.fault.LexFault.{LexFault}
 use Rattle.bicep_lexer.specs.declared.fault.LexFault.TheVariants as lexical
+use Rattle.bicep_parser.specs.declared.fault.ParseFault.{ParseFault}
+use Rattle.bicep_parser.specs.declared.fault.ParseFault.TheVariants as syntax
 use Rattle.deploy_cli.specs.declared.ending.Ending.{Ending}
-use Rattle.deploy_cli.specs.declared.ending.Ending.TheVariants.{Succeeded, Refused, Missing, TooLarge, NotText, Lexical, NotBuilt, BadGroup, BadDeployment, TreeFault, ProviderFault, OutOfMemory}
+use Rattle.deploy_cli.specs.declared.ending.Ending.TheVariants.{Succeeded, Refused, Missing, TooLarge, NotText, Lexical, Syntax, NotBuilt, BadGroup, BadDeployment, TreeFault, ProviderFault, OutOfMemory}
 use Rattle.deploy_cli.specs.Words.{Deploy}
 
 -- how the line of a fault of the lexer begins
@@ -26,9 +28,15 @@ abbrev pub refused_line : List ℕ → List ℕ → List ℕ → List ℕ
 refused_line name code id =
     three (codes "Failed ") name (codes ": ") ++ (three code (codes ": ") id ++ codes "\n")
 
--- the line of a fault of the lexer, which begins so
-abbrev pub lexical_line : List ℕ → List ℕ → List ℕ → List ℕ
-lexical_line prefix file place = three prefix file (codes ":") ++ (place ++ codes "\n")
+-- how the line of a fault of the parser begins
+abbrev pub syntax_prefix : ParseFault → List ℕ
+syntax_prefix (syntax.NotAFile at) = codes "error NotAFile: "
+syntax_prefix (syntax.TooDeep at) = codes "error TooDeep: "
+syntax_prefix syntax.OutOfMemory = codes "error OutOfMemory: "
+
+-- the line of a fault of the lexer or the parser, which begins so
+abbrev pub fault_line : List ℕ → List ℕ → List ℕ → List ℕ
+fault_line prefix file place = three prefix file (codes ":") ++ (place ++ codes "\n")
 
 -- the line that is printed of the ending of a deployment
 abbrev pub line_of : Deploy → Ending → List ℕ
@@ -37,7 +45,8 @@ line_of d (Refused code id) = refused_line d.name (encode_utf8_all code) (encode
 line_of d Missing = three (codes "error ModuleMissing: ") d.file (codes "\n")
 line_of d TooLarge = three (codes "error TooLarge: ") d.file (codes "\n")
 line_of d NotText = three (codes "error NotText: ") d.file (codes "\n")
-line_of d (Lexical f place) = lexical_line (lexical_prefix f) d.file (encode_utf8_all place)
+line_of d (Lexical f place) = fault_line (lexical_prefix f) d.file (encode_utf8_all place)
+line_of d (Syntax f place) = fault_line (syntax_prefix f) d.file (encode_utf8_all place)
 line_of d NotBuilt = three (codes "error NotBuilt: ") d.file (codes "\n")
 line_of d BadGroup = three (codes "error InvalidParameter: BadName ") d.group (codes "\n")
 line_of d BadDeployment = three (codes "error InvalidParameter: BadName ") d.name (codes "\n")
@@ -57,6 +66,7 @@ status_of Missing = 1
 status_of TooLarge = 1
 status_of NotText = 1
 status_of (Lexical f place) = 1
+status_of (Syntax f place) = 1
 status_of NotBuilt = 1
 status_of BadGroup = 1
 status_of BadDeployment = 1

@@ -2,6 +2,7 @@
 
 use arm_value::Text;
 use bicep_lexer::LexFault;
+use bicep_parser::ParseFault;
 
 /// How a deployment ended.
 #[derive(Drop)]
@@ -18,6 +19,8 @@ pub(crate) enum Ending {
     NotText,
     /// The lexer refused the file: the fault, and its place in decimal digits.
     Lexical(LexFault, Text),
+    /// The parser refused the file: the fault, and its place in decimal digits.
+    Syntax(ParseFault, Text),
     /// The file is in no form that is built.
     NotBuilt,
     /// No group has such a name.

@@ -6,13 +6,14 @@ ghost use Rattle.std.specs.List.{AllByRecursion};
 ghost use Rattle.literal_template.specs.Resources.{IsLiteral};
 ghost use Rattle.literal_template.specs.Template.{StatedBy, template_bytes};
 ghost use Rattle.bicep_literal.specs.Refused.{IsRefused as IsNoSource};
-ghost use Rattle.deploy_cli.specs.Program.{IsProgram, place_of_fault};
+ghost use Rattle.deploy_cli.specs.Program.{IsProgram, place_of_fault, place_of_syntax};
 ghost use Rattle.deploy_cli.specs.Prepared.{IsRefused};
 
 use crate::ending::Ending;
 use arm_value::{Bytes, Text};
 use bicep_lexer::LexFault;
 use bicep_literal::{SourceFault, a_source_declares_one_list, resources};
+use bicep_parser::ParseFault;
 use literal_template::{Resource, TemplateFault, read, write};
 use std::alloc::Global;
 
@@ -60,6 +61,10 @@ fn refusal(alloc: Global, fault: SourceFault) -> Ending
             Some(place) => Ending::Lexical(fault, place),
             None => Ending::OutOfMemory,
         },
+        SourceFault::Syntax(fault) => match digits(alloc, place_of_syntax(fault)) {
+            Some(place) => Ending::Syntax(fault, place),
+            None => Ending::OutOfMemory,
+        },
         SourceFault::NotLiteral => Ending::NotBuilt,
         SourceFault::OutOfMemory => Ending::OutOfMemory,
     }
@@ -86,5 +91,16 @@ fn place_of_fault(fault: LexFault) -> usize
         | LexFault::OpenComment(at)
         | LexFault::BadNumber(at) => at,
         LexFault::OutOfMemory => 0,
+    }
+}
+
+// Where in its source a fault of the parser stands.
+fn place_of_syntax(fault: ParseFault) -> usize
+    ensures { result ≡ place_of_syntax fault }
+{
+    match fault {
+        ParseFault::NotAFile(at) => at,
+        ParseFault::TooDeep(at) => at,
+        ParseFault::OutOfMemory => 0,
     }
 }

@@ -2,13 +2,14 @@
 
 ghost use Rattle.std.specs.Prelude.{◌≡◌, ◌++◌, codes};
 ghost use Rattle.arm_edges.specs.Faults.{HasCause};
-ghost use Rattle.deploy_cli.specs.Report.{Wrote, three, refused_line, lexical_line, lexical_prefix, line_of, usage};
+ghost use Rattle.deploy_cli.specs.Report.{Wrote, three, refused_line, fault_line, lexical_prefix, syntax_prefix, line_of, usage};
 ghost use Rattle.deploy_cli.specs.Words.{deploy_of};
 
 use crate::ending::Ending;
 use crate::words::Command;
 use arm_edges::{Failed, Sink};
 use bicep_lexer::LexFault;
+use bicep_parser::ParseFault;
 
 // Writes the whole text, or a front of it where the output fails.
 #[tactic(auto, using(crate::proofs::Parts::part_next))]
@@ -85,9 +86,20 @@ fn lexical_prefix(fault: LexFault) -> &'static str
     }
 }
 
-// Writes the line of a fault of the lexer.
-fn write_lexical<O: Sink>(out: &mut O, prefix: &str, file: &str, place: &str) -> Result<(), Failed>
-    ensures wrote { Wrote O.tells_written (O.written out.old) (O.written out.new) (lexical_line prefix.now file.now place.now) result }
+// How the line of a fault of the parser begins.
+fn syntax_prefix(fault: ParseFault) -> &'static str
+    ensures { result.now ≡ syntax_prefix fault }
+{
+    match fault {
+        ParseFault::NotAFile(_) => "error NotAFile: ",
+        ParseFault::TooDeep(_) => "error TooDeep: ",
+        ParseFault::OutOfMemory => "error OutOfMemory: ",
+    }
+}
+
+// Writes the line of a fault of the lexer or the parser.
+fn write_fault<O: Sink>(out: &mut O, prefix: &str, file: &str, place: &str) -> Result<(), Failed>
+    ensures wrote { Wrote O.tells_written (O.written out.old) (O.written out.new) (fault_line prefix.now file.now place.now) result }
     ensures cause { HasCause (O.faults out.old) (O.faults out.new) result }
 {
     match write_three(out, prefix, file, ":") {
@@ -109,8 +121,11 @@ pub(crate) fn print<O: Sink>(out: &mut O, command: &Command, ending: &Ending) ->
         Ending::TooLarge => write_three(out, "error TooLarge: ", file, "\n"),
         Ending::NotText => write_three(out, "error NotText: ", file, "\n"),
         Ending::Lexical(fault, place) => {
-            write_lexical(out, lexical_prefix(*fault), file, place.as_str())
-        },
+            write_fault(out, lexical_prefix(*fault), file, place.as_str())
+        }
+        Ending::Syntax(fault, place) => {
+            write_fault(out, syntax_prefix(*fault), file, place.as_str())
+        }
         Ending::NotBuilt => write_three(out, "error NotBuilt: ", file, "\n"),
         Ending::BadGroup => write_three(out, "error InvalidParameter: BadName ", group, "\n"),
         Ending::BadDeployment => write_three(out, "error InvalidParameter: BadName ", name, "\n"),

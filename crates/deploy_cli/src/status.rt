@@ -27,6 +27,7 @@ fn status_of(ending: &Ending) -> u8
         | Ending::TooLarge
         | Ending::NotText
         | Ending::Lexical(_, _)
+        | Ending::Syntax(_, _)
         | Ending::NotBuilt
         | Ending::BadGroup
         | Ending::BadDeployment => 1,

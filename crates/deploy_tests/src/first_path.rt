@@ -12,7 +12,7 @@ use std::thread::Threads;
 
 const THING: &str = "resource a 'Demo.Lab/things@2024-01-01' = {\n  name: 'a'\n  size: 2\n}\n";
 
-const FIRST: &str = "deploy main.bicep --group g --name first";
+pub const FIRST: &str = "deploy main.bicep --group g --name first";
 
 const USAGE: &str = "2 usage: armdeploy deploy FILE --group GROUP --name NAME\n";
 
@@ -92,7 +92,7 @@ fn provider_at<P: Provider>(crew: &[Seat<P>], place: usize) -> Result<&P, Fail> 
 }
 
 // What words and a file come to over the catalogue.
-fn told<R: Threads + Wait + Sync>(
+pub fn told<R: Threads + Wait + Sync>(
     rt: &R,
     alloc: Global,
     main: &str,
@@ -157,6 +157,8 @@ fn files_and_words_come_to_their_lines(rt: HostRuntime) -> Result<(), Fail> {
             "0 Succeeded e\n",
         ),
         ("param x int\n", FIRST, "1 error NotBuilt: main.bicep\n"),
+        ("var a = 'x", FIRST, "1 error OpenText: main.bicep:8\n"),
+        ("var a = 5 5", FIRST, "1 error NotAFile: main.bicep:10\n"),
         (
             "resource a 'T/t@1' = {\n  name: 'a'\n  n: 'open\n}\n",
             FIRST,

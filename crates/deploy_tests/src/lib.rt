@@ -9,3 +9,5 @@ mod first_path;
 #[cfg(test)]
 mod graphs;
 pub mod plain_graph;
+#[cfg(test)]
+mod real_files;

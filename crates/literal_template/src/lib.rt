@@ -16,6 +16,7 @@ mod resources;
 mod schema;
 mod writer;
 
+pub use literals::is_special;
 pub use plain::are_literal;
 pub use reader::{TemplateFault, read};
 pub use resource::Resource;

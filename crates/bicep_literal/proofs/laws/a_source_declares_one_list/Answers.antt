@@ -1,5 +1,5 @@
-use Rattle.bicep_literal.proofs.Answering as answering
+use Rattle.bicep_literal.proofs.Sources.{one_list_each}
 use Rattle.bicep_literal.proofs.laws.a_source_declares_one_list.Goals as goal
 
 pub returns : goal.returns
-returns c = answering.one_list
+returns c = one_list_each c.tokens_spell_one_file.ensures

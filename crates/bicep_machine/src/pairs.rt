@@ -1,0 +1,60 @@
+// Two names between parentheses, which are read as the arguments of a call.
+
+ghost use Rattle.std.specs.Prelude.{◌≡◌, map, option_map};
+ghost use Rattle.bicep_tree.specs.Tree.{trees};
+ghost use Rattle.bicep_tree.specs.View.{tree_of};
+ghost use Rattle.bicep_machine.specs.Closing.{pair_of};
+ghost use Rattle.bicep_machine.specs.Folding.{name_within, both_of, two_names};
+
+use bicep_tree::{Expr, Function, Name};
+
+// The name, where there is an expression and it is one.
+#[tactic(auto, using(bicep_tree::proofs::ViewLemmas::enums))]
+fn name_of(e: Option<Expr>) -> Option<Name>
+    ensures { result ≡ name_within (option_map tree_of e) }
+{
+    match e {
+        Some(Expr::Name(name)) => Some(name),
+        _ => None,
+    }
+}
+
+// The two names, where there are two expressions and both are names.
+fn two_names(mut arguments: Vec<Expr>) -> Option<(Name, Name)>
+    ensures { result ≡ two_names (trees (map tree_of arguments.items)) }
+{
+    let second = arguments.pop();
+    let first = arguments.pop();
+    let is_pair = arguments.is_empty();
+    let names = both_of(name_of(first), name_of(second));
+    if is_pair { names } else { None }
+}
+
+fn both_of(first: Option<Name>, second: Option<Name>) -> Option<(Name, Name)>
+    ensures { result ≡ both_of first second }
+{
+    match first {
+        None => None,
+        Some(first) => match second {
+            None => None,
+            Some(second) => Some((first, second)),
+        },
+    }
+}
+
+/// The word and the two names behind it, where the expression is such a call.
+#[tactic(auto, using(bicep_tree::proofs::ViewLemmas::enums, crate::proofs::PairLemmas::pairs))]
+pub fn pair_of(e: Expr) -> Option<(Name, Name, Name)>
+    ensures { result ≡ pair_of (tree_of e) }
+{
+    match e {
+        Expr::Call(function, arguments) => match function {
+            Function::Plain(word) => match two_names(arguments) {
+                None => None,
+                Some((first, second)) => Some((word, first, second)),
+            },
+            _ => None,
+        },
+        _ => None,
+    }
+}

@@ -1,0 +1,87 @@
+-- How far tokens are read, and where they break.
+use Rattle.std.proofs.Common.{◌≡◌, ℕ, zero, suc, ◌-◌, ◌+◌, List, [], ◌∷◌, ◌++◌, map, drop, length, Bool, false, Some, None, option_and_then, inl, refl, sym, ap, ◌∙◌, subst, arith}
+use Rattle.std.specs.List.{slice_get}
+use Rattle.bicep_lexer.specs.declared.token.Token.{Token}
+use Rattle.bicep_lexer.specs.Reading.{Standing, standing}
+use Rattle.bicep_tree.specs.declared.terminal.Terminal.{Terminal}
+use Rattle.bicep_tree.specs.Terminals.{Placed, placed, terminal_of}
+use Rattle.bicep_machine.specs.Kept.{empty}
+use Rattle.bicep_machine.specs.Stack.{State, Frame, between, in_file}
+use Rattle.bicep_machine.specs.Machine.{step, run, finished, parsed}
+use Rattle.bicep_machine.specs.declared.stop.Stop.{Stop}
+use Rattle.bicep_machine.specs.declared.stop.Stop.TheVariants as stop
+use Rattle.bicep_machine.specs.Views.{Stops}
+use Rattle.bicep_parser.specs.Answers.{told}
+use Rattle.bicep_parser.specs.Refused.{BeginNoFile, BreaksAt, behind, EndsAt, TellsPlace}
+use Rattle.bicep_parser.proofs.Answering.{none_spelled}
+
+-- what was read of the tokens, and that it leads here
+pub record Progress (ts rest : List Standing) (s : State) (i : Bool) (S : List Frame) : Type 0 where
+  pub before : List Standing
+  pub split : ts ≡ before ++ rest
+  pub leads : (more : List Placed) → run 64 s i S more ≡ parsed 64 (map placed before ++ more)
+
+pub begins : (ts : List Standing) → Progress ts ts between false (in_file empty ∷ [])
+begins ts = record { before = []; split = refl; leads = λ more. refl }
+
+one_more : (before : List Standing) (t : Standing) (more : List Placed) → map placed before ++ placed t ∷ more ≡ map placed (before ++ t ∷ []) ++ more
+one_more [] t more = refl
+one_more (b ∷ before) t more = ap (λ xs. placed b ∷ xs) (one_more before t more)
+
+split_more : (before : List Standing) (t : Standing) (rest : List Standing) → before ++ t ∷ rest ≡ (before ++ t ∷ []) ++ rest
+split_more [] t rest = refl
+split_more (b ∷ before) t rest = ap (λ xs. b ∷ xs) (split_more before t rest)
+
+all_mapped : (xs ys : List Standing) → map placed (xs ++ ys) ≡ map placed xs ++ map placed ys
+all_mapped [] ys = refl
+all_mapped (x ∷ xs) ys = ap (λ zs. placed x ∷ zs) (all_mapped xs ys)
+
+-- a token is read
+pub goes_on : (ts rest : List Standing) (t : Standing) (s : State) (i : Bool) (S : List Frame) (q : State × Bool × List Frame) → Progress ts (t ∷ rest) s i S → step 64 s i S (placed t) ≡ Some q → Progress ts rest q.0 q.1 q.2
+goes_on ts rest t s i S q p e =
+    record {
+      before = p.before ++ t ∷ [];
+      split = p.split ∙ split_more p.before t rest;
+      leads = λ more. sym (ap (λ n. option_and_then (λ r. run 64 r.0 r.1 r.2 more) n) e) ∙ p.leads (placed t ∷ more) ∙ ap (parsed 64) (one_more p.before t more);
+    }
+
+-- a token with which the machine does not go on
+pub breaks : (ts rest : List Standing) (t : Standing) (s : State) (i : Bool) (S : List Frame) → Progress ts (t ∷ rest) s i S → step 64 s i S (placed t) ≡ None → BreaksAt ts t.1
+breaks ts rest t s i S p e =
+    record { before = p.before; token = t; after = rest; split = p.split; place = refl; none = none }
+  where
+    none : BeginNoFile (p.before ++ t ∷ [])
+    none more f h = none_spelled ((p.before ++ t ∷ []) ++ more) (ap (parsed 64) (all_mapped (p.before ++ t ∷ []) more ∙ sym (one_more p.before t (map placed more))) ∙ sym (p.leads (placed t ∷ map placed more)) ∙ ap (λ n. option_and_then (λ r. run 64 r.0 r.1 r.2 (map placed more)) n) e) f h
+
+-- all tokens are read
+pub ends : (ts : List Standing) (s : State) (i : Bool) (S : List Frame) → Progress ts [] s i S → finished 64 s S ≡ parsed 64 (map placed ts)
+ends ts s i S p = p.leads [] ∙ ap (parsed 64) (nothing_more (map placed p.before) ∙ ap (map placed) (sym (p.split ∙ nothing_more p.before)))
+  where
+    nothing_more : {X : Type 0} (xs : List X) → xs ++ [] ≡ xs
+    nothing_more [] = refl
+    nothing_more (x ∷ xs) = ap (λ ys. x ∷ ys) (nothing_more xs)
+
+-- ---- over the tokens of the code
+
+-- the next token is read
+pub reads_token : (xs : List Token) (i : ℕ) (t : Token) (x : Terminal) (s : State) (f : Bool) (S : List Frame) (q : State × Bool × List Frame) → drop i xs ≡ t ∷ drop (i + 1) xs → x ≡ terminal_of (standing t) → Progress (map standing xs) (map standing (drop i xs)) s f S → step 64 s f S (t.at, x) ≡ Some q → Progress (map standing xs) (map standing (drop (i + 1) xs)) q.0 q.1 q.2
+reads_token xs i t x s f S q next is p e =
+    goes_on (map standing xs) (map standing (drop (i + 1) xs)) (standing t) s f S q (subst (λ ys. Progress (map standing xs) (map standing ys) s f S) next p) (subst (λ y. step 64 s f S (t.at, y) ≡ Some q) is e)
+
+-- the next token is not read
+pub breaks_token : (xs : List Token) (i : ℕ) (t : Token) (x : Terminal) (s : State) (f : Bool) (S : List Frame) (why : Stop) → drop i xs ≡ t ∷ drop (i + 1) xs → x ≡ terminal_of (standing t) → Progress (map standing xs) (map standing (drop i xs)) s f S → Stops why (step 64 s f S (t.at, x)) → TellsPlace (map standing xs) (told why t.at)
+breaks_token xs i t x s f S stop.NotAFile next is p e =
+    inl (breaks (map standing xs) (map standing (drop (i + 1) xs)) (standing t) s f S (subst (λ ys. Progress (map standing xs) (map standing ys) s f S) next p) (subst (λ y. step 64 s f S (t.at, y) ≡ None) is e))
+breaks_token xs i t x s f S stop.OutOfMemory next is p e = tt
+
+-- the last token
+last_at : (ts : List Token) (n : ℕ) (t : Token) → length ts ≡ suc n → slice_get ts n ≡ Some t → EndsAt (map standing ts) (behind (standing t))
+last_at [] n t l e = absurd cc
+last_at (u ∷ []) zero t l e = let same : u ≡ t = cc in ap (λ x. behind (standing x)) (sym same)
+last_at (u ∷ []) (suc n) t l e = absurd cc
+last_at (u ∷ (v ∷ ts)) zero t l e = absurd (omega arith)
+last_at (u ∷ (v ∷ ts)) (suc n) t l e = last_at (v ∷ ts) n t (omega arith) e
+
+pub last_ends : (ts : List Token) (t : Token) → slice_get ts (length ts - 1) ≡ Some t → EndsAt (map standing ts) (behind (standing t))
+last_ends [] t e = absurd cc
+last_ends (u ∷ ts) t e = last_at (u ∷ ts) (length (u ∷ ts) - 1) t (omega arith) e

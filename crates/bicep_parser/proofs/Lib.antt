@@ -1,3 +1,12 @@
 mod Answering
+mod Completing
+mod EndingBodies
+mod EndingDeclarations
+mod EndingFrames
+mod EndingStates
+mod Fitting
+mod Following
+mod FollowingDeclarations
+mod FollowingSteps
 mod Progress
 mod StepLemmas

@@ -1,6 +1,7 @@
 -- How far tokens are read, and where they break.
-use Rattle.std.proofs.Common.{◌≡◌, ℕ, zero, suc, ◌-◌, ◌+◌, List, [], ◌∷◌, ◌++◌, map, drop, length, Bool, false, Some, None, option_and_then, inl, refl, sym, ap, ◌∙◌, subst, arith}
+use Rattle.std.proofs.Common.{◌≡◌, ℕ, zero, suc, ◌-◌, ◌+◌, ◌≤◌, List, [], ◌∷◌, ◌++◌, map, drop, length, Bool, false, Some, None, option_and_then, inl, inr, refl, sym, ap, ◌∙◌, subst, arith}
 use Rattle.std.specs.List.{slice_get}
+use Rattle.std.proofs.lemmas.List.{drop_all}
 use Rattle.bicep_lexer.specs.declared.token.Token.{Token}
 use Rattle.bicep_lexer.specs.Reading.{Standing, standing}
 use Rattle.bicep_tree.specs.declared.terminal.Terminal.{Terminal}
@@ -12,17 +13,22 @@ use Rattle.bicep_machine.specs.declared.stop.Stop.{Stop}
 use Rattle.bicep_machine.specs.declared.stop.Stop.TheVariants as stop
 use Rattle.bicep_machine.specs.Views.{Stops}
 use Rattle.bicep_parser.specs.Answers.{told}
-use Rattle.bicep_parser.specs.Refused.{BeginNoFile, BreaksAt, behind, EndsAt, TellsPlace}
+use Rattle.bicep_parser.specs.Refused.{BeginNoFile, BeginAFile, BreaksAt, behind, EndsAt, TellsPlace}
+use Rattle.bicep_machine.proofs.Spelling.{read_is_spelled}
 use Rattle.bicep_parser.proofs.Answering.{none_spelled}
+use Rattle.bicep_parser.proofs.Fitting.{Stands, Follows}
+use Rattle.bicep_parser.proofs.FollowingSteps.{step_follows}
+use Rattle.bicep_parser.proofs.EndingStates.{state_ends}
 
 -- what was read of the tokens, and that it leads here
 pub record Progress (ts rest : List Standing) (s : State) (i : Bool) (S : List Frame) : Type 0 where
   pub before : List Standing
   pub split : ts ≡ before ++ rest
   pub leads : (more : List Placed) → run 64 s i S more ≡ parsed 64 (map placed before ++ more)
+  pub stands : Stands s i S
 
 pub begins : (ts : List Standing) → Progress ts ts between false (in_file empty ∷ [])
-begins ts = record { before = []; split = refl; leads = λ more. refl }
+begins ts = record { before = []; split = refl; leads = λ more. refl; stands = tt }
 
 one_more : (before : List Standing) (t : Standing) (more : List Placed) → map placed before ++ placed t ∷ more ≡ map placed (before ++ t ∷ []) ++ more
 one_more [] t more = refl
@@ -43,23 +49,40 @@ goes_on ts rest t s i S q p e =
       before = p.before ++ t ∷ [];
       split = p.split ∙ split_more p.before t rest;
       leads = λ more. sym (ap (λ n. option_and_then (λ r. run 64 r.0 r.1 r.2 more) n) e) ∙ p.leads (placed t ∷ more) ∙ ap (parsed 64) (one_more p.before t more);
+      stands = subst Follows e (step_follows s i S (placed t) p.stands);
     }
+
+-- a file begins with what was read
+begun_by : (ts rest : List Standing) (s : State) (i : Bool) (S : List Frame) (p : Progress ts rest s i S) → BeginAFile p.before
+begun_by ts rest s i S p =
+    let c = state_ends s i S p.stands in
+    let read = read_is_spelled 64 (map placed (p.before ++ c.more)) c.kept (ap (parsed 64) (all_mapped p.before c.more) ∙ sym (p.leads (map placed c.more)) ∙ c.reads) in
+    (c.more, read.0, read.1)
 
 -- a token with which the machine does not go on
 pub breaks : (ts rest : List Standing) (t : Standing) (s : State) (i : Bool) (S : List Frame) → Progress ts (t ∷ rest) s i S → step 64 s i S (placed t) ≡ None → BreaksAt ts t.1
 breaks ts rest t s i S p e =
-    record { before = p.before; token = t; after = rest; split = p.split; place = refl; none = none }
+    record { before = p.before; token = t; after = rest; split = p.split; place = refl; begun = begun_by ts (t ∷ rest) s i S p; none = none }
   where
     none : BeginNoFile (p.before ++ t ∷ [])
     none more f h = none_spelled ((p.before ++ t ∷ []) ++ more) (ap (parsed 64) (all_mapped (p.before ++ t ∷ []) more ∙ sym (one_more p.before t (map placed more))) ∙ sym (p.leads (placed t ∷ map placed more)) ∙ ap (λ n. option_and_then (λ r. run 64 r.0 r.1 r.2 (map placed more)) n) e) f h
 
+nothing_more : {X : Type 0} (xs : List X) → xs ++ [] ≡ xs
+nothing_more [] = refl
+nothing_more (x ∷ xs) = ap (λ ys. x ∷ ys) (nothing_more xs)
+
 -- all tokens are read
 pub ends : (ts : List Standing) (s : State) (i : Bool) (S : List Frame) → Progress ts [] s i S → finished 64 s S ≡ parsed 64 (map placed ts)
 ends ts s i S p = p.leads [] ∙ ap (parsed 64) (nothing_more (map placed p.before) ∙ ap (map placed) (sym (p.split ∙ nothing_more p.before)))
-  where
-    nothing_more : {X : Type 0} (xs : List X) → xs ++ [] ≡ xs
-    nothing_more [] = refl
-    nothing_more (x ∷ xs) = ap (λ ys. x ∷ ys) (nothing_more xs)
+
+-- where all tokens are read, a file begins with them
+begun_whole : (ts : List Standing) (s : State) (i : Bool) (S : List Frame) → Progress ts [] s i S → BeginAFile ts
+begun_whole ts s i S p = subst BeginAFile (sym (p.split ∙ nothing_more p.before)) (begun_by ts [] s i S p)
+
+-- the machine does not end a file behind the tokens
+breaks_end : (ts : List Standing) (s : State) (i : Bool) (S : List Frame) (why : Stop) (at : ℕ) → Progress ts [] s i S → EndsAt ts at → TellsPlace ts (told why at)
+breaks_end ts s i S stop.NotAFile at p e = inr (e, begun_whole ts s i S p)
+breaks_end ts s i S stop.OutOfMemory at p e = tt
 
 -- ---- over the tokens of the code
 
@@ -73,6 +96,10 @@ pub breaks_token : (xs : List Token) (i : ℕ) (t : Token) (x : Terminal) (s : S
 breaks_token xs i t x s f S stop.NotAFile next is p e =
     inl (breaks (map standing xs) (map standing (drop (i + 1) xs)) (standing t) s f S (subst (λ ys. Progress (map standing xs) (map standing ys) s f S) next p) (subst (λ y. step 64 s f S (t.at, y) ≡ None) is e))
 breaks_token xs i t x s f S stop.OutOfMemory next is p e = tt
+
+-- all tokens are read, and no file ends behind them
+pub breaks_behind : (xs : List Token) (i : ℕ) (s : State) (f : Bool) (S : List Frame) (why : Stop) (at : ℕ) → length xs ≤ i → Progress (map standing xs) (map standing (drop i xs)) s f S → EndsAt (map standing xs) at → TellsPlace (map standing xs) (told why at)
+breaks_behind xs i s f S why at le p e = breaks_end (map standing xs) s f S why at (subst (λ ys. Progress (map standing xs) (map standing ys) s f S) (drop_all i xs le) p) e
 
 -- the last token
 last_at : (ts : List Token) (n : ℕ) (t : Token) → length ts ≡ suc n → slice_get ts n ≡ Some t → EndsAt (map standing ts) (behind (standing t))

@@ -17,13 +17,18 @@ Refuses ts fault.OutOfMemory = Unit {0}
 abbrev pub BeginNoFile : List Standing → Type 0
 BeginNoFile ts = (more : List Standing) (f : FileTree) → Spells f (ts ++ more) → ⊥
 
--- no file begins with the tokens up to the one at this place
+-- a file begins with these tokens
+abbrev pub BeginAFile : List Standing → Type 0
+BeginAFile ts = (more : List Standing) × (f : FileTree) × Spells f (ts ++ more)
+
+-- a file begins with the tokens before the one at this place, and none with those up to it
 pub record BreaksAt (ts : List Standing) (at : ℕ) : Type 0 where
   pub before : List Standing
   pub token : Standing
   pub after : List Standing
   pub split : ts ≡ before ++ token ∷ after
   pub place : at ≡ token.1
+  pub begun : BeginAFile before
   pub none : BeginNoFile (before ++ token ∷ [])
 
 -- the offset behind a token, at most 2^64 - 1
@@ -36,9 +41,10 @@ EndsAt [] at = at ≡ 0
 EndsAt (t ∷ []) at = at ≡ behind t
 EndsAt (t ∷ ts) at = EndsAt ts at
 
--- the place of a fault: where the tokens are no file, a token with which no file goes on, or their end
+-- the place of a fault: where the tokens are no file, the first token with which no file goes on, or their end, where a
+-- file goes on behind them
 abbrev pub TellsPlace : List Standing → ParseFault → Type 0
-TellsPlace ts (fault.NotAFile at) = BreaksAt ts at ⊎ EndsAt ts at
+TellsPlace ts (fault.NotAFile at) = BreaksAt ts at ⊎ (EndsAt ts at × BeginAFile ts)
 TellsPlace ts (fault.TooDeep at) = Unit {0}
 TellsPlace ts fault.OutOfMemory = Unit {0}
 

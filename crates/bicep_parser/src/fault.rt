@@ -5,7 +5,8 @@ use thiserror::Error;
 /// Why tokens are not parsed. A place is the offset of a byte in the source.
 #[derive(Debug, Clone, Copy, PartialEq, Eq, Error)]
 pub enum ParseFault {
-    /// The tokens spell no file: the token with which no file goes on, or the end of the last token.
+    /// The tokens spell no file: the first token with which no file goes on, or the end of the last
+    /// token, where a file begins with all of them.
     #[error("not a file at {0}")]
     NotAFile(usize),
     /// An expression nests above 64: the token behind which that is known, or the end of the last one.

@@ -55,6 +55,7 @@ fn read(alloc: Global, tokens: &[Token]) -> Result<(Kept<Vec<Statement>>, usize)
     ensures reads { Reads result (parsed 64 (map placed (map standing tokens.now))) }
     ensures place { IfErr result (TellsPlace (map standing tokens.now)) }
 {
+    let end = end_of(tokens);
     let mut deep = None;
     let mut state = State::Between;
     let mut inside = false;
@@ -78,7 +79,6 @@ fn read(alloc: Global, tokens: &[Token]) -> Result<(Kept<Vec<Statement>>, usize)
             deep = Some(token.at);
         }
     }
-    let end = end_of(tokens);
     match finish(alloc, state, &mut stack) {
         Err(stop) => Err(told(stop, end)),
         Ok(statements) => Ok((statements, deep.unwrap_or(end))),

@@ -8,6 +8,7 @@ pub enum LiteralFault {
     /// The file is not in the literal form.
     #[error("not literal")]
     NotLiteral,
+    /// Memory was wanted; nothing is told of the file.
     #[error("out of memory")]
     OutOfMemory,
 }
@@ -24,6 +25,7 @@ pub enum SourceFault {
     /// The file is not in the literal form.
     #[error("not literal")]
     NotLiteral,
+    /// Memory was wanted; nothing is told of the file.
     #[error("out of memory")]
     OutOfMemory,
 }

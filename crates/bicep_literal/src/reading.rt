@@ -44,7 +44,7 @@ fn declared(alloc: Global, file: &[Statement]) -> Result<Vec<Resource>, Stop>
 ///
 /// # Errors
 ///
-/// `NotLiteral` where the file is not in that form.
+/// `NotLiteral` where the file is not in that form; `OutOfMemory` where memory was wanted.
 pub fn resources_of(alloc: Global, file: &[Statement]) -> Result<Vec<Resource>, LiteralFault>
     ensures declared { IfOk result (λ rs. TreeDeclares (file_of file.now) rs.items) }
     ensures literal { IfOk result (λ rs. AllByRecursion IsLiteral rs.items) }

@@ -35,14 +35,14 @@ fn told_syntax(fault: ParseFault) -> SourceFault
 
 /// The resources that a Bicep file declares, in its order.
 ///
-/// It takes time in the order of n log n for a source of n bytes, and recurses at most as deep as
-/// expressions may nest.
+/// It recurses at most as deep as expressions may nest.
 ///
 /// # Errors
 ///
 /// `Lexical` tells what the lexer met and `Syntax` what the parser met, at its offset in bytes.
 /// `NotLiteral` is answered where the source is a file that is not in the literal form, of which
-/// the limits (800 resources) are part: `SourceDeclares` of `specs/Source`.
+/// the limits (800 resources) are part: `SourceDeclares` of `specs/Source`. `OutOfMemory` comes
+/// where memory was wanted.
 pub fn resources(alloc: Global, source: &str) -> Result<Vec<Resource>, SourceFault>
     ensures declared { IfOk result (λ rs. SourceDeclares source.now rs.items) }
     ensures literal { IfOk result (λ rs. AllByRecursion IsLiteral rs.items) }

@@ -13,7 +13,7 @@ pub(crate) enum Ending {
     Refused(Text, Text),
     /// There is no file of that name.
     Missing,
-    /// The file, or the template that it would give, is too large.
+    /// The file has more than 4,194,304 bytes.
     TooLarge,
     /// The file is no text in UTF-8.
     NotText,
@@ -21,7 +21,7 @@ pub(crate) enum Ending {
     Lexical(LexFault, Text),
     /// The parser refused the file: the fault, and its place in decimal digits.
     Syntax(ParseFault, Text),
-    /// The file is in no form that is built.
+    /// The file is in no form that is built, or its template would have more than 4,194,304 bytes.
     NotBuilt,
     /// No group has such a name.
     BadGroup,

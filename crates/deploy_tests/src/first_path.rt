@@ -160,6 +160,17 @@ fn files_and_words_come_to_their_lines(rt: HostRuntime) -> Result<(), Fail> {
         ("var a = 'x", FIRST, "1 error OpenText: main.bicep:8\n"),
         ("var a = 5 5", FIRST, "1 error NotAFile: main.bicep:10\n"),
         (
+            concat!(
+                "var a = ",
+                "(((((((((((((((((((((((((((((((((((((((((((((((((((((((((((((((((",
+                "1",
+                ")))))))))))))))))))))))))))))))))))))))))))))))))))))))))))))))))",
+                "\n",
+            ),
+            FIRST,
+            "1 error TooDeep: main.bicep:138\n",
+        ),
+        (
             "resource a 'T/t@1' = {\n  name: 'a'\n  n: 'open\n}\n",
             FIRST,
             "1 error OpenText: main.bicep:40\n",

@@ -10,14 +10,15 @@ use Rattle.arm_env.specs.Part.{part_of, kept}
 use Rattle.arm_env.specs.Object.{object_of}
 use Rattle.arm_env.specs.Find.{outputs_of, output_named}
 
--- a value, a whole state, or a nested deployment, its outputs or one of them, which are looked at
--- when they are used
+-- a value, a whole state, or a nested deployment, its outputs, one of them, or an output of a name
+-- that is not listed among them, which are looked at when they are used
 pub data Held : Type 0 where
   plain : Json → Held
   state_whole : Json → Held
   deployment : ResourceId → Held
   outputs : ResourceId → Held
   one_output : ResourceId → Declared → Held
+  no_output : ResourceId → List ℕ → Held
 
 -- no value where it nests deeper than 100
 unfoldable pub capped : Looking Json → Looking Json
@@ -26,9 +27,13 @@ capped o = continued o (λ j. done (kept j))
 unfoldable pub held_value : Looking Json → Looking Held
 held_value o = continued (capped o) (λ j. pure (plain j))
 
+-- the value of the output of a name
+abbrev pub value_named : ResourceId → List ℕ → Looking Json
+value_named k name = capped (read (output k (fold name)))
+
 -- the value of an output
 abbrev pub output_value : ResourceId → Declared → Looking Json
-output_value k x = capped (read (output k (fold x.name)))
+output_value k x = value_named k x.name
 
 abbrev pub listed : Option (List Declared) → List Declared
 listed None = []
@@ -52,6 +57,10 @@ output_member k x = continued (output_value k x) (λ j. pure (shown x j))
 unfoldable pub all_outputs : Surroundings → ResourceId → Looking (List Member)
 all_outputs here k = all (map (output_member k) (outputs_at here k))
 
+-- a part that a nested deployment does not have: all its outputs are looked at
+abbrev pub no_part : {A : Type 0} → Surroundings → ResourceId → Looking A
+no_part here k = continued (all_outputs here k) (λ ms. none)
+
 -- its value, where it is used without an access behind it
 abbrev pub forced : Surroundings → Held → Looking Json
 forced here (plain j) = pure j
@@ -61,21 +70,19 @@ forced here (deployment k) =
 forced here (outputs k) = continued (all_outputs here k) (λ ms. pure (object_of ms))
 forced here (one_output k x) =
     continued (all_outputs here k) (λ ms. continued (output_value k x) (λ j. pure (typed x j)))
+forced here (no_output k name) = no_part here k
 
 abbrev pub is_word : List ℕ → Json → Bool
 is_word word (text name) = is_same_folded name word
 is_word word _ = false
 
--- a part that a nested deployment does not have: all its outputs are looked at
-abbrev pub no_part : Surroundings → ResourceId → Looking Held
-no_part here k = continued (all_outputs here k) (λ ms. none)
-
-abbrev pub output_by : Surroundings → ResourceId → Option Declared → Looking Held
-output_by here k None = no_part here k
-output_by here k (Some x) = pure (one_output k x)
+-- an output by its name, listed or not
+abbrev pub output_by : ResourceId → List ℕ → Option Declared → Looking Held
+output_by k name None = pure (no_output k name)
+output_by k name (Some x) = pure (one_output k x)
 
 abbrev pub output_at : Surroundings → ResourceId → Json → Looking Held
-output_at here k (text name) = output_by here k (output_named name (outputs_at here k))
+output_at here k (text name) = output_by k name (output_named name (outputs_at here k))
 output_at here k _ = no_part here k
 
 -- the type of an output, for which all outputs are looked at
@@ -89,6 +96,11 @@ part_of_output here k x i =
     else if is_word (codes "type") i then kind_of_output here k x
     else no_part here k
 
+-- the part of an output that is not listed: its value looks at this output alone
+abbrev pub part_of_no_output : Surroundings → ResourceId → List ℕ → Json → Looking Held
+part_of_no_output here k name i =
+    if is_word (codes "value") i then held_value (value_named k name) else no_part here k
+
 -- what stands under a name or at a place
 abbrev pub access : Surroundings → Held → Json → Looking Held
 access here (plain j) i = held_value (done (part_of j i))
@@ -97,6 +109,7 @@ access here (deployment k) i =
     if is_word (codes "outputs") i then pure (outputs k) else no_part here k
 access here (outputs k) i = output_at here k i
 access here (one_output k x) i = part_of_output here k x i
+access here (no_output k name) i = part_of_no_output here k name i
 
 -- by an index that may have no value, where all is looked at all the same
 abbrev pub access_by : Surroundings → Held → Option Json → Looking Held

@@ -39,7 +39,8 @@ pub record Surroundings : Type 0 where
   -- the nearest first
   pub loops : List Looping
   pub place : Place
-  -- the resources of the template instance
+  -- the resources of the template instance, its nested deployments among them
   pub names : List Spelled
-  -- those of the template instance, and behind them those of the instances around
+  -- those of the template instance, and behind them those of the instances around that an
+  -- expression in an `outer` scope can see (not those around an `inner` scope)
   pub deployments : List Deployment

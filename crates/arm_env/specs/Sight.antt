@@ -24,3 +24,4 @@ held_of (code.Whole v) = held.state_whole (json v.now)
 held_of (code.Deployment k) = held.deployment k
 held_of (code.Outputs k) = held.outputs k
 held_of (code.Output k x) = held.one_output k (declared x.now)
+held_of (code.Unlisted k name) = held.no_output k name

@@ -6,6 +6,7 @@ use arm_value::{Text, Value};
 /// What is known of a parameter, a variable or an output.
 #[derive(Drop)]
 pub enum Slot {
+    /// It has this value.
     Known(Value),
     /// It has no value.
     Absent,
@@ -16,6 +17,7 @@ pub enum Slot {
 /// What is known of the state of a resource.
 #[derive(Drop)]
 pub enum Seen {
+    /// This is the state.
     Now(Value),
     /// There is no such state.
     Never,
@@ -26,7 +28,9 @@ pub enum Seen {
 /// A parameter or a variable. Names are compared whatever the case of ASCII letters.
 #[derive(Drop)]
 pub struct Named {
+    /// Its name, as it is spelled.
     pub name: Text,
+    /// What is known of its value.
     pub slot: Slot,
 }
 
@@ -44,7 +48,9 @@ pub struct Looping {
 /// The state of the resource at a key.
 #[derive(Drop)]
 pub struct StateAt {
+    /// The key of the resource.
     pub key: Key,
+    /// What is known of its state.
     pub seen: Seen,
 }
 
@@ -53,22 +59,27 @@ pub struct StateAt {
 pub struct Spelled {
     /// Its type and its name with a `/` between, as they are spelled.
     pub spelling: Text,
+    /// The key that it is deployed at.
     pub key: Key,
 }
 
 /// A nested deployment, with its outputs.
 #[derive(Drop)]
 pub struct ModuleAt {
+    /// The key of the deployment.
     pub key: Key,
+    /// Its outputs; one that is left away by its condition is not listed.
     pub outputs: Vec<OutputAt>,
 }
 
 /// An output of a nested deployment.
 #[derive(Drop)]
 pub struct OutputAt {
+    /// Its name, as it is spelled.
     pub name: Text,
     /// Its type, as it is spelled.
     pub kind: Text,
+    /// What is known of its value.
     pub slot: Slot,
 }
 
@@ -78,16 +89,22 @@ pub struct OutputAt {
 /// not listed has no value.
 #[derive(Drop)]
 pub struct Env<'a> {
+    /// The parameters of the template instance; one that is not listed has no value.
     pub parameters: Vec<Named>,
+    /// The variables of the template instance; one that is not listed has no value.
     pub variables: Vec<Named>,
     /// The loops around, the nearest first.
     pub loops: Vec<Looping>,
     /// Where the template is deployed.
     pub place: &'a Place,
+    /// The states of resources; what a key means that is not listed, `Unlisted` says.
     pub states: Vec<StateAt>,
-    /// The resources of the template instance in which the expression stands.
+    /// The resources of the template instance in which the expression stands. The nested
+    /// deployments of that instance are among them, so that a text which two of them match has no
+    /// value.
     pub names: Vec<Spelled>,
-    /// The nested deployments of that instance, and behind them those of the instances around.
+    /// The nested deployments of that instance, and behind them those of the instances around that
+    /// an expression in an `outer` scope can see (not those around an `inner` scope).
     pub modules: Vec<ModuleAt>,
 }
 

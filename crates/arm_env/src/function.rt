@@ -32,7 +32,9 @@ pub enum Strict {
 /// What `reference` asks of a state: its properties, or the whole.
 #[derive(Clone, Copy, PartialEq, Eq, Debug)]
 pub enum Asked {
+    /// What stands in it under `properties`.
     Properties,
+    /// The state as it is.
     Whole,
 }
 

@@ -35,9 +35,11 @@ pub enum Held<'a> {
     Outputs(Key),
     /// One of its outputs.
     Output(Key, &'a OutputAt),
+    /// An output of that name, where none of the name is listed.
+    Unlisted(Key, Text),
 }
 
-/// The value, where it nests at most 100 deep.
+/// The value; no value where it nests deeper than 100.
 pub fn keep(value: Value) -> Result<Value, Stop>
     ensures { Gives json result (given (kept (json value))) }
 {
@@ -48,7 +50,7 @@ pub fn keep(value: Value) -> Result<Value, Stop>
     }
 }
 
-/// A copy of the value, where it nests at most 100 deep.
+/// A copy of the value; no value where it nests deeper than 100.
 pub fn keep_copy(alloc: Global, value: &Value) -> Result<Value, Stop>
     ensures { Gives json result (given (kept (json value.now))) }
 {
@@ -59,7 +61,8 @@ pub fn keep_copy(alloc: Global, value: &Value) -> Result<Value, Stop>
     }
 }
 
-/// A value that was made, for an access behind it.
+/// A value that was made, for an access behind it; no value where there is none, or where it nests
+/// deeper than 100.
 pub fn own<'a>(value: Option<Value>) -> Result<Held<'a>, Stop>
     ensures { Gives held_of result (plain_answer (option_map json value)) }
 {
@@ -73,7 +76,8 @@ pub fn own<'a>(value: Option<Value>) -> Result<Held<'a>, Stop>
     }
 }
 
-/// A value of the environment, for an access behind it.
+/// A value of the environment, for an access behind it; no value where there is none, or where it
+/// nests deeper than 100.
 pub fn lend<'a>(value: Option<&'a Value>) -> Result<Held<'a>, Stop>
     ensures { Gives held_of result (plain_answer (option_map (λ v. json v.now) value.entry)) }
 {
@@ -128,7 +132,8 @@ pub fn part_of<'a>(value: &'a Value, index: &Value) -> Option<&'a Value>
     }
 }
 
-/// A copy of a part of a value that was made.
+/// A copy of a part of a value that was made; no value where it has no such part, or where the part
+/// nests deeper than 100.
 pub fn own_part<'a>(alloc: Global, value: Value, index: &Value) -> Result<Held<'a>, Stop>
     ensures { Gives held_of result (plain_answer (part_of (json value) (json index.now))) }
 {

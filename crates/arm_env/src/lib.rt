@@ -5,7 +5,9 @@
 //! known; `specs/Known` says what an environment tells of each. Looking gives a value or a `Stop`:
 //! that there is none, or what is needed first (`specs/Answer`). Beside it stands what follows from
 //! the surroundings alone: the indices of loops, ids, the objects of the place, and which key a
-//! text names. What expressions make of all this is not said here.
+//! text names. What an access makes of what is held stands here too (`specs/Held`, `specs/Part`),
+//! and which functions a name means (`specs/Names`). What an expression means stands in the crate
+//! above, `expression_values`.
 #![tactic(auto)]
 
 pub mod env;

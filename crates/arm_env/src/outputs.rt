@@ -146,8 +146,9 @@ fn member_outcome(
     }
 }
 
-/// Looks at each output of the nested deployment at a key; each must have a value. There is nothing
-/// to look at where there is no such deployment.
+/// Looks at each output of the nested deployment at a key: `Late` where one of them is not known
+/// yet, else no value where one of them has none or nests deeper than 100. There is nothing to look
+/// at where there is no such deployment.
 pub fn look_at_outputs(sight: &Sight, key: &Key) -> Result<(), Stop>
     ensures { Sees result (answered (known_by sight.now) (all_outputs (here sight.now) key.now)) }
 {
@@ -157,7 +158,9 @@ pub fn look_at_outputs(sight: &Sight, key: &Key) -> Result<(), Stop>
     }
 }
 
-/// The outputs of the nested deployment at a key as `reference` shows them, by their names.
+/// The outputs of the nested deployment at a key as `reference` shows them, by their names: `Late`
+/// where one of them is not known yet, else no value where one of them has none or nests deeper
+/// than 100. Where there is no such deployment they are none.
 pub fn fields_at(alloc: Global, sight: &Sight, key: &Key) -> Result<Fields, Stop>
     ensures { Gives (λ f. f) result
         (next (answered (known_by sight.now) (all_outputs (here sight.now) key.now))

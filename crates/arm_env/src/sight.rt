@@ -7,7 +7,7 @@ ghost use Rattle.arm_ids.specs.declared.id.ResourceId.{ResourceId};
 ghost use Rattle.reading.specs.Reading.{read};
 ghost use Rattle.arm_env.specs.Look.{parameter, variable, output, state};
 ghost use Rattle.arm_env.specs.Find.{is_same_key, outputs_of, output_named};
-ghost use Rattle.arm_env.specs.Held.{output_value};
+ghost use Rattle.arm_env.specs.Held.{value_named, output_value};
 ghost use Rattle.arm_env.specs.Known.{slot_named, module_with, output_with, seen_at, slot_known};
 ghost use Rattle.arm_env.specs.Known.{slot_in, declared, deployment_of};
 ghost use Rattle.arm_env.specs.Answer.{answered, entry_answer, Gives};
@@ -22,7 +22,9 @@ use std::alloc::Global;
 /// What is seen from where an expression stands.
 #[derive(Drop)]
 pub struct Sight<'a> {
+    /// What is known of the entries, and what stands around.
     pub env: &'a Env<'a>,
+    /// What a key means that is not listed among the states.
     pub unlisted: Unlisted,
     /// The loops around, the nearest first.
     pub loops: &'a [Looping],
@@ -103,7 +105,8 @@ fn slot_value<'a>(slot: Option<&'a Slot>) -> Result<&'a Value, Stop>
     }
 }
 
-/// The value of a parameter.
+/// The value of a parameter: no value where it has none or is not listed, `Late` where it is not
+/// known yet.
 #[tactic(auto, using(crate::proofs::Answers::answered_parameter))]
 pub fn parameter<'a>(sight: &Sight<'a>, name: &Text) -> Result<&'a Value, Stop>
     ensures { Gives (λ v. json v.now) result
@@ -113,7 +116,8 @@ pub fn parameter<'a>(sight: &Sight<'a>, name: &Text) -> Result<&'a Value, Stop>
     slot_value(slot)
 }
 
-/// The value of a variable.
+/// The value of a variable: no value where it has none or is not listed, `Late` where it is not
+/// known yet.
 #[tactic(auto, using(crate::proofs::Answers::answered_variable))]
 pub fn variable<'a>(sight: &Sight<'a>, name: &Text) -> Result<&'a Value, Stop>
     ensures { Gives (λ v. json v.now) result
@@ -123,7 +127,8 @@ pub fn variable<'a>(sight: &Sight<'a>, name: &Text) -> Result<&'a Value, Stop>
     slot_value(slot)
 }
 
-/// The state at a key.
+/// The state at a key: no value where there is none, `Needs` with this key where it is not known
+/// yet.
 #[tactic(auto, using(crate::proofs::Answers::answers))]
 pub fn state<'a>(alloc: Global, sight: &Sight<'a>, key: &Key) -> Result<&'a Value, Stop>
     ensures { Gives (λ v. json v.now) result
@@ -163,14 +168,26 @@ fn output_of<'a>(sight: &Sight<'a>, key: &Key, name: &Text) -> Result<&'a Value,
     }
 }
 
-/// The value of the output of a nested deployment, where it nests at most 100 deep.
-#[tactic(auto, using(crate::proofs::Answers::answers))]
+/// The value of an output of the nested deployment at a key: no value where it has none, or nests
+/// deeper than 100, `Late` where it is not known yet.
 pub fn output_value<'a>(sight: &Sight<'a>, key: &Key, output: &OutputAt) -> Result<&'a Value, Stop>
     ensures value { Gives (λ v. json v.now) result
         (answered (known_by sight.now) (output_value key.now (declared output.now))) }
     ensures nests { IfOk result (λ v. nesting (json v.now) ≤ 100) }
 {
-    let value = output_of(sight, key, &output.name)?;
+    value_named(sight, key, &output.name)
+}
+
+/// The value of the output of that name of the nested deployment at a key, whichever other outputs
+/// there are: no value where it has none, is not listed, or nests deeper than 100, `Late` where it
+/// is not known yet.
+#[tactic(auto, using(crate::proofs::Answers::answers))]
+pub fn value_named<'a>(sight: &Sight<'a>, key: &Key, name: &Text) -> Result<&'a Value, Stop>
+    ensures value { Gives (λ v. json v.now) result
+        (answered (known_by sight.now) (value_named key.now name.now)) }
+    ensures nests { IfOk result (λ v. nesting (json v.now) ≤ 100) }
+{
+    let value = output_of(sight, key, name)?;
     if value.nesting() <= 100 {
         Ok(value)
     } else {

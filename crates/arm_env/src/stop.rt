@@ -8,11 +8,13 @@ use std::alloc::{AllocError, AllocFailed};
 /// Why there is no value.
 #[derive(Drop)]
 pub enum Stop {
+    /// There is none.
     NoValue,
     /// The state at the key is needed first.
     Needs(Key),
     /// A parameter, a variable or an output is needed first.
     Late,
+    /// A copy could not be made.
     OutOfMemory,
 }
 

@@ -4,7 +4,8 @@ ghost use Rattle.arm_value.specs.Json.{Json, put_each, text, object, pairs};
 ghost use Rattle.arm_value.specs.View.{json};
 ghost use Rattle.arm_env.specs.Held as held;
 ghost use Rattle.arm_env.specs.Held.{is_word, capped, forced, outputs_at, no_part, kind_of_output};
-ghost use Rattle.arm_env.specs.Held.{output_by, output_at, part_of_output, access, access_by};
+ghost use Rattle.arm_env.specs.Held.{output_by, output_at, part_of_output, part_of_no_output};
+ghost use Rattle.arm_env.specs.Held.{access, access_by};
 ghost use Rattle.arm_env.specs.Known.{declared, output_with};
 ghost use Rattle.arm_env.specs.Answer.{answered, given, Gives, Sees};
 ghost use Rattle.expression_values.specs.Meaning.{indexed};
@@ -16,7 +17,7 @@ use arm_env::env::OutputAt;
 use arm_env::function;
 use arm_env::held::{Held, keep, keep_copy, lend, own_part, part_of};
 use arm_env::outputs::{fields_at, look_at_outputs, output_named, typed};
-use arm_env::sight::{Sight, output_value};
+use arm_env::sight::{Sight, output_value, value_named};
 use arm_env::stop::Stop;
 use arm_ids::Key;
 use arm_value::{Fields, Text, Value};
@@ -54,14 +55,19 @@ fn part_of_deployment<'a>(sight: &Sight<'a>, key: Key, index: &Value) -> Result<
 }
 
 #[tactic(auto, using(crate::proofs::Answers::answers))]
-fn output_at<'a>(sight: &Sight<'a>, key: Key, index: &Value) -> Result<Held<'a>, Stop>
+fn output_at<'a>(
+    alloc: Global,
+    sight: &Sight<'a>,
+    key: Key,
+    index: &Value,
+) -> Result<Held<'a>, Stop>
     ensures { Gives held_of result
         (answered (known_by sight.now) (output_at (here sight.now) key (json index.now))) }
 {
     match index {
         Value::Text(name) => match output_named(sight, &key, name) {
             Some(output) => Ok(Held::Output(key, output)),
-            None => no_part(sight, &key),
+            None => Ok(Held::Unlisted(key, name.copy(alloc)?)),
         },
         _ => no_part(sight, &key),
     }
@@ -101,6 +107,23 @@ fn part_of_output<'a>(
     no_part(sight, key)
 }
 
+// The part of an output that is not listed.
+#[tactic(auto, using(crate::proofs::Answers::answers, arm_env::proofs::Words::words))]
+fn part_of_unlisted<'a>(
+    sight: &Sight<'a>,
+    key: &Key,
+    name: &Text,
+    index: &Value,
+) -> Result<Held<'a>, Stop>
+    ensures { Gives held_of result (answered (known_by sight.now)
+        (part_of_no_output (here sight.now) key.now name.now (json index.now))) }
+{
+    if is_word("value", index) {
+        return lend(Some(value_named(sight, key, name)?));
+    }
+    no_part(sight, key)
+}
+
 /// What stands under a name or at a place.
 #[tactic(auto, using(crate::proofs::Answers::answers))]
 pub(crate) fn access<'a>(
@@ -117,8 +140,9 @@ pub(crate) fn access<'a>(
         Held::Lent(value) => lend(part_of(value, index)),
         Held::Whole(value) => lend(part_of(value, index)),
         Held::Deployment(key) => part_of_deployment(sight, key, index),
-        Held::Outputs(key) => output_at(sight, key, index),
+        Held::Outputs(key) => output_at(alloc, sight, key, index),
         Held::Output(key, output) => part_of_output(alloc, sight, &key, output, index),
+        Held::Unlisted(key, name) => part_of_unlisted(sight, &key, &name, index),
     }
 }
 
@@ -134,6 +158,7 @@ fn look_at_all<'a>(sight: &Sight<'a>, base: Held<'a>) -> Result<(), Stop>
         Held::Deployment(key) => look_at_outputs(sight, &key),
         Held::Outputs(key) => look_at_outputs(sight, &key),
         Held::Output(key, output) => look_at_output(sight, &key, output),
+        Held::Unlisted(key, _name) => look_at_unlisted(sight, &key),
     }
 }
 
@@ -145,6 +170,16 @@ fn look_at_output(sight: &Sight, key: &Key, output: &OutputAt) -> Result<(), Sto
     look_at_outputs(sight, key)?;
     let _value = output_value(sight, key, output)?;
     Ok(())
+}
+
+// Looks at all outputs of the nested deployment, and finds no value.
+#[tactic(auto, using(crate::proofs::Answers::answers))]
+fn look_at_unlisted(sight: &Sight, key: &Key) -> Result<(), Stop>
+    ensures { Sees {A = Json} result
+        (answered (known_by sight.now) (no_part (here sight.now) key.now)) }
+{
+    look_at_outputs(sight, key)?;
+    Err(Stop::NoValue)
 }
 
 /// What stands at an index that may have no value.
@@ -219,6 +254,16 @@ fn used_output(alloc: Global, sight: &Sight, key: &Key, output: &OutputAt) -> Re
     keep(typed(alloc, output, value)?)
 }
 
+// The value of an output that is not listed, where it is used without an access behind it.
+#[tactic(auto, using(crate::proofs::Answers::answers))]
+fn used_unlisted(sight: &Sight, key: &Key) -> Result<Value, Stop>
+    ensures { Gives json result
+        (answered (known_by sight.now) (capped (no_part (here sight.now) key.now))) }
+{
+    look_at_outputs(sight, key)?;
+    Err(Stop::NoValue)
+}
+
 /// The value of what is used without an access behind it.
 #[tactic(auto, using(crate::proofs::Answers::answers))]
 pub(crate) fn used<'a>(alloc: Global, sight: &Sight<'a>, held: Held<'a>) -> Result<Value, Stop>
@@ -232,5 +277,6 @@ pub(crate) fn used<'a>(alloc: Global, sight: &Sight<'a>, held: Held<'a>) -> Resu
         Held::Deployment(key) => shown(alloc, fields_at(alloc, sight, &key)?),
         Held::Outputs(key) => keep(Value::Object(fields_at(alloc, sight, &key)?)),
         Held::Output(key, output) => used_output(alloc, sight, &key, output),
+        Held::Unlisted(key, _name) => used_unlisted(sight, &key),
     }
 }

@@ -1,5 +1,9 @@
 mod Answering
 mod Completing
+mod Deepening
+mod DeepeningDeclarations
+mod DeepeningSteps
+mod Deepest
 mod EndingBodies
 mod EndingDeclarations
 mod EndingFrames
@@ -8,5 +12,6 @@ mod Fitting
 mod Following
 mod FollowingDeclarations
 mod FollowingSteps
+mod OpenDepth
 mod Progress
 mod StepLemmas

@@ -1,10 +1,13 @@
 -- How far tokens are read, and where they break.
-use Rattle.std.proofs.Common.{◌≡◌, ℕ, zero, suc, ◌-◌, ◌+◌, ◌≤◌, List, [], ◌∷◌, ◌++◌, map, drop, length, Bool, false, Some, None, option_and_then, inl, inr, refl, sym, ap, ◌∙◌, subst, arith}
+use Rattle.std.proofs.Common.{◌≡◌, ℕ, zero, suc, ◌-◌, ◌+◌, ◌<◌, ◌≤◌, List, [], ◌∷◌, ◌++◌, map, drop, length, Bool, false, Some, None, option_and_then, inl, inr, refl, sym, ap, ◌∙◌, subst, arith}
 use Rattle.std.specs.List.{slice_get}
 use Rattle.std.proofs.lemmas.List.{drop_all}
 use Rattle.bicep_lexer.specs.declared.token.Token.{Token}
 use Rattle.bicep_lexer.specs.Reading.{Standing, standing}
 use Rattle.bicep_tree.specs.declared.terminal.Terminal.{Terminal}
+use Rattle.bicep_tree.specs.Tree.{FileTree}
+use Rattle.bicep_tree.specs.Nesting.{file_nesting}
+use Rattle.bicep_tree.specs.Declarations.{Spells}
 use Rattle.bicep_tree.specs.Terminals.{Placed, placed, terminal_of}
 use Rattle.bicep_machine.specs.Kept.{empty}
 use Rattle.bicep_machine.specs.Stack.{State, Frame, between, in_file}
@@ -13,9 +16,13 @@ use Rattle.bicep_machine.specs.declared.stop.Stop.{Stop}
 use Rattle.bicep_machine.specs.declared.stop.Stop.TheVariants as stop
 use Rattle.bicep_machine.specs.Views.{Stops}
 use Rattle.bicep_parser.specs.Answers.{told}
-use Rattle.bicep_parser.specs.Refused.{BeginNoFile, BeginAFile, BreaksAt, behind, EndsAt, TellsPlace}
+use Rattle.bicep_parser.specs.Depth.{deepest}
+use Rattle.bicep_parser.specs.Refused.{BeginNoFile, BeginAFile, BreaksAt, DeepAt, behind, EndsAt, TellsPlace}
 use Rattle.bicep_machine.proofs.Spelling.{read_is_spelled}
 use Rattle.bicep_parser.proofs.Answering.{none_spelled}
+use Rattle.bicep_parser.proofs.Deepening.{Marked, Keeps}
+use Rattle.bicep_parser.proofs.DeepeningSteps.{step_keeps}
+use Rattle.bicep_parser.proofs.Deepest.{file_deep}
 use Rattle.bicep_parser.proofs.Fitting.{Stands, Follows}
 use Rattle.bicep_parser.proofs.FollowingSteps.{step_follows}
 use Rattle.bicep_parser.proofs.EndingStates.{state_ends}
@@ -26,9 +33,10 @@ pub record Progress (ts rest : List Standing) (s : State) (i : Bool) (S : List F
   pub split : ts ≡ before ++ rest
   pub leads : (more : List Placed) → run 64 s i S more ≡ parsed 64 (map placed before ++ more)
   pub stands : Stands s i S
+  pub marked : Marked s
 
 pub begins : (ts : List Standing) → Progress ts ts between false (in_file empty ∷ [])
-begins ts = record { before = []; split = refl; leads = λ more. refl; stands = tt }
+begins ts = record { before = []; split = refl; leads = λ more. refl; stands = tt; marked = tt }
 
 one_more : (before : List Standing) (t : Standing) (more : List Placed) → map placed before ++ placed t ∷ more ≡ map placed (before ++ t ∷ []) ++ more
 one_more [] t more = refl
@@ -42,14 +50,24 @@ all_mapped : (xs ys : List Standing) → map placed (xs ++ ys) ≡ map placed xs
 all_mapped [] ys = refl
 all_mapped (x ∷ xs) ys = ap (λ zs. placed x ∷ zs) (all_mapped xs ys)
 
+-- what a token leads to
+leads_on : (ts rest : List Standing) (t : Standing) (s : State) (i : Bool) (S : List Frame) (q : State × Bool × List Frame) (p : Progress ts (t ∷ rest) s i S) → step 64 s i S (placed t) ≡ Some q → (more : List Placed) → run 64 q.0 q.1 q.2 more ≡ parsed 64 (map placed (p.before ++ t ∷ []) ++ more)
+leads_on ts rest t s i S q p e more = sym (ap (λ n. option_and_then (λ r. run 64 r.0 r.1 r.2 more) n) e) ∙ p.leads (placed t ∷ more) ∙ ap (parsed 64) (one_more p.before t more)
+
+marked_on : (t : Standing) (s : State) (i : Bool) (S : List Frame) (q : State × Bool × List Frame) → Marked s → step 64 s i S (placed t) ≡ Some q → Marked q.0
+marked_on t s i S q m e =
+    let k : Keeps (deepest s S) (Some q) = subst (Keeps (deepest s S)) e (step_keeps s i S (placed t) m) in
+    k.0
+
 -- a token is read
 pub goes_on : (ts rest : List Standing) (t : Standing) (s : State) (i : Bool) (S : List Frame) (q : State × Bool × List Frame) → Progress ts (t ∷ rest) s i S → step 64 s i S (placed t) ≡ Some q → Progress ts rest q.0 q.1 q.2
 goes_on ts rest t s i S q p e =
     record {
       before = p.before ++ t ∷ [];
       split = p.split ∙ split_more p.before t rest;
-      leads = λ more. sym (ap (λ n. option_and_then (λ r. run 64 r.0 r.1 r.2 more) n) e) ∙ p.leads (placed t ∷ more) ∙ ap (parsed 64) (one_more p.before t more);
+      leads = leads_on ts rest t s i S q p e;
       stands = subst Follows e (step_follows s i S (placed t) p.stands);
+      marked = marked_on t s i S q p.marked e;
     }
 
 -- a file begins with what was read
@@ -66,6 +84,14 @@ breaks ts rest t s i S p e =
   where
     none : BeginNoFile (p.before ++ t ∷ [])
     none more f h = none_spelled ((p.before ++ t ∷ []) ++ more) (ap (parsed 64) (all_mapped (p.before ++ t ∷ []) more ∙ sym (one_more p.before t (map placed more))) ∙ sym (p.leads (placed t ∷ map placed more)) ∙ ap (λ n. option_and_then (λ r. run 64 r.0 r.1 r.2 (map placed more)) n) e) f h
+
+-- a token behind which something nests too deep
+deep_at : (ts rest : List Standing) (t : Standing) (s : State) (i : Bool) (S : List Frame) (q : State × Bool × List Frame) → Progress ts (t ∷ rest) s i S → step 64 s i S (placed t) ≡ Some q → 64 < deepest q.0 q.2 → DeepAt ts t.1
+deep_at ts rest t s i S q p e h =
+    record { before = p.before; token = t; after = rest; split = p.split; place = refl; deep = deep }
+  where
+    deep : (more : List Standing) (f : FileTree) → Spells f ((p.before ++ t ∷ []) ++ more) → 64 < file_nesting f
+    deep more f sp = file_deep ((p.before ++ t ∷ []) ++ more) (map placed more) q.0 q.1 q.2 (leads_on ts rest t s i S q p e (map placed more) ∙ sym (ap (parsed 64) (all_mapped (p.before ++ t ∷ []) more))) (marked_on t s i S q p.marked e) h f sp
 
 nothing_more : {X : Type 0} (xs : List X) → xs ++ [] ≡ xs
 nothing_more [] = refl
@@ -90,6 +116,11 @@ breaks_end ts s i S stop.OutOfMemory at p e = tt
 pub reads_token : (xs : List Token) (i : ℕ) (t : Token) (x : Terminal) (s : State) (f : Bool) (S : List Frame) (q : State × Bool × List Frame) → drop i xs ≡ t ∷ drop (i + 1) xs → x ≡ terminal_of (standing t) → Progress (map standing xs) (map standing (drop i xs)) s f S → step 64 s f S (t.at, x) ≡ Some q → Progress (map standing xs) (map standing (drop (i + 1) xs)) q.0 q.1 q.2
 reads_token xs i t x s f S q next is p e =
     goes_on (map standing xs) (map standing (drop (i + 1) xs)) (standing t) s f S q (subst (λ ys. Progress (map standing xs) (map standing ys) s f S) next p) (subst (λ y. step 64 s f S (t.at, y) ≡ Some q) is e)
+
+-- something nests too deep behind the next token
+pub deepens_token : (xs : List Token) (i : ℕ) (t : Token) (x : Terminal) (s : State) (f : Bool) (S : List Frame) (q : State × Bool × List Frame) → drop i xs ≡ t ∷ drop (i + 1) xs → x ≡ terminal_of (standing t) → Progress (map standing xs) (map standing (drop i xs)) s f S → step 64 s f S (t.at, x) ≡ Some q → 64 < deepest q.0 q.2 → DeepAt (map standing xs) t.at
+deepens_token xs i t x s f S q next is p e h =
+    deep_at (map standing xs) (map standing (drop (i + 1) xs)) (standing t) s f S q (subst (λ ys. Progress (map standing xs) (map standing ys) s f S) next p) (subst (λ y. step 64 s f S (t.at, y) ≡ Some q) is e) h
 
 -- the next token is not read
 pub breaks_token : (xs : List Token) (i : ℕ) (t : Token) (x : Terminal) (s : State) (f : Bool) (S : List Frame) (why : Stop) → drop i xs ≡ t ∷ drop (i + 1) xs → x ≡ terminal_of (standing t) → Progress (map standing xs) (map standing (drop i xs)) s f S → Stops why (step 64 s f S (t.at, x)) → TellsPlace (map standing xs) (told why t.at)

@@ -31,6 +31,15 @@ pub record BreaksAt (ts : List Standing) (at : ℕ) : Type 0 where
   pub begun : BeginAFile before
   pub none : BeginNoFile (before ++ token ∷ [])
 
+-- no file within the limit begins with the tokens up to the one at this place
+pub record DeepAt (ts : List Standing) (at : ℕ) : Type 0 where
+  pub before : List Standing
+  pub token : Standing
+  pub after : List Standing
+  pub split : ts ≡ before ++ token ∷ after
+  pub place : at ≡ token.1
+  pub deep : (more : List Standing) (f : FileTree) → Spells f ((before ++ token ∷ []) ++ more) → 64 < file_nesting f
+
 -- the offset behind a token, at most 2^64 - 1
 abbrev pub behind : Standing → ℕ
 behind t = min (t.1 + length t.2) (2 ^ 64 - 1)
@@ -42,10 +51,10 @@ EndsAt (t ∷ []) at = at ≡ behind t
 EndsAt (t ∷ ts) at = EndsAt ts at
 
 -- the place of a fault: where the tokens are no file, the first token with which no file goes on, or their end, where a
--- file goes on behind them
+-- file goes on behind them; where a file nests too deep, a token up to which no file within the limit begins, or the end
 abbrev pub TellsPlace : List Standing → ParseFault → Type 0
 TellsPlace ts (fault.NotAFile at) = BreaksAt ts at ⊎ (EndsAt ts at × BeginAFile ts)
-TellsPlace ts (fault.TooDeep at) = Unit {0}
+TellsPlace ts (fault.TooDeep at) = DeepAt ts at ⊎ EndsAt ts at
 TellsPlace ts fault.OutOfMemory = Unit {0}
 
 -- no tokens spell two files

@@ -1,8 +1,14 @@
 // How deep what was read last nests, and what is open around it.
 
+ghost use Rattle.std.specs.Prelude.{◌<◌, ◌≤◌, IsTrue};
+ghost use Rattle.bicep_machine.specs.Views.{front_of, frame_of, frames_of, state_of};
+ghost use Rattle.bicep_parser.specs.Depth.{front_depth, frame_depth, state_depth, deepest};
+
 use bicep_machine::{Frame, Front, MOST_NESTING, State};
 
-fn state_depth(state: &State) -> usize {
+fn state_depth(state: &State) -> usize
+    ensures { result ≤ state_depth (state_of state.now) }
+{
     match state {
         State::Dotted(_, e) => e.depth,
         State::Done(e) => e.depth,
@@ -15,7 +21,9 @@ fn state_depth(state: &State) -> usize {
     }
 }
 
-fn frame_depth(frame: &Frame) -> usize {
+fn frame_depth(frame: &Frame) -> usize
+    ensures { result ≤ frame_depth (frame_of frame.now) }
+{
     match frame {
         Frame::Calling(_, _, arguments) => arguments.depth,
         Frame::Indexing(e, _) => e.depth,
@@ -32,7 +40,9 @@ fn frame_depth(frame: &Frame) -> usize {
     }
 }
 
-fn front_depth(front: &Front) -> usize {
+fn front_depth(front: &Front) -> usize
+    ensures { result ≤ front_depth (front_of front.now) }
+{
     match front {
         Front::Nothing => 0,
         Front::Condition(_, e) => e.depth,
@@ -42,7 +52,9 @@ fn front_depth(front: &Front) -> usize {
 }
 
 /// Whether what was read last, or what is open right around it, nests too deep.
-pub fn is_too_deep(state: &State, stack: &[Frame]) -> bool {
+pub fn is_too_deep(state: &State, stack: &[Frame]) -> bool
+    ensures { IsTrue result → 64 < deepest (state_of state.now) (frames_of stack.now) }
+{
     if state_depth(state) > MOST_NESTING {
         return true;
     }

@@ -9,7 +9,8 @@ pub enum ParseFault {
     /// token, where a file begins with all of them.
     #[error("not a file at {0}")]
     NotAFile(usize),
-    /// An expression nests above 64: the token behind which that is known, or the end of the last one.
+    /// An expression nests above 64: the token that closes the part that nests too deep, which may be
+    /// the first one of the next line, or the end of the last token, where none closes it.
     #[error("too deep at {0}")]
     TooDeep(usize),
     /// Memory was refused.

@@ -1,6 +1,6 @@
 // From tokens to a file.
 
-ghost use Rattle.std.specs.Prelude.{◌≡◌, ◌≤◌, ◌∷◌, [], map, IfOk, IfErr};
+ghost use Rattle.std.specs.Prelude.{◌≡◌, ◌≤◌, ◌∷◌, ◌⊎◌, [], map, IfOk, IfErr};
 ghost use Rattle.bicep_lexer.specs.Reading.{standing};
 ghost use Rattle.bicep_tree.specs.Terminals.{placed};
 ghost use Rattle.bicep_tree.specs.View.{file_of};
@@ -10,7 +10,7 @@ ghost use Rattle.bicep_machine.specs.Stack.{in_file};
 ghost use Rattle.bicep_machine.specs.Machine.{parsed};
 ghost use Rattle.bicep_machine.specs.Views.{frames_of};
 ghost use Rattle.bicep_parser.specs.Answers.{Reads, Answers, told};
-ghost use Rattle.bicep_parser.specs.Refused.{Refuses, EndsAt, TellsPlace};
+ghost use Rattle.bicep_parser.specs.Refused.{Refuses, DeepAt, EndsAt, TellsPlace};
 
 use crate::depth::is_too_deep;
 use crate::fault::ParseFault;
@@ -53,6 +53,8 @@ fn end_of(tokens: &[Token]) -> usize
 // The statements, and where it was known that one nests too deep.
 fn read(alloc: Global, tokens: &[Token]) -> Result<(Kept<Vec<Statement>>, usize), ParseFault>
     ensures reads { Reads result (parsed 64 (map placed (map standing tokens.now))) }
+    ensures deep { IfOk result (λ r.
+        DeepAt (map standing tokens.now) r.1 ⊎ EndsAt (map standing tokens.now) r.1) }
     ensures place { IfErr result (TellsPlace (map standing tokens.now)) }
 {
     let end = end_of(tokens);
@@ -104,10 +106,14 @@ fn parsed(alloc: Global, tokens: &[Token]) -> Result<File, ParseFault>
 
 /// The file that the tokens of a source spell.
 ///
-/// `NotAFile` comes exactly where they spell none, `TooDeep` exactly where an expression of the file
-/// that they spell nests above 64 (`specs/Nesting` of `bicep_tree`). It takes time and memory in the
-/// order of the tokens; no nesting of a source makes it recurse, and nothing that nests above 64 is
-/// built.
+/// Each token is looked at once. No nesting of a source makes it recurse, and nothing that nests above
+/// 64 is built.
+///
+/// # Errors
+///
+/// `OutOfMemory` comes where memory was refused. Else `NotAFile` comes exactly where the tokens spell
+/// no file, and `TooDeep` exactly where an expression of the file that they spell nests above 64
+/// (`specs/Nesting` of `bicep_tree`). `specs/Refused` says of both which places are told.
 pub fn parse(alloc: Global, tokens: &[Token]) -> Result<File, ParseFault>
     ensures spelled { IfOk result (λ f. Spells (file_of f.items) (map standing tokens.now)) }
     ensures shallow { IfOk result (λ f. file_nesting (file_of f.items) ≤ 64) }

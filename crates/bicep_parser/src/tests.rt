@@ -308,16 +308,16 @@ fn repeated(
     Ok(source)
 }
 
-// What opens, what stands inside, what closes, and how often it may stand.
-const NESTS: [(&str, &str, &str, usize); 8] = [
-    ("(", "1", ")", 64),
-    ("[", "1", "]", 64),
-    ("{ a: ", "1", " }", 64),
-    ("f(", "1", ")", 64),
-    ("!", "a", "", 64),
-    ("a ? b : ", "c", "", 64),
-    ("1 + (", "1", ")", 32),
-    ("'${", "a", "}'", 64),
+// What opens, what stands inside, what closes, how often it may stand, and what is told of one more.
+const NESTS: [(&str, &str, &str, usize, &str); 8] = [
+    ("(", "1", ")", 64, "too deep at 138"),
+    ("[", "1", "]", 64, "too deep at 138"),
+    ("{ a: ", "1", " }", 64, "too deep at 463"),
+    ("f(", "1", ")", 64, "too deep at 203"),
+    ("!", "a", "", 64, "too deep at 75"),
+    ("a ? b : ", "c", "", 64, "too deep at 530"),
+    ("1 + (", "1", ")", 32, "too deep at 206"),
+    ("'${", "a", "}'", 64, "too deep at 332"),
 ];
 
 #[test]
@@ -330,7 +330,32 @@ fn nesting_is_at_most_64(rt: HostRuntime) -> Result<(), Fail> {
         let more = repeated(alloc, "var a = ", row.0, row.3 + 1, row.1)?;
         let deep = repeated(alloc, more.as_str(), row.2, row.3 + 1, "\n")?;
         let found = outcome(alloc, deep.as_str())?;
-        assert!(rt; found.as_str().starts_with("too deep at "), "{}", row.0);
+        assert_eq!(rt; found.as_str(), row.4, "{}", row.0);
+    }
+    Ok(())
+}
+
+// What stands before a part, the part, how often it stands, what stands behind it, and what is told.
+const CLOSED: [(&str, &str, usize, &str, &str); 10] = [
+    ("var a = ", "!", 65, "a", "too deep at 74"),
+    ("var a = ", "!", 65, "a\nvar b = 1", "too deep at 75"),
+    ("var a = [", "!", 65, "a]", "too deep at 75"),
+    ("var a = 1", " + 1", 64, "\nvar b = 1\n", "2"),
+    ("var a = 1", " + 1", 65, "", "too deep at 269"),
+    ("var a = 1", " + 1", 65, "\n", "too deep at 270"),
+    ("var a = 1", " + 1", 65, "\nvar b = 1\n", "too deep at 270"),
+    ("var a = 1", " + 1", 66, "", "too deep at 270"),
+    ("var a = b", ".c", 65, " + 1\n", "too deep at 138"),
+    ("var a = 1", " + 1", 65, "\nvar b =", "not a file at 277"),
+];
+
+#[test]
+fn a_deep_part_is_told_where_it_is_closed(rt: HostRuntime) -> Result<(), Fail> {
+    let alloc = rt.alloc();
+    for row in &CLOSED {
+        let source = repeated(alloc, row.0, row.1, row.2, row.3)?;
+        let found = outcome(alloc, source.as_str())?;
+        assert_eq!(rt; found.as_str(), row.4, "{}", source.as_str());
     }
     Ok(())
 }

@@ -9,23 +9,36 @@ use arm_value::{Text, Value, folded_eq};
 /// A function that looks at its arguments only as far as needed.
 #[derive(Clone, Copy, PartialEq, Eq, Debug)]
 pub enum Lazy {
+    /// `if(condition, then, else)`
     If,
+    /// `and(a, b, ..)`
     And,
+    /// `or(a, b, ..)`
     Or,
+    /// `coalesce(a, b, ..)`
     Coalesce,
 }
 
 /// A function of the values of all its arguments that needs what stands around it.
 #[derive(Clone, Copy, PartialEq, Eq, Debug)]
 pub enum Strict {
+    /// `parameters(name)`
     Parameters,
+    /// `variables(name)`
     Variables,
+    /// `reference(resource)`, `reference(resource, version)` and `reference(resource, version, 'Full')`
     Reference,
+    /// `copyIndex()`, `copyIndex(offset)`, `copyIndex(loop)` and `copyIndex(loop, offset)`
     CopyIndex,
+    /// `resourceId(type, name, ..)`, with a group or a subscription and a group before the type
     ResourceId,
+    /// `subscriptionResourceId(type, name, ..)`, with a subscription before the type
     SubscriptionResourceId,
+    /// `resourceGroup()`
     ResourceGroup,
+    /// `subscription()`
     Subscription,
+    /// `deployment()`
     Deployment,
 }
 

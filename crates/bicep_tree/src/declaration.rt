@@ -1,4 +1,4 @@
-// Statements of a file.
+//! Statements of a file.
 
 use crate::expr::{Body, Decorator, Expr, Resource, Value};
 use crate::leaf::{Name, Quoted, TypeName};
@@ -18,6 +18,7 @@ pub enum Declaration {
     Var(usize, Name, Value),
     /// `output name type = value`
     Output(usize, Name, TypeName, Value),
+    /// `resource name 'type@version' = body`
     Resource(Resource),
     /// `module name 'path' = body`
     Module(usize, Name, Quoted, Body),
@@ -26,7 +27,9 @@ pub enum Declaration {
 /// A declaration and the decorators before it.
 #[derive(Drop)]
 pub struct Statement {
+    /// Its decorators in order.
     pub decorators: Vec<Decorator>,
+    /// What it declares.
     pub declaration: Declaration,
 }
 

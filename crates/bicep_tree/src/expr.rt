@@ -1,4 +1,4 @@
-// Expressions, and what stands inside their objects.
+//! Expressions, and what stands inside their objects. Places are offsets of bytes in the source.
 
 use crate::leaf::{
     Access, Function, Indexing, Label, Literal, LoopNames, Name, Operator, Prefix, Quoted,
@@ -10,10 +10,13 @@ use arm_value::Text;
 #[cycle(tree)]
 #[derive(Drop)]
 pub enum Expr {
+    /// `n`
     Name(Name),
+    /// `1`, `'a'`, `true`, `false` or `null`
     Literal(usize, Literal),
     /// `'a${x}b'`: the characters before the first hole, and the holes, of which there is one at least.
     Interpolated(usize, Text, Vec<Hole>),
+    /// `{ .. }`
     Object(Object),
     /// `[a, b]`
     Array(usize, Vec<Expr>),
@@ -39,7 +42,9 @@ pub enum Expr {
 #[cycle(tree)]
 #[derive(Drop)]
 pub struct Hole {
+    /// The expression between `${` and `}`.
     pub value: Expr,
+    /// The characters behind it, by what they mean.
     pub after: Text,
 }
 
@@ -47,7 +52,9 @@ pub struct Hole {
 #[cycle(tree)]
 #[derive(Drop)]
 pub struct Object {
+    /// The offset of its `{`.
     pub at: usize,
+    /// Its members in order.
     pub members: Vec<Member>,
 }
 
@@ -65,6 +72,7 @@ pub enum Member {
 #[cycle(tree)]
 #[derive(Drop)]
 pub enum Value {
+    /// `e`
     Plain(Expr),
     /// `[for x in xs: e]`
     Each(Loop, Expr),
@@ -74,8 +82,11 @@ pub enum Value {
 #[cycle(tree)]
 #[derive(Drop)]
 pub struct Loop {
+    /// The offset of its `[`.
     pub at: usize,
+    /// The names of an item.
     pub names: LoopNames,
+    /// What it runs over.
     pub over: Expr,
 }
 
@@ -83,8 +94,11 @@ pub struct Loop {
 #[cycle(tree)]
 #[derive(Drop)]
 pub struct Decorator {
+    /// The offset of its `@`.
     pub at: usize,
+    /// `f`, or `sys.f`.
     pub function: Function,
+    /// Its arguments in order.
     pub arguments: Vec<Expr>,
 }
 
@@ -92,11 +106,15 @@ pub struct Decorator {
 #[cycle(tree)]
 #[derive(Drop)]
 pub struct Resource {
+    /// The offset of the word `resource`.
     pub at: usize,
+    /// Its symbol.
     pub name: Name,
+    /// Its type text, `type@version`.
     pub path: Quoted,
     /// Whether the word `existing` stands before the `=`.
     pub existing: bool,
+    /// What stands behind the `=`.
     pub body: Body,
 }
 

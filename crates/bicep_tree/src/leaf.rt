@@ -1,25 +1,31 @@
-// The parts of a tree that have no parts of their own.
+//! The parts of a tree that have no parts of their own. Places are offsets of bytes in the source.
 
 use arm_value::Text;
 
-/// A name, and where it begins: the offset of its first byte in the source.
+/// A name, and where it begins.
 #[derive(Drop)]
 pub struct Name {
+    /// The offset of its first byte.
     pub at: usize,
+    /// Its characters.
     pub text: Text,
 }
 
 /// A text without interpolation by what it means, and where it begins.
 #[derive(Drop)]
 pub struct Quoted {
+    /// The offset of its first quote.
     pub at: usize,
+    /// The characters that it means.
     pub text: Text,
 }
 
 /// The name of a member of an object.
 #[derive(Drop)]
 pub enum Label {
+    /// `n`
     Name(Name),
+    /// `'n'`
     Quoted(Quoted),
 }
 
@@ -30,8 +36,11 @@ pub enum Literal {
     Number(i64),
     /// A text without interpolation, by what it means.
     Text(Text),
+    /// `true`
     True,
+    /// `false`
     False,
+    /// `null`
     Null,
 }
 
@@ -47,7 +56,9 @@ pub enum LoopNames {
 /// A name space of functions.
 #[derive(Clone, Copy, PartialEq, Eq)]
 pub enum Namespace {
+    /// `sys`
     Sys,
+    /// `az`
     Az,
 }
 
@@ -129,9 +140,14 @@ pub enum Operator {
 /// The type of a parameter or an output.
 #[derive(Clone, Copy, PartialEq, Eq)]
 pub enum TypeName {
+    /// `string`
     String,
+    /// `int`
     Int,
+    /// `bool`
     Bool,
+    /// `object`
     Object,
+    /// `array`
     Array,
 }

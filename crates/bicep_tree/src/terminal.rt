@@ -1,4 +1,4 @@
-// What the grammar sees in a token.
+//! What the grammar sees in a token.
 
 use crate::leaf::{Access, Literal, Operator};
 use arm_value::Text;
@@ -6,7 +6,9 @@ use arm_value::Text;
 /// A token as the grammar takes it: a word that is a value is no name.
 #[derive(Drop)]
 pub enum Terminal {
+    /// A word that is no value, by its characters.
     Name(Text),
+    /// A number, a text without interpolation, or a word that is a value.
     Literal(Literal),
     /// The characters of an interpolated text before its first hole.
     LeftPiece(Text),
@@ -44,6 +46,7 @@ pub enum Terminal {
     Assign,
     /// `@`
     At,
+    /// One end of a line, or several in a row.
     Newline,
     /// A number beyond what a literal holds.
     Other,

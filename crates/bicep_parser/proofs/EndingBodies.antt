@@ -7,7 +7,7 @@ use Rattle.bicep_tree.specs.Tree.{Tree, ObjectTree, BodyTree}
 use Rattle.bicep_machine.specs.declared.word.Owner.TheVariants as owner
 use Rattle.bicep_machine.specs.Kept.{Kept, empty, of_loop, of_members}
 use Rattle.bicep_machine.specs.Stack as s
-use Rattle.bicep_machine.specs.Stack.{Header, header, Front, nothing_before, a_condition, loop_and_condition, Frame, in_object, body_over, in_condition, bodied, State, wanted, member, past_member, among, looped_body, guarded, body_end, headed, existed, behind}
+use Rattle.bicep_machine.specs.Stack.{Header, header, Front, nothing_before, a_condition, loop_and_condition, Frame, in_object, body_over, bodied, member, looped_body, guarded, body_end, headed, existed}
 use Rattle.bicep_machine.specs.Closing.{body_on, fronted, colon_on}
 use Rattle.bicep_parser.proofs.Fitting.{place_of, Fits}
 use Rattle.bicep_parser.proofs.Completing.{bracket, brace, Completes, Leads, Ends, by_token, to, by_closer, behind_ends, past_member_ends}

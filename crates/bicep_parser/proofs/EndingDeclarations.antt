@@ -11,7 +11,7 @@ use Rattle.bicep_machine.specs.declared.word.Word.{Word}
 use Rattle.bicep_machine.specs.declared.word.Word.TheVariants as w
 use Rattle.bicep_machine.specs.Kept.{empty}
 use Rattle.bicep_machine.specs.Stack as s
-use Rattle.bicep_machine.specs.Stack.{Decorators, Assigned, to_scope, Frame, calling, in_object, assigned, in_file, State, wanted, at_sign, decorator_named, decorator_spaced, decorator_ready, decorated, past_decorators, declaring, declared, typed, headed}
+use Rattle.bicep_machine.specs.Stack.{Decorators, Assigned, to_scope, Frame, calling, in_object, assigned, in_file, State, wanted, at_sign, decorator_named, decorator_spaced, decorator_ready, decorated, past_decorators, declaring, declared, typed}
 use Rattle.bicep_machine.specs.Closing.{of_statement, with_expression}
 use Rattle.bicep_machine.specs.Machine.{is_resource, type_of, word_of, word_on, child_on, type_on}
 use Rattle.bicep_parser.proofs.Fitting.{statements, decorating, place_at, IsNamed, IsTyped, Fits}

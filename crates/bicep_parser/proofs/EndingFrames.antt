@@ -7,7 +7,7 @@ use Rattle.bicep_tree.specs.Tree.{Tree, ObjectTree, MemberTree, ValueTree}
 use Rattle.bicep_tree.specs.Precedence.{level}
 use Rattle.bicep_machine.specs.Kept.{Kept, put, of_prefix, of_binary, of_conditional, of_loop, of_each, of_plain, of_property, of_members, of_decorator}
 use Rattle.bicep_machine.specs.Stack as s
-use Rattle.bicep_machine.specs.Stack.{Header, Front, nothing_before, to_var, to_output, Frame, grouping, calling, indexing, opened, in_array, in_object, in_text, prefixing, left, asked, chosen, valued, assigned, over, body_over, in_names, looped, in_condition, bodied, in_file, State, wanted, done, past_member}
+use Rattle.bicep_machine.specs.Stack.{Header, Front, nothing_before, to_var, to_output, Frame, grouping, calling, indexing, opened, in_array, in_object, in_text, prefixing, left, asked, chosen, valued, assigned, over, body_over, in_names, looped, in_condition, bodied, in_file, wanted, done}
 use Rattle.bicep_machine.specs.Closing.{of_statement, with_expression, closed, object_on, each_on, members_closed, member_closed}
 use Rattle.bicep_parser.proofs.Fitting.{inside, members, statements, looping, Fits, Value}
 use Rattle.bicep_parser.proofs.Completing.{colon, paren, bracket, brace, piece, Leads, Ending, at_end, by, Ends, to, done_ends, x_tree, wanted_ends, file_ends, behind_ends, past_member_ends}

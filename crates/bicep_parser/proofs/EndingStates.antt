@@ -11,7 +11,7 @@ use Rattle.bicep_tree.specs.declared.terminal.Terminal.TheVariants as t
 use Rattle.bicep_tree.specs.Tree.{Tree, name}
 use Rattle.bicep_machine.specs.Kept.{Kept, flat, of_access}
 use Rattle.bicep_machine.specs.Stack as s
-use Rattle.bicep_machine.specs.Stack.{Header, Front, nothing_before, to_var, to_output, Frame, in_object, asked, chosen, valued, assigned, over, body_over, in_names, in_condition, bodied, in_file, State, wanted, qualifying, qualified, dotted, done, paused, item, for_wanted, names_wanted, one_wanted, one_named, other_wanted, both_named, member, labelled, past_member, among, looped_body, condition, guarded, body_end, at_sign, decorator_named, decorator_spaced, decorator_ready, decorated, past_decorators, declaring, declared, typed, headed, existed, between, behind, Next}
+use Rattle.bicep_machine.specs.Stack.{nothing_before, to_var, to_output, Frame, asked, valued, assigned, over, body_over, in_names, in_condition, bodied, in_file, State, wanted, qualifying, qualified, dotted, done, paused, item, for_wanted, names_wanted, one_wanted, one_named, other_wanted, both_named, member, labelled, past_member, among, looped_body, condition, guarded, body_end, at_sign, decorator_named, decorator_spaced, decorator_ready, decorated, past_decorators, declaring, declared, typed, headed, existed, between, behind, Next}
 use Rattle.bicep_machine.specs.Closing.{Closed, is_for, over_on, closed}
 use Rattle.bicep_machine.specs.Machine.{is_in, with_question}
 use Rattle.bicep_parser.proofs.Fitting.{statements, members, Fits, Value, Bare, Free, Body, Names, Loop, Stands}

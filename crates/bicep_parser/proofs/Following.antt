@@ -9,7 +9,7 @@ use Rattle.bicep_tree.specs.Precedence.{level}
 use Rattle.bicep_machine.specs.declared.word.Owner.TheVariants as owner
 use Rattle.bicep_machine.specs.Kept.{Kept, of_prefix, of_binary, of_conditional}
 use Rattle.bicep_machine.specs.Stack as s
-use Rattle.bicep_machine.specs.Stack.{Header, header, Front, nothing_before, a_condition, loop_and_condition, Assigned, to_var, to_output, Frame, grouping, calling, indexing, opened, in_array, in_object, in_text, prefixing, left, asked, chosen, valued, assigned, over, body_over, in_names, looped, in_condition, bodied, in_file}
+use Rattle.bicep_machine.specs.Stack.{Header, header, Front, nothing_before, a_condition, loop_and_condition, to_var, to_output, Frame, grouping, calling, indexing, opened, in_array, in_object, in_text, prefixing, left, asked, chosen, valued, assigned, over, body_over, looped, in_condition, bodied, in_file}
 use Rattle.bicep_machine.specs.Closing.{Closed, filed, member_put, body_on, each_on, over_on, is_for, pair_on, named_on, item_on, takes_loops, item_parted, closed, fronted, object_on, members_closed, member_closed, items_closed, call_closed, paren_on, bracket_on, comma_on, brace_on, colon_on, late_colon_on, middle_on, right_on, newline_on}
 use Rattle.bicep_machine.specs.Machine.{with_operator, with_question}
 use Rattle.bicep_parser.proofs.Fitting.{inside, members, statements, looping, place_of, Fits, Value, Follows}

@@ -17,7 +17,7 @@ use Rattle.bicep_tree.specs.Terminals.{Placed}
 use Rattle.bicep_tree.specs.Forms.{is_newline}
 use Rattle.bicep_machine.specs.Kept.{Kept, flat, of_access}
 use Rattle.bicep_machine.specs.Stack as s
-use Rattle.bicep_machine.specs.Stack.{Decorators, Header, header, nothing_before, Frame, in_object, valued, assigned, in_names, bodied, in_file, State, wanted, qualifying, qualified, dotted, done, paused, item, for_wanted, names_wanted, one_wanted, one_named, other_wanted, both_named, member, labelled, past_member, among, looped_body, condition, guarded, body_end, at_sign, decorator_named, decorator_spaced, decorator_ready, decorated, past_decorators, declaring, declared, typed, headed, existed, between, behind, Next}
+use Rattle.bicep_machine.specs.Stack.{Header, nothing_before, Frame, in_object, valued, assigned, in_names, bodied, State, wanted, qualifying, qualified, dotted, done, paused, item, for_wanted, names_wanted, one_wanted, one_named, other_wanted, both_named, member, labelled, past_member, among, looped_body, condition, guarded, body_end, at_sign, decorator_named, decorator_spaced, decorator_ready, decorated, past_decorators, declaring, declared, typed, headed, existed, between, behind, Next}
 use Rattle.bicep_machine.specs.Closing.{is_for, pair_of, pair_on, over_on, closed, newline_on}
 use Rattle.bicep_machine.specs.Machine.{is_in, is_if, is_resource, namespace_of, begun, gone_on, space_on, rejoined, moved, step}
 use Rattle.bicep_parser.proofs.Fitting.{inside, members, decorating, place_of, Fits, Value, Bare, Free, Body, Names, Loop, Stands, Follows}

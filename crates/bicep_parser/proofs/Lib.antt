@@ -1,4 +1,5 @@
 mod Answering
+mod AtHand
 mod Completing
 mod Deepening
 mod DeepeningDeclarations

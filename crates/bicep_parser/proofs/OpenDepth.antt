@@ -1,27 +1,19 @@
--- What is open right around what was read last is part of all that is open.
-use Rattle.std.proofs.Common.{◌≡◌, ℕ, zero, suc, ◌<◌, ◌≤◌, nat_lt, IsTrue, List, [], ◌∷◌, Some, subst, arith}
-use Rattle.std.proofs.lemmas.Bool.Decides.{nat_tests}
+-- What is open on top.
+use Rattle.std.proofs.Common.{◌≡◌, ℕ, zero, suc, ◌-◌, List, [], ◌∷◌, length, Some, ap, arith}
 use Rattle.std.specs.List.{slice_get}
 use Rattle.bicep_machine.specs.declared.frame.Frame as frames
-use Rattle.bicep_machine.specs.Stack.{Frame, State}
+use Rattle.bicep_machine.specs.Stack.{Frame}
 use Rattle.bicep_machine.specs.Views.{frame_of, frames_onto, frames_of}
-use Rattle.bicep_parser.specs.Depth.{frame_depth, stack_depth, deepest}
+use Rattle.bicep_parser.specs.Depth.{frame_depth, top_depth}
 
-onto_grows : (fs : List frames.Frame) (S : List Frame) → stack_depth S ≤ stack_depth (frames_onto S fs)
-onto_grows [] S = omega arith
-onto_grows (f ∷ fs) S = let k = onto_grows fs (frame_of f ∷ S) in omega arith
+last_at : (fs : List frames.Frame) (S : List Frame) (n : ℕ) (f : frames.Frame) → length fs ≡ suc n → slice_get fs n ≡ Some f → top_depth (frames_onto S fs) ≡ frame_depth (frame_of f)
+last_at [] S n f l e = absurd cc
+last_at (g ∷ []) S zero f l e = let same : g ≡ f = cc in ap (λ x. frame_depth (frame_of x)) same
+last_at (g ∷ []) S (suc n) f l e = absurd cc
+last_at (g ∷ (h ∷ fs)) S zero f l e = absurd (omega arith)
+last_at (g ∷ (h ∷ fs)) S (suc n) f l e = last_at (h ∷ fs) (frame_of g ∷ S) n f (omega arith) e
 
-open_depth : (fs : List frames.Frame) (S : List Frame) (n : ℕ) (f : frames.Frame) → slice_get fs n ≡ Some f → frame_depth (frame_of f) ≤ stack_depth (frames_onto S fs)
-open_depth [] S n f e = absurd cc
-open_depth (g ∷ fs) S zero f e =
-    let same : g ≡ f = cc in
-    let k = onto_grows fs (frame_of g ∷ S) in
-    subst (λ x. frame_depth (frame_of x) ≤ stack_depth (frames_onto S (g ∷ fs))) same (omega arith)
-open_depth (g ∷ fs) S (suc n) f e = open_depth fs (frame_of g ∷ S) n f e
-
--- a frame that is too deep
-pub frame_deep : (fs : List frames.Frame) (st : State) (n : ℕ) (f : frames.Frame) (d : ℕ) → slice_get fs n ≡ Some f → d ≤ frame_depth (frame_of f) → IsTrue (nat_lt 64 d) → 64 < deepest st (frames_of fs)
-frame_deep fs st n f d is le h =
-    let k = open_depth fs [] n f is in
-    let lt : 64 < d = grind (arith, nat_tests) in
-    omega arith
+-- the last frame of the code is on top
+pub last_on_top : (fs : List frames.Frame) (f : frames.Frame) → slice_get fs (length fs - 1) ≡ Some f → top_depth (frames_of fs) ≡ frame_depth (frame_of f)
+last_on_top [] f e = absurd cc
+last_on_top (g ∷ fs) f e = last_at (g ∷ fs) [] (length (g ∷ fs) - 1) f (omega arith) e

@@ -1,5 +1,5 @@
 -- How deep what was read last nests, and what is open.
-use Rattle.std.specs.Prelude.{ℕ, max, List, [], ◌∷◌}
+use Rattle.std.specs.Prelude.{ℕ, max, nat_lt, List, [], ◌∷◌, Option, Some, None, if◌then◌else◌}
 use Rattle.bicep_machine.specs.Stack.{Callee, function, decorating, Header, header, Front, nothing_before, a_condition, a_loop, loop_and_condition, Frame, calling, indexing, in_array, in_object, in_text, left, asked, chosen, assigned, body_over, looped, in_condition, bodied, in_file, State, dotted, done, paused, past_member, body_end, at_sign, decorator_named, decorator_spaced, decorator_ready, decorated, past_decorators, declaring, declared, typed, headed, existed, behind}
 
 abbrev pub callee_depth : Callee → ℕ
@@ -60,3 +60,17 @@ state_depth s = 0
 -- of all that is kept
 abbrev pub deepest : State → List Frame → ℕ
 deepest s S = max (state_depth s) (stack_depth S)
+
+-- of what is open on top
+abbrev pub top_depth : List Frame → ℕ
+top_depth [] = 0
+top_depth (F ∷ S) = frame_depth F
+
+-- of what was read last, and what is open right around it
+abbrev pub at_hand : State → List Frame → ℕ
+at_hand s S = max (state_depth s) (top_depth S)
+
+-- the place where something nests too deep, if none was noted before
+abbrev pub noted : Option ℕ → State → List Frame → ℕ → Option ℕ
+noted (Some d) s S at = Some d
+noted None s S at = if nat_lt 64 (at_hand s S) then Some at else None

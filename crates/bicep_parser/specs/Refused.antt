@@ -1,7 +1,10 @@
 -- Which tokens are refused.
-use Rattle.std.specs.Prelude.{◌≡◌, ℕ, ◌+◌, ◌-◌, ◌^◌, ◌<◌, min, List, [], ◌∷◌, ◌++◌, length, ◌⊎◌}
+use Rattle.std.specs.Prelude.{◌≡◌, ℕ, ◌+◌, ◌-◌, ◌^◌, ◌<◌, ◌≤◌, min, List, [], ◌∷◌, ◌++◌, length, ◌⊎◌}
 use Rattle.bicep_lexer.specs.Reading.{Standing}
+use Rattle.bicep_tree.specs.declared.terminal.Terminal.{Terminal}
+use Rattle.bicep_tree.specs.declared.terminal.Terminal.TheVariants as t
 use Rattle.bicep_tree.specs.Tree.{FileTree}
+use Rattle.bicep_tree.specs.Terminals.{terminal_of}
 use Rattle.bicep_tree.specs.Nesting.{file_nesting}
 use Rattle.bicep_tree.specs.Declarations.{Spells}
 use Rattle.bicep_parser.specs.declared.fault.ParseFault.{ParseFault}
@@ -50,11 +53,22 @@ EndsAt [] at = at ≡ 0
 EndsAt (t ∷ []) at = at ≡ behind t
 EndsAt (t ∷ ts) at = EndsAt ts at
 
+-- a statement may begin with the token: with a name, or with a decorator
+abbrev pub BeginsAStatement : Terminal → Type 0
+BeginsAStatement (t.Name s) = Unit {0}
+BeginsAStatement t.At = Unit {0}
+BeginsAStatement x = ⊥
+
+-- the statements before the last are within the limit: each file behind which a statement begins
+abbrev pub EarlierWithin : List Standing → Type 0
+EarlierWithin ts = (before : List Standing) (token : Standing) (after : List Standing) (f : FileTree) → ts ≡ before ++ token ∷ after → BeginsAStatement (terminal_of token) → Spells f before → file_nesting f ≤ 64
+
 -- the place of a fault: where the tokens are no file, the first token with which no file goes on, or their end, where a
--- file goes on behind them; where a file nests too deep, a token up to which no file within the limit begins, or the end
+-- file goes on behind them; where a file nests too deep, a token up to which no file within the limit begins, or the end,
+-- where only the last statement nests too deep
 abbrev pub TellsPlace : List Standing → ParseFault → Type 0
 TellsPlace ts (fault.NotAFile at) = BreaksAt ts at ⊎ (EndsAt ts at × BeginAFile ts)
-TellsPlace ts (fault.TooDeep at) = DeepAt ts at ⊎ EndsAt ts at
+TellsPlace ts (fault.TooDeep at) = DeepAt ts at ⊎ (EndsAt ts at × EarlierWithin ts)
 TellsPlace ts fault.OutOfMemory = Unit {0}
 
 -- no tokens spell two files

@@ -1,6 +1,6 @@
 // From tokens to a file.
 
-ghost use Rattle.std.specs.Prelude.{◌≡◌, ◌≤◌, ◌∷◌, ◌⊎◌, [], map, IfOk, IfErr};
+ghost use Rattle.std.specs.Prelude.{◌≡◌, ◌≤◌, ◌∷◌, [], map, IfOk, IfErr};
 ghost use Rattle.bicep_lexer.specs.Reading.{standing};
 ghost use Rattle.bicep_tree.specs.Terminals.{placed};
 ghost use Rattle.bicep_tree.specs.View.{file_of};
@@ -10,9 +10,10 @@ ghost use Rattle.bicep_machine.specs.Stack.{in_file};
 ghost use Rattle.bicep_machine.specs.Machine.{parsed};
 ghost use Rattle.bicep_machine.specs.Views.{frames_of};
 ghost use Rattle.bicep_parser.specs.Answers.{Reads, Answers, told};
-ghost use Rattle.bicep_parser.specs.Refused.{Refuses, DeepAt, EndsAt, TellsPlace};
+ghost use Rattle.bicep_parser.specs.Refused.{Refuses, EndsAt, TellsPlace};
+ghost use Rattle.bicep_parser.specs.declared.fault.ParseFault.TheVariants.{TooDeep};
 
-use crate::depth::is_too_deep;
+use crate::depth::noted;
 use crate::fault::ParseFault;
 use crate::turning::{finish, turn};
 use arm_value::OutOfMemory;
@@ -53,8 +54,7 @@ fn end_of(tokens: &[Token]) -> usize
 // The statements, and where it was known that one nests too deep.
 fn read(alloc: Global, tokens: &[Token]) -> Result<(Kept<Vec<Statement>>, usize), ParseFault>
     ensures reads { Reads result (parsed 64 (map placed (map standing tokens.now))) }
-    ensures deep { IfOk result (λ r.
-        DeepAt (map standing tokens.now) r.1 ⊎ EndsAt (map standing tokens.now) r.1) }
+    ensures deep { IfOk result (λ r. TellsPlace (map standing tokens.now) (TooDeep r.1)) }
     ensures place { IfErr result (TellsPlace (map standing tokens.now)) }
 {
     let end = end_of(tokens);
@@ -77,9 +77,7 @@ fn read(alloc: Global, tokens: &[Token]) -> Result<(Kept<Vec<Statement>>, usize)
                 inside = next.inside;
             }
         }
-        if deep.is_none() && is_too_deep(&state, stack.as_slice()) {
-            deep = Some(token.at);
-        }
+        deep = noted(deep, &state, stack.as_slice(), token.at);
     }
     match finish(alloc, state, &mut stack) {
         Err(stop) => Err(told(stop, end)),

@@ -26,13 +26,15 @@ pub enum Strict {
     Parameters,
     /// `variables(name)`
     Variables,
-    /// `reference(resource)`, `reference(resource, version)` and `reference(resource, version, 'Full')`
+    /// `reference(resource)`, `reference(resource, version)` and
+    /// `reference(resource, version, 'Full')`
     Reference,
     /// `copyIndex()`, `copyIndex(offset)`, `copyIndex(loop)` and `copyIndex(loop, offset)`
     CopyIndex,
-    /// `resourceId(type, name, ..)`, with a group or a subscription and a group before the type
+    /// `resourceId(type, name, ..)`; a group, or a subscription and a group, may stand before the
+    /// type
     ResourceId,
-    /// `subscriptionResourceId(type, name, ..)`, with a subscription before the type
+    /// `subscriptionResourceId(type, name, ..)`; a subscription may stand before the type
     SubscriptionResourceId,
     /// `resourceGroup()`
     ResourceGroup,

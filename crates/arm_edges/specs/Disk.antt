@@ -33,18 +33,16 @@ abbrev pub overwritten : ℕ → List ℕ → List ℕ → List ℕ
 overwritten at [] old = old
 overwritten at (byte ∷ bytes) old = resized at old ++ (byte ∷ bytes ++ drop (at + length (byte ∷ bytes)) old)
 
--- a write of n bytes at a place that may be on the disk in part: any bytes in its range and past the old end, the same elsewhere
+-- a write of n bytes at a place that may be on the disk in part: any bytes in its range and past the old end, up to any place, and the same elsewhere
 pub record Torn (at n : ℕ) (old new : List ℕ) : Type 0 where
   pub before : take (min at (length old)) new ≡ take at old
-  pub after : drop (at + n) new ≡ drop (at + n) old
+  pub after : take (length old - (at + n)) (drop (at + n) new) ≡ drop (at + n) old
   pub no_shorter : length old ≤ length new
-  pub no_longer : length new ≤ max (length old) (at + n)
 
--- a cut that may be on the disk in part: any length between the two, and any bytes past the cut
+-- a cut that may be on the disk in part: the same before the cut, and any bytes past it, up to any place
 pub record Cut (n : ℕ) (old new : List ℕ) : Type 0 where
   pub before : take (min n (length old)) new ≡ take n old
   pub no_shorter : min n (length old) ≤ length new
-  pub no_longer : length new ≤ max (length old) n
 
 -- one part changes so, and the other does not
 pub record At (part : Part) (step : List ℕ → List ℕ → Type 0) (old new : Parts) : Type 0 where
@@ -71,6 +69,10 @@ pub record ReadsAt (at n : ℕ) (file buf : List ℕ) : Type 0 where
 -- a crash leaves this part as it reads
 abbrev pub IsKept : Part → Parts → (Parts → Type 0) → Type 0
 IsKept part parts images = (image : Parts) → images image → on part image ≡ on part parts
+
+-- no part is longer than this
+abbrev pub AreWithin : ℕ → Parts → Type 0
+AreWithin reach parts = (length parts.a ≤ reach) × (length parts.b ≤ reach)
 
 -- the parts of a disk that tells nothing
 abbrev pub no_parts : Parts

@@ -1,6 +1,6 @@
 ghost use Rattle.std.specs.Prelude.{◌≡◌, ◌<◌, ◌^◌, ◌≤◌, ◌+◌, ℕ, Bool, true, length, IfOk, OnOk};
 ghost use Rattle.arm_edges.specs.Faults.{HasCause};
-ghost use Rattle.arm_edges.specs.Disk.{Parts, on, overwritten, resized, At, Torn, Cut, Unchanged, GoesOn, ReadsAt, IsKept};
+ghost use Rattle.arm_edges.specs.Disk.{Parts, on, other, overwritten, resized, At, Torn, Cut, Unchanged, GoesOn, ReadsAt, IsKept, AreWithin};
 
 use crate::Failed;
 
@@ -53,22 +53,26 @@ pub trait Disk: Send {
         ensures cause { HasCause (faults self.old) (faults self.new) result }
         ensures reach { reach self.new ≡ reach self.old };
 
-    /// Writes all the bytes at that place. A crash before the next sync may leave any bytes in their range.
+    /// Writes all the bytes at that place. A crash before the next sync may leave any bytes in their range and past the old end.
     fn write_at(&mut self, part: Part, at: u64, bytes: &[u8]) -> Result<(), Failed>
         requires { at + length bytes.now ≤ reach self.old }
         ensures told { OnOk result (tells_reads ≡ true
             → At part (λ old new. new ≡ overwritten at bytes.now old)
             (reads self.old) (reads self.new)) }
+        ensures other_part { tells_reads ≡ true
+            → on (other part) (reads self.new) ≡ on (other part) (reads self.old) }
         ensures images { tells_images ≡ true
             → GoesOn moment left (At part (Torn at (length bytes.now))) self.old self.new }
         ensures cause { HasCause (faults self.old) (faults self.new) result }
         ensures reach { reach self.new ≡ reach self.old };
 
-    /// Cuts the part to that length, or fills it up to it with zeros.
+    /// Cuts the part to that length, or fills it up to it with zeros. A crash before the next sync may leave any bytes past that length.
     fn cut(&mut self, part: Part, length: u64) -> Result<(), Failed>
         requires { length ≤ reach self.old }
         ensures told { OnOk result (tells_reads ≡ true
             → At part (λ old new. new ≡ resized length old) (reads self.old) (reads self.new)) }
+        ensures other_part { tells_reads ≡ true
+            → on (other part) (reads self.new) ≡ on (other part) (reads self.old) }
         ensures images { tells_images ≡ true
             → GoesOn moment left (At part (Cut length)) self.old self.new }
         ensures cause { HasCause (faults self.old) (faults self.new) result }
@@ -84,6 +88,9 @@ pub trait Disk: Send {
         ensures reach { reach self.new ≡ reach self.old };
 
     ghost reach_fits: { (disk : Self) → reach disk < 2 ^ 64 };
+
+    /// No part is longer than the reach.
+    ghost reads_fit: { (disk : Self) → tells_reads ≡ true → AreWithin (reach disk) (reads disk) };
 
     /// A disk as it reads is one of its images.
     ghost reads_an_image: { (disk : Self) → tells_images ≡ true

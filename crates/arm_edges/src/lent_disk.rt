@@ -18,6 +18,8 @@ impl<D: Disk> Disk for &mut D {
 
     ghost reach_fits = { λ d. D.reach_fits d.now };
 
+    ghost reads_fit = { λ d told. D.reads_fit d.now told };
+
     ghost reads_an_image = { λ d told. D.reads_an_image d.now told };
 
     fn length(&mut self, part: Part) -> Result<u64, Failed> {

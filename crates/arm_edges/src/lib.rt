@@ -37,6 +37,3 @@ pub use real_tree::RealTree;
 pub use sink::Sink;
 pub use source::Source;
 pub use tree::Tree;
-
-#[cfg(test)]
-mod tests;

@@ -1,7 +1,7 @@
 ghost use Rattle.std.specs.Prelude.{◌≡◌, ◌⊎◌, ◌+◌, ◌≤◌, ◌<◌, ◌↔◌, true, [], ◌++◌, length, take, min, IsErr, IsTrue, IfOk, OnErr, if◌then◌else◌};
 ghost use Rattle.std.specs.Vec.{vec_capacity};
 ghost use Rattle.arm_edges.specs.Faults.{HasCause};
-ghost use Rattle.arm_edges.specs.Calls.{is_listed, limit_at, one_more};
+ghost use Rattle.arm_edges.specs.Calls.{answered, is_listed, limit_at, one_more};
 
 use crate::{Calls, Failed, Sink};
 use arm_value::OutOfMemory;
@@ -71,6 +71,8 @@ impl Sink for MemSink {
             ↔ (IsTrue (is_listed self.old.calls.fails.items self.old.calls.made)
             ⊎ (self.old.room < length self.old.bytes.items
             + min (limit_at self.old.calls.cuts.items self.old.calls.made) (length bytes.now))) }
+        ensures room { self.new.room ≡ self.old.room }
+        ensures counted { self.new.calls ≡ answered result self.old.calls }
     {
         let limit = self.calls.begin()?;
         let count = limit.min(bytes.len());

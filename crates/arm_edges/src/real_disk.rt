@@ -6,9 +6,11 @@ use crate::{Disk, Failed, Part};
 use std::fs::{File, OpenOptions};
 use std::io;
 use std::os::unix::fs::FileExt;
+use std::path::Path;
 use std::rt::Files;
 
-// A file that is opened when it is first needed, and made empty where it is missing.
+// A file that is opened when it is first needed, and made empty where it is missing. Its folder is synced then, so that
+// a crash leaves the name of a file that was made.
 #[derive(Drop)]
 struct LazyFile {
     path: String,
@@ -18,18 +20,27 @@ struct LazyFile {
 impl LazyFile {
     fn opened<R: Files<File = File>>(&mut self, rt: &R) -> io::Result<&File> {
         if self.file.is_none() {
-            self.file = Some(
-                OpenOptions::new()
-                    .read(true)
-                    .write(true)
-                    .create(true)
-                    .open(rt, self.path.as_str())?,
-            );
+            let path = self.path.as_str();
+            let file = OpenOptions::new()
+                .read(true)
+                .write(true)
+                .create(true)
+                .open(rt, path)?;
+            File::open(rt, folder_of(path))?.sync_all()?;
+            self.file = Some(file);
         }
         match &self.file {
             Some(file) => Ok(file),
             None => unreachable!(),
         }
+    }
+}
+
+// The folder that holds the file at that path.
+fn folder_of(path: &str) -> &str {
+    match Path::new(path).parent() {
+        Some(folder) if !folder.as_str().is_empty() => folder.as_str(),
+        _ => ".",
     }
 }
 
@@ -72,7 +83,7 @@ impl<R: Files<File = File> + Drop> PartFiles<R> {
     }
 }
 
-/// Two files. Each is opened at its first call, and made empty where it is missing. What they hold is not told.
+/// Two files. Each is opened at its first call, and made empty where it is missing; its folder is synced then. What they hold is not told.
 #[derive(Drop)]
 pub struct RealDisk<R: Files<File = File> + Send + Drop> {
     files: PartFiles<R>,
@@ -149,6 +160,8 @@ impl<R: Files<File = File> + Send + Drop> Disk for RealDisk<R> {
     ghost reach = { λ _. 18446744073709551615 };
 
     ghost reach_fits = { λ _. largest_fits };
+
+    ghost reads_fit = { λ _ told. Prim.cc };
 
     ghost reads_an_image = { λ _ told. Prim.cc };
 

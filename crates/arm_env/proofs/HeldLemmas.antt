@@ -25,6 +25,7 @@ use Rattle.arm_env.specs.declared.env.OutputAt.{OutputAt}
 use Rattle.arm_env.specs.declared.env.ModuleAt.{ModuleAt}
 use Rattle.arm_env.proofs.Words.{word_type, word_value, word_id, word_subscriptionId}
 use Rattle.arm_env.proofs.Words.{word_location, word_name, word_properties, word_tags}
+use Rattle.foundation.proofs.Choices.{chosen}
 
 pub typed_put : (k v : Json) (ms ns : List Member) → ms ≡ put (chars (codes "type")) k []
     → ns ≡ put (chars (codes "value")) v ms
@@ -41,11 +42,6 @@ put_each-more ns [] m = refl
 put_each-more ns (x ∷ ms) m = put_each-more (put x.0 x.1 ns) ms m
 
 -- the outputs that the surroundings have, and those that the environment lists
-choose : {A B : Type 0} (f : A → B) (b : Bool) (x y : A)
-    → f (if b then x else y) ≡ (if b then f x else f y)
-choose f true x y = refl
-choose f false x y = refl
-
 pub module_outputs : (k : ResourceId) (ms : List ModuleAt)
     → outputs_of k (map deployment_of ms) ≡ option_map (λ m. map declared m.outputs.items)
     (module_with k ms)
@@ -53,7 +49,7 @@ module_outputs k [] = refl
 module_outputs k (m ∷ ms) =
     ap (λ o. if is_same_key k m.key then Some (map declared m.outputs.items) else o)
     (module_outputs k ms)
-    ∙ sym (choose (option_map (λ (m : ModuleAt). map declared m.outputs.items))
+    ∙ sym (chosen (option_map (λ (m : ModuleAt). map declared m.outputs.items))
     (is_same_key k m.key) (Some m) (module_with k ms))
 
 pub named_output : (name : List ℕ) (xs : List OutputAt)
@@ -61,7 +57,7 @@ pub named_output : (name : List ℕ) (xs : List OutputAt)
 named_output name [] = refl
 named_output name (x ∷ xs) =
     ap (λ o. if is_same_folded name x.name then Some (declared x) else o) (named_output name xs)
-    ∙ sym (choose (option_map declared) (is_same_folded name x.name) (Some x)
+    ∙ sym (chosen (option_map declared) (is_same_folded name x.name) (Some x)
     (output_with (fold name) xs))
 
 -- a member is there where its value is

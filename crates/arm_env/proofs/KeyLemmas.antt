@@ -4,36 +4,21 @@ use Rattle.std.proofs.Common.{refl, sym, ap, ◌∙◌}
 use Rattle.std.proofs.lemmas.Slice.Eq.{bytes_eq-Decides}
 use Rattle.arm_ids.specs.declared.id.ResourceId.{ResourceId}
 use Rattle.arm_env.specs.Find.{are_same, is_same_key}
-
-both_ways : (a b : Bool) → (a ≡ true → b ≡ true) → (b ≡ true → a ≡ true) → a ≡ b
-both_ways true true f g = refl
-both_ways true false f g = sym (f refl)
-both_ways false true f g = g refl
-both_ways false false f g = refl
-
-parts : (a b : Bool) → (a && b) ≡ true → (a ≡ true) × (b ≡ true)
-parts true true e = (refl, refl)
-parts true false e = cc
-parts false b e = cc
-
-whole : (a b : Bool) → a ≡ true → b ≡ true → (a && b) ≡ true
-whole true true e f = refl
-whole true false e f = cc
-whole false b e f = cc
+use Rattle.foundation.proofs.TruthValues.{both, and_true, both_ways}
 
 same_texts : (xs ys : List (List ℕ)) → are_same xs ys ≡ true → xs ≡ ys
 same_texts [] [] e = refl
 same_texts [] (y ∷ ys) e = cc
 same_texts (x ∷ xs) [] e = cc
 same_texts (x ∷ xs) (y ∷ ys) e =
-    let both = parts (bytes_eq x y) (are_same xs ys) e in
-    let first : x ≡ y = (bytes_eq-Decides x y).0 both.0 in
-    let rest : xs ≡ ys = same_texts xs ys both.1 in
+    let each = both (bytes_eq x y) (are_same xs ys) e in
+    let first : x ≡ y = (bytes_eq-Decides x y).0 each.0 in
+    let rest : xs ≡ ys = same_texts xs ys each.1 in
     cc
 
 texts_same : (xs : List (List ℕ)) → are_same xs xs ≡ true
 texts_same [] = refl
-texts_same (x ∷ xs) = whole (bytes_eq x x) (are_same xs xs) ((bytes_eq-Decides x x).1 refl)
+texts_same (x ∷ xs) = and_true (bytes_eq x x) (are_same xs xs) ((bytes_eq-Decides x x).1 refl)
     (texts_same xs)
 
 text_same : (x : List ℕ) → bytes_eq x x ≡ true
@@ -45,14 +30,14 @@ record_same i j s g t n = λ k. record { subscription = s k; group = g k; types 
 
 pub key_same : (i : ResourceId) → is_same_key i i ≡ true
 key_same i =
-    whole _ _ (text_same i.subscription)
-    (whole _ _ (text_same i.group) (whole _ _ (texts_same i.types) (texts_same i.names)))
+    and_true _ _ (text_same i.subscription)
+    (and_true _ _ (text_same i.group) (and_true _ _ (texts_same i.types) (texts_same i.names)))
 
 pub one_key : (i j : ResourceId) → is_same_key i j ≡ true → i ≡ j
 one_key i j e =
-    let a = parts (bytes_eq i.subscription j.subscription) _ e in
-    let b = parts (bytes_eq i.group j.group) _ a.1 in
-    let c = parts (are_same i.types j.types) (are_same i.names j.names) b.1 in
+    let a = both (bytes_eq i.subscription j.subscription) _ e in
+    let b = both (bytes_eq i.group j.group) _ a.1 in
+    let c = both (are_same i.types j.types) (are_same i.names j.names) b.1 in
     record_same i j ((bytes_eq-Decides _ _).0 a.0) ((bytes_eq-Decides _ _).0 b.0)
     (same_texts _ _ c.0) (same_texts _ _ c.1)
 

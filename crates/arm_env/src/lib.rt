@@ -20,5 +20,3 @@ pub mod objects;
 pub mod outputs;
 pub mod sight;
 pub mod stop;
-#[cfg(test)]
-mod tests;

@@ -5,10 +5,8 @@ use Rattle.std.proofs.lemmas.Str.{chars-append, chars-IsAscii, encodes-chars, en
 use Rattle.std.proofs.lemmas.Bool.Decides.{nat_tests}
 use lib.Utf8.{encodes}
 use Rattle.arm_eval.specs.Text.{opens, closes, is_bracketed}
-
-one_ascii : (c : ℕ) → c < 128 → IsAscii (c ∷ [])
-one_ascii c h zero = h
-one_ascii c h (suc i) = lit< tt
+use Rattle.foundation.proofs.TruthValues.{unless}
+use Rattle.foundation.proofs.AsciiWords.{one_ascii}
 
 -- ---- in characters
 
@@ -31,14 +29,6 @@ end_of (c ∷ d ∷ cs) e = let p = end_of (d ∷ cs) e in (c ∷ p.0, ap (λ r.
 pub first_of : (xs : List ℕ) → opens xs ≡ true → (rest : List ℕ) × (xs ≡ 91 ∷ rest)
 first_of [] e = absurd (true≢false (sym e))
 first_of (c ∷ cs) e = (cs, ap (λ d. d ∷ cs) (is_91 c e))
-
-unless : (b : Bool) → (b ≡ true → ⊥) → b ≡ false
-unless true h = absurd (h refl)
-unless false h = refl
-
-both : (a b : Bool) → (a && b) ≡ true → (a ≡ true) × (b ≡ true)
-both true b e = (refl, e)
-both false b e = absurd (true≢false (sym e))
 
 -- ---- in bytes
 

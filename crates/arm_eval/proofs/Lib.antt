@@ -6,3 +6,5 @@ pub mod TurnLemmas
 pub mod ObjectLemmas
 pub mod NestLemmas
 pub mod RoundLemmas
+pub mod NameLemmas
+pub mod PutLemmas

@@ -13,6 +13,7 @@ use Rattle.arm_expr.specs.declared.fault.ExprFault.{ExprFault}
 use Rattle.arm_expr.specs.declared.fault.ExprFault.TheVariants.{TooLong, NotAnExpression, TooDeep, OutOfMemory}
 use Rattle.arm_expr.proofs.Reading.{in_brackets, Found, answered, unbracketed, spelled_once}
 use Rattle.arm_eval.specs.Text.{opens, closes, is_bracketed, without_last, inside, flattened, expression_of}
+use Rattle.foundation.proofs.TruthValues.{both}
 
 closes_last : (cs : List ℕ) → closes cs ≡ true → cs ≡ without_last cs ++ 93 ∷ []
 closes_last [] h = cc
@@ -28,17 +29,12 @@ behind : (c : ℕ) (cs : List ℕ) → c ≡ 91 → closes (c ∷ cs) ≡ true �
 behind c [] e h = let wrong : closes (c ∷ []) ≡ false = grind (arith, nat_tests) in cc
 behind c (d ∷ cs) e h = h
 
-parts : (a b : Bool) → (a && b) ≡ true → (a ≡ true) × (b ≡ true)
-parts true true e = (refl, refl)
-parts true false e = cc
-parts false b e = cc
-
 brackets : (t : List ℕ) → is_bracketed t ≡ true → t ≡ in_brackets (inside t)
 brackets [] h = cc
 brackets (c ∷ cs) h =
-    let both = parts (opens (c ∷ cs)) (closes (c ∷ cs)) h in
-    let first : c ≡ 91 = eqb-true c 91 both.0 in
-    ap (λ r. c ∷ r) (closes_last cs (behind c cs first both.1)) ∙ ap (λ c. c ∷ (without_last cs ++ 93 ∷ [])) first
+    let each = both (opens (c ∷ cs)) (closes (c ∷ cs)) h in
+    let first : c ≡ 91 = eqb-true c 91 each.0 in
+    ap (λ r. c ∷ r) (closes_last cs (behind c cs first each.1)) ∙ ap (λ c. c ∷ (without_last cs ++ 93 ∷ [])) first
 
 closes_behind : (cs : List ℕ) → closes cs ≡ true → closes (91 ∷ cs) ≡ true
 closes_behind [] h = cc

@@ -11,3 +11,4 @@ pub mod Got
 pub mod Text
 pub mod Trees
 pub mod Words
+pub mod Free

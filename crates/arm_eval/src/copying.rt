@@ -1,10 +1,9 @@
-// The loops that the member `copy` of an object holds, and the names that they give.
-ghost use Rattle.std.specs.Prelude.{◌≡◌, ◌≤◌, ◌<◌, ◌∷◌, ℕ, suc, List, length, chars, bytes_eq, map, option_map, IfOk, MatchOption, codes};
-ghost use Rattle.std.specs.List.{list_any};
+// The loops that the member `copy` of an object holds.
+ghost use Rattle.std.specs.Prelude.{◌≡◌, ◌≤◌, ◌<◌, ◌∷◌, ℕ, suc, List, length, chars, map, option_map, IfOk, MatchOption, codes};
 ghost use Rattle.arm_value.specs.Json.{nesting, items_nesting, members_nesting, pairs};
 ghost use Rattle.arm_value.specs.View.{json, member};
 ghost use Rattle.arm_eval.specs.Trees as trees;
-ghost use Rattle.arm_eval.specs.Trees.{names_of, parts, looping_of};
+ghost use Rattle.arm_eval.specs.Trees.{parts, looping_of};
 ghost use Rattle.arm_eval.specs.Words.{copying_of, NestsBelow, tree_in, trees_in, copy_tree};
 
 use arm_env::env::Looping;
@@ -168,42 +167,4 @@ pub(crate) fn turn_to(loops: &mut Vec<Looping>, index: u32)
         → loops.new.items ≡ looping_of name index ∷ around }
 {
     loops[0].index = index;
-}
-
-fn is_listed(fields: &[Field], name: &Text) -> bool
-    ensures { result ≡ list_any (bytes_eq name.now) (names_of (map member fields.now)) }
-{
-    for field in fields {
-        if name.same(&field.name) {
-            return true;
-        }
-    }
-    false
-}
-
-/// Whether none of the names is one of the object's.
-pub(crate) fn are_new(fields: &[Field], given: &[Field]) -> bool
-    ensures { result
-        ≡ trees.are_new (names_of (map member fields.now)) (names_of (map member given.now)) }
-{
-    for field in given {
-        if is_listed(fields, &field.name) {
-            return false;
-        }
-    }
-    true
-}
-
-/// Whether the names differ.
-pub(crate) fn differ(given: &[Field]) -> bool
-    ensures { result ≡ trees.differ (names_of (map member given.now)) }
-{
-    let mut rest = given;
-    while let [first, others @ ..] = rest {
-        if is_listed(others, &first.name) {
-            return false;
-        }
-        rest = others;
-    }
-    true
 }

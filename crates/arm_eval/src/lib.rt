@@ -5,6 +5,7 @@
 mod copying;
 pub mod got;
 pub mod laws;
+mod names;
 mod texts;
 mod tree;
 mod whole;
@@ -13,6 +14,3 @@ pub use arm_env::env::{
     Env, Looping, ModuleAt, Named, OutputAt, Seen, Slot, Spelled, StateAt, Unlisted,
 };
 pub use got::{Got, eval, eval_tree, eval_tree_with, eval_with};
-
-#[cfg(test)]
-mod tests;

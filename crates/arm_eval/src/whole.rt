@@ -1,12 +1,13 @@
 // Arrays and objects of what their parts give.
-ghost use Rattle.std.specs.Prelude.{◌≡◌, ◌≤◌, ◌∷◌, ◌++◌, [], Some, map, option_map, IfOk, MatchOption};
+ghost use Rattle.std.specs.Prelude.{◌≡◌, ◌≤◌, ◌∷◌, ◌++◌, [], Some, Err, map, option_map, IfOk, OnOk, MatchOption};
 ghost use Rattle.arm_value.specs.Json.{nesting, members_nesting, put_each};
 ghost use Rattle.arm_value.specs.View.{json, member};
 ghost use Rattle.arm_eval.specs.Trees.{names_of};
 ghost use Rattle.arm_eval.specs.Words.{own_of, with_last, with_each, kept_array, kept_object, whole_object};
 ghost use Rattle.arm_env.specs.Answer.{given, Gives};
+ghost use Rattle.arm_env.specs.declared.stop.Stop.TheVariants.{NoValue, OutOfMemory};
 
-use crate::copying::{are_new, differ};
+use crate::names::are_free;
 use arm_env::held::keep;
 use arm_env::stop::Stop;
 use arm_value::{Field, Fields, Items, OutOfMemory, Text, Value};
@@ -143,8 +144,26 @@ pub(crate) fn field_of(alloc: Global, name: &Text, values: Option<Items>) -> Res
     })
 }
 
+// No value, after the drop of what is not needed.
+fn refuse<T: Drop>(dropped: T) -> Result<Value, Stop>
+    ensures { result ≡ Err NoValue }
+{
+    drop(dropped);
+    Err(Stop::NoValue)
+}
+
+// Out of memory, after the drop of what is not needed.
+fn lacks_memory<T: Drop>(dropped: T) -> Result<Value, Stop>
+    ensures { result ≡ Err OutOfMemory }
+{
+    drop(dropped);
+    Err(Stop::OutOfMemory)
+}
+
 /// The object of own members and of those that loops give, whose names it does not have and which
 /// differ, where it nests at most 100 deep.
+///
+/// It takes time in the order of n log n for n members.
 pub(crate) fn whole_object(
     alloc: Global,
     fields: &[Field],
@@ -156,23 +175,60 @@ pub(crate) fn whole_object(
         (given (whole_object (names_of (map member fields.now)) own (map member added.items))) }
 {
     match own {
-        Some(own) => if are_new(fields, added.as_slice()) && differ(added.as_slice()) {
+        Some(own) => object_with(alloc, fields, own, added),
+        None => refuse(added),
+    }
+}
+
+fn object_with(
+    alloc: Global,
+    fields: &[Field],
+    own: Fields,
+    added: Vec<Field>,
+) -> Result<Value, Stop>
+    requires { members_nesting (map member added.items) ≤ 119 }
+    ensures { Gives json result (given (whole_object (names_of (map member fields.now)) (Some own)
+        (map member added.items))) }
+{
+    if added.is_empty() {
+        return keep(Value::Object(own));
+    }
+    match are_free(alloc, fields, added.as_slice()) {
+        Ok(free) => if free {
             joined(alloc, own, added)
         } else {
-            Err(Stop::NoValue)
+            refuse((own, added))
         },
-        None => Err(Stop::NoValue),
+        Err(_) => lacks_memory((own, added)),
     }
+}
+
+// Moves the elements to the end of the list.
+fn push_all<T: Drop>(list: &mut Vec<T>, more: Vec<T>) -> Result<(), OutOfMemory>
+    ensures { OnOk result (list.new.items ≡ list.old.items ++ more.items) }
+{
+    for element in more {
+        list.push(element)?;
+    }
+    Ok(())
+}
+
+// The own members, among which the others are put.
+fn put_together(alloc: Global, own: Fields, added: Vec<Field>) -> Result<Fields, OutOfMemory>
+    requires { members_nesting (map member added.items) ≤ 119 }
+    ensures { IfOk result (λ whole. whole ≡ put_each own (map member added.items)) }
+{
+    let depth = own.depth();
+    prove!(depth <= 119);
+    let mut members = own.into_vec(alloc);
+    push_all(&mut members, added)?;
+    Fields::from_members(alloc, members)
 }
 
 fn joined(alloc: Global, own: Fields, added: Vec<Field>) -> Result<Value, Stop>
     requires { members_nesting (map member added.items) ≤ 119 }
     ensures { Gives json result (given (kept_object own (map member added.items))) }
 {
-    let mut whole = own;
-    for field in added {
-        let Field { name, value } = field;
-        whole.set(alloc, name.as_str(), value)?;
-    }
+    let whole = put_together(alloc, own, added)?;
     keep(Value::Object(whole))
 }

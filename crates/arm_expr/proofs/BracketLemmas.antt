@@ -3,10 +3,7 @@ use Rattle.std.proofs.Common.{◌≡◌, ◌≢◌, ◌<◌, ℕ, zero, suc, Lis
 use Rattle.std.specs.Str.{chars, IsUtf8, IsAscii}
 use Rattle.std.proofs.lemmas.Str.{chars-append, chars-IsAscii, encodes-chars, encodes-append, IsUtf8-from_ascii}
 use lib.Utf8.{encodes}
-
-one_ascii : (c : ℕ) → c < 128 → IsAscii (c ∷ [])
-one_ascii c h zero = h
-one_ascii c h (suc i) = lit< tt
+use Rattle.foundation.proofs.AsciiWords.{one_ascii}
 
 -- in characters
 pub in_characters : (bytes inner : List ℕ) → IsUtf8 inner → bytes ≡ 91 ∷ (inner ++ 93 ∷ []) → chars bytes ≡ 91 ∷ (chars inner ++ 93 ∷ [])

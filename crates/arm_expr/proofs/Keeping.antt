@@ -4,6 +4,7 @@ use Rattle.std.proofs.lemmas.Bool.Decides.{nat_tests}
 use Rattle.arm_expr.specs.Tree.{Tree, text, int, call, member, index, trees, nesting, deepest}
 use Rattle.arm_expr.specs.Tokens.{Token, a_text, an_int, a_name, open_paren, close_paren, open_bracket, close_bracket, comma, dot}
 use Rattle.arm_expr.specs.Machine.{Makes, Frame, calling, indexing, State, wanted, named, opened, done, dotted, closed, separated, indexed, begun, first_begun, gone_on, step, finished, run, parsed, as_tree, kept, all_kept, as_kept}
+use Rattle.foundation.proofs.Comparisons.{le_true, le_false, by_le}
 
 -- f and g take what the one makes to what the other makes
 pub record Carries {A B C D : Type 0} (m : Makes A B) (n : Makes C D) (f : A → C) (g : B → D) : Type 0 where
@@ -96,12 +97,6 @@ module _ {A B C D : Type 0} (m : Makes A B) (n : Makes C D) (f : A → C) (g : B
   pub parsed_to : (ts : List Token) → parsed C D n ts ≡ option_map f (parsed A B m ts)
   parsed_to ts = run_to ts wanted []
 
-le_true : (m n : ℕ) → m ≤ n → nat_le m n ≡ true
-le_true m n h = search (arith)
-
-le_false : (m n : ℕ) → n < m → nat_le m n ≡ false
-le_false m n h = search (arith)
-
 pub too_deep : (limit : ℕ) (e : Tree) → limit < nesting e → kept limit e ≡ None
 too_deep limit e h = ap (λ b. cond b (Some e) None) (le_false (nesting e) limit h)
 
@@ -111,25 +106,15 @@ too_deep_some limit es h = ap (λ b. cond b (Some es) None) (le_false (deepest (
 all_shallow : (limit : ℕ) (es : List Tree) → deepest (trees es) ≤ limit → all_kept limit es ≡ Some es
 all_shallow limit es h = ap (λ b. cond b (Some es) None) (le_true (deepest (trees es)) limit h)
 
--- of two sides
-pub if_else : (m n : ℕ) (P : Bool → Type 0) → (m ≤ n → P true) → (n < m → P false) → P (nat_le m n)
-if_else m n P f g = elim (nat_le m n) as (λ b. nat_le m n ≡ b → P b) [ true ↦ λ y. f (le_of y) | false ↦ λ y. g (lt_of y) ] refl
-  where
-    le_of : nat_le m n ≡ true → m ≤ n
-    le_of y = grind (arith, nat_tests)
-
-    lt_of : nat_le m n ≡ false → n < m
-    lt_of y = grind (arith, nat_tests)
-
 member_kept : (limit : ℕ) (e : Tree) (name : List ℕ) → option_and_then (λ x. kept limit (member x name)) (kept limit e) ≡ kept limit (member e name)
 member_kept limit e name =
-    if_else (nesting e) limit (λ b. option_and_then (λ x. kept limit (member x name)) (cond b (Some e) None) ≡ kept limit (member e name))
+    by_le (nesting e) limit (λ b. option_and_then (λ x. kept limit (member x name)) (cond b (Some e) None) ≡ kept limit (member e name))
     (λ y. refl) (λ n. sym (too_deep limit (member e name) (omega arith)))
 
 index_kept : (limit : ℕ) (b e : Tree) → option_and_then (λ x. option_and_then (λ y. kept limit (index x y)) (kept limit e)) (kept limit b) ≡ kept limit (index b e)
 index_kept limit b e =
-    if_else (nesting b) limit (λ v. option_and_then (λ x. option_and_then (λ y. kept limit (index x y)) (kept limit e)) (cond v (Some b) None) ≡ kept limit (index b e))
-    (λ y. if_else (nesting e) limit (λ v. option_and_then (λ y. kept limit (index b y)) (cond v (Some e) None) ≡ kept limit (index b e))
+    by_le (nesting b) limit (λ v. option_and_then (λ x. option_and_then (λ y. kept limit (index x y)) (kept limit e)) (cond v (Some b) None) ≡ kept limit (index b e))
+    (λ y. by_le (nesting e) limit (λ v. option_and_then (λ y. kept limit (index b y)) (cond v (Some e) None) ≡ kept limit (index b e))
     (λ y. refl) (λ n. sym (too_deep limit (index b e) (omega arith))))
     (λ n. sym (too_deep limit (index b e) (omega arith)))
 
@@ -139,15 +124,15 @@ deepest-push (x ∷ es) e = omega (arith, deepest-push es e)
 
 with_kept : (limit : ℕ) (es : List Tree) (e : Tree) → option_and_then (λ xs. option_map (λ x. xs ++ x ∷ []) (kept limit e)) (all_kept limit es) ≡ all_kept limit (es ++ e ∷ [])
 with_kept limit es e =
-    if_else (deepest (trees es)) limit (λ v. option_and_then (λ xs. option_map (λ x. xs ++ x ∷ []) (kept limit e)) (cond v (Some es) None) ≡ all_kept limit (es ++ e ∷ []))
-    (λ y. if_else (nesting e) limit (λ v. option_map (λ x. es ++ x ∷ []) (cond v (Some e) None) ≡ all_kept limit (es ++ e ∷ []))
+    by_le (deepest (trees es)) limit (λ v. option_and_then (λ xs. option_map (λ x. xs ++ x ∷ []) (kept limit e)) (cond v (Some es) None) ≡ all_kept limit (es ++ e ∷ []))
+    (λ y. by_le (nesting e) limit (λ v. option_map (λ x. es ++ x ∷ []) (cond v (Some e) None) ≡ all_kept limit (es ++ e ∷ []))
     (λ z. sym (all_shallow limit (es ++ e ∷ []) (omega (arith, deepest-push es e))))
     (λ n. sym (too_deep_some limit (es ++ e ∷ []) (omega (arith, deepest-push es e)))))
     (λ n. sym (too_deep_some limit (es ++ e ∷ []) (omega (arith, deepest-push es e))))
 
 call_kept : (limit : ℕ) (name : List ℕ) (es : List Tree) → option_and_then (λ xs. kept limit (call name (trees xs))) (all_kept limit es) ≡ kept limit (call name (trees es))
 call_kept limit name es =
-    if_else (deepest (trees es)) limit (λ v. option_and_then (λ xs. kept limit (call name (trees xs))) (cond v (Some es) None) ≡ kept limit (call name (trees es)))
+    by_le (deepest (trees es)) limit (λ v. option_and_then (λ xs. kept limit (call name (trees xs))) (cond v (Some es) None) ≡ kept limit (call name (trees es)))
     (λ y. refl) (λ n. sym (too_deep limit (call name (trees es)) (omega arith)))
 
 carries : (limit : ℕ) → Carries as_tree (as_kept limit) (kept limit) (all_kept limit)

@@ -5,10 +5,7 @@ use Rattle.arm_expr.specs.Tokens.{Token, a_text, an_int, a_name, open_paren, clo
 use Rattle.arm_expr.specs.Grammar.{Kind, letter, digit, blank, sign, kind_of, goes_on_name, is_digit, GoOnName, IsName, AreDigits, value_from, fits, signed, with_sign, doubled, IsNumeral}
 use Rattle.arm_expr.specs.Lexer.{Pending, between, naming, signing, counting, quoting, quoted, Turn, marked, start_sign, start_by, start, after_token, turn, ended, lex}
 use Rattle.arm_expr.proofs.Words.{IsWord, Writes}
-
-if_else : {A : Type 0} (P : A → Type 0) (b : Bool) (x y : A) → (b ≡ true → P x) → (b ≡ false → P y) → P (cond b x y)
-if_else P true x y f g = f refl
-if_else P false x y f g = g refl
+use Rattle.foundation.proofs.Choices.{if_else}
 
 -- what is pending is the front of a word
 abbrev IsPending : Pending → Type 0

@@ -15,11 +15,12 @@ use Rattle.arm_expr.specs.Lexer.{lex, between}
 use Rattle.arm_expr.specs.Machine.{parsed, as_tree, kept}
 use Rattle.arm_expr.specs.Stack.{kept_parsed, kept_reading}
 use Rattle.arm_expr.proofs.Words.{spelled, Writes}
-use Rattle.arm_expr.proofs.Keeping.{parsed_kept, if_else}
+use Rattle.arm_expr.proofs.Keeping.{parsed_kept}
 use Rattle.arm_expr.proofs.Lexing.{Ended, lex-blank, blank_ends, cut_expression, cut_blanks}
 use Rattle.arm_expr.proofs.LexingSound.{lexed_is_written}
 use Rattle.arm_expr.proofs.Parsing.{spelled_is_parsed, parsed_is_spelled}
 use Rattle.arm_expr.proofs.Spelling.{spelt_whole}
+use Rattle.foundation.proofs.Comparisons.{by_le}
 
 -- a text in brackets
 abbrev pub in_brackets : List ℕ → List ℕ
@@ -93,7 +94,7 @@ found_parsed inner ts None h p = λ e s.
     cc
 found_parsed inner ts (Some e) h p =
     let s = read_spells e inner ts h p in
-    if_else (nesting e) 64 (λ b. Found (Some (cond b (Some e) None)) (in_brackets inner)) (λ y. (s, y)) (λ n. (e, s, n))
+    by_le (nesting e) 64 (λ b. Found (Some (cond b (Some e) None)) (in_brackets inner)) (λ y. (s, y)) (λ n. (e, s, n))
 
 found_lexed : (inner : List ℕ) (o : Option (List Token)) → lex between inner ≡ o → Found (option_and_then kept_parsed o) (in_brackets inner)
 found_lexed inner None h = λ e s. let some : None ≡ Some (spelled e []) = sym h ∙ lexed_inside e inner s in cc

@@ -23,6 +23,3 @@ pub use expr::{Expr, Exprs, MOST_CHARACTERS, MOST_NESTING};
 pub use fault::ExprFault;
 pub use printer::print;
 pub use reader::read;
-
-#[cfg(test)]
-mod tests;

@@ -16,6 +16,3 @@ pub use counts::Arity;
 pub use fault::FunctionFault;
 pub use names::arity;
 pub use values::call;
-
-#[cfg(test)]
-mod tests;

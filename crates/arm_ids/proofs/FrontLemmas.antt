@@ -6,14 +6,7 @@ use Rattle.arm_ids.specs.Segments.{is_front}
 use Rattle.arm_ids.specs.Parent.{begins, IsParent}
 use Rattle.arm_ids.specs.Id.{IsKey}
 use Rattle.arm_ids.specs.declared.id.ResourceId.{ResourceId}
-
-pub both : (a b : Bool) → (a && b) ≡ true → (a ≡ true) × (b ≡ true)
-both true b e = (refl, e)
-both false b e = absurd (true≢false (sym e))
-
-pub and : (a b : Bool) → a ≡ true → b ≡ true → (a && b) ≡ true
-and true b e f = f
-and false b e f = e
+use Rattle.foundation.proofs.TruthValues.{both, and_true}
 
 pub same_text : (x : List ℕ) → bytes_eq x x ≡ true
 same_text x = (bytes_eq-Decides x x).1 refl
@@ -41,7 +34,7 @@ front_rest (x ∷ xs) (y ∷ ys) e =
 
 pub front_of : (xs rest : List (List ℕ)) → is_front xs (xs ++ rest) ≡ true
 front_of [] rest = refl
-front_of (x ∷ xs) rest = and (bytes_eq x x) (is_front xs (xs ++ rest)) (same_text x) (front_of xs rest)
+front_of (x ∷ xs) rest = and_true (bytes_eq x x) (is_front xs (xs ++ rest)) (same_text x) (front_of xs rest)
 
 pub front_self : (xs ys : List (List ℕ)) → xs ≡ ys → is_front xs ys ≡ true
 front_self xs ys e = ap (is_front xs) (sym e ∙ sym (append-nil xs)) ∙ front_of xs []
@@ -52,7 +45,7 @@ equal_from_front xs ys l e =
     let none : h.0 ≡ [] = nil_from_length h.0 (omega (arith, ap length h.1, length-append xs h.0, l)) in
     sym (h.1 ∙ ap (λ r. xs ++ r) none ∙ append-nil xs)
 
--- a key's types and names begin with the other's
+-- a key's types and_true names begin with the other's
 pub record Begins (i j : ResourceId) : Type 0 where
   pub subscription : i.subscription ≡ j.subscription
   pub group : i.group ≡ j.group
@@ -68,7 +61,7 @@ begun i j e =
 
 pub begun_back : (i j : ResourceId) → Begins i j → begins i j ≡ true
 begun_back i j h =
-    and _ _ (ap (bytes_eq i.subscription) (sym h.subscription) ∙ same_text i.subscription) (and _ _ (ap (bytes_eq i.group) (sym h.group) ∙ same_text i.group) (and _ _ h.types h.names))
+    and_true _ _ (ap (bytes_eq i.subscription) (sym h.subscription) ∙ same_text i.subscription) (and_true _ _ (ap (bytes_eq i.group) (sym h.group) ∙ same_text i.group) (and_true _ _ h.types h.names))
 
 pub names_longer : (i j : ResourceId) → begins i j ≡ true → length i.names ≤ length j.names
 names_longer i j e = let h = front_rest i.names j.names (begun i j e).names in omega (arith, ap length h.1, length-append i.names h.0)

@@ -8,7 +8,8 @@ use Rattle.arm_ids.specs.Scope.{Covers}
 use Rattle.arm_ids.specs.declared.id.ResourceId.{ResourceId}
 use Rattle.arm_ids.specs.declared.scope.Scope.{Scope}
 use Rattle.arm_ids.specs.declared.scope.Scope.TheVariants.{Subscription, Group, Resource}
-use Rattle.arm_ids.proofs.FrontLemmas.{front_rest, same_text, and, begun, begun_back}
+use Rattle.arm_ids.proofs.FrontLemmas.{front_rest, same_text, begun, begun_back}
+use Rattle.foundation.proofs.TruthValues.{and_true}
 
 small_subscription : (k : ResourceId) → IsKey k → fold k.subscription ≡ k.subscription
 small_subscription k h = ap (λ (i : ResourceId). i.subscription) h.is_folded
@@ -63,7 +64,7 @@ turns_front (x ∷ xs) (y ∷ ys) (u ∷ us) (v ∷ vs) rest l m e =
     let second : v ≡ y = cc in
     let others : by_turns us vs ≡ by_turns xs ys ++ rest = cc in
     let h = turns_front xs ys us vs rest (omega (arith, l)) (omega (arith, m)) others in
-    (ap (λ z. is_front (x ∷ xs) (z ∷ us)) first ∙ and _ _ (same_text x) h.0, ap (λ z. is_front (y ∷ ys) (z ∷ vs)) second ∙ and _ _ (same_text y) h.1)
+    (ap (λ z. is_front (x ∷ xs) (z ∷ us)) first ∙ and_true _ _ (same_text x) h.0, ap (λ z. is_front (y ∷ ys) (z ∷ vs)) second ∙ and_true _ _ (same_text y) h.1)
 
 path_front : (xs ys us vs rest : List (List ℕ)) → length xs ≡ suc (length ys) → length us ≡ suc (length vs) → path us vs ≡ path xs ys ++ rest → (is_front xs us ≡ true) × (is_front ys vs ≡ true)
 path_front [] ys us vs rest l m e = absurd (omega (arith, l))
@@ -72,7 +73,7 @@ path_front (x ∷ xs) ys (u ∷ us) vs rest l m e =
     let first : u ≡ x = cc in
     let others : by_turns us vs ≡ by_turns xs ys ++ rest = cc in
     let h = turns_front xs ys us vs rest (omega (arith, l)) (omega (arith, m)) others in
-    (ap (λ z. is_front (x ∷ xs) (z ∷ us)) first ∙ and _ _ (same_text x) h.0, h.1)
+    (ap (λ z. is_front (x ∷ xs) (z ∷ us)) first ∙ and_true _ _ (same_text x) h.0, h.1)
 
 -- a key that covers another begins it
 pub key_covered : (k key : ResourceId) → IsKey k → IsKey key → Covers (Resource k) key → begins k key ≡ true

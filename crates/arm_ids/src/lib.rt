@@ -20,6 +20,3 @@ pub use held::Held;
 pub use id::{Place, ResourceId, id_text};
 pub use key::Key;
 pub use scope::Scope;
-
-#[cfg(test)]
-mod tests;

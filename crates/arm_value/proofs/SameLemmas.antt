@@ -8,16 +8,13 @@ use Rattle.arm_value.specs.View.{json, member}
 use Rattle.arm_value.specs.Same.{is_same, is_same_row, is_same_pairs}
 use Rattle.arm_value.specs.declared.value.Value.{Value}
 use Rattle.arm_value.specs.declared.value.Field.{Field}
-
-no_and : (a b : Bool) → b ≡ false → (a && b) ≡ false
-no_and true b e = e
-no_and false b e = refl
+use Rattle.foundation.proofs.TruthValues.{both, and_false}
 
 rows_differ : (js ks : List Json) → (length js ≡ length ks → ⊥) → is_same_row (row js) (row ks) ≡ false
 rows_differ [] [] h = absurd (h refl)
 rows_differ [] (k ∷ ks) h = refl
 rows_differ (j ∷ js) [] h = refl
-rows_differ (j ∷ js) (k ∷ ks) h = no_and _ _ (rows_differ js ks (λ e. h (ap suc e)))
+rows_differ (j ∷ js) (k ∷ ks) h = and_false _ _ (rows_differ js ks (λ e. h (ap suc e)))
 
 pub items_differ : (vs ws : List Value) (js ks : List Json) → map json vs ≡ js → map json ws ≡ ks → (length vs ≡ length ws → ⊥) → false ≡ is_same_row (row js) (row ks)
 items_differ vs ws js ks a b h = sym (rows_differ js ks (λ e. h (sym (length-map vs json) ∙ ap length a ∙ e ∙ sym (ap length b) ∙ length-map ws json)))
@@ -26,14 +23,10 @@ pairs_differ : (ms ns : List Member) → (length ms ≡ length ns → ⊥) → i
 pairs_differ [] [] h = absurd (h refl)
 pairs_differ [] (k ∷ ks) h = refl
 pairs_differ (j ∷ js) [] h = refl
-pairs_differ (j ∷ js) (k ∷ ks) h = no_and _ _ (no_and _ _ (pairs_differ js ks (λ e. h (ap suc e))))
+pairs_differ (j ∷ js) (k ∷ ks) h = and_false _ _ (and_false _ _ (pairs_differ js ks (λ e. h (ap suc e))))
 
 pub fields_differ : (vs ws : List Field) (js ks : List Member) → map member vs ≡ js → map member ws ≡ ks → (length vs ≡ length ws → ⊥) → false ≡ is_same_pairs (pairs js) (pairs ks)
 fields_differ vs ws js ks a b h = sym (pairs_differ js ks (λ e. h (sym (length-map vs member) ∙ ap length a ∙ e ∙ sym (ap length b) ∙ length-map ws member)))
-
-both : (a b : Bool) → (a && b) ≡ true → (a ≡ true) × (b ≡ true)
-both true b e = (refl, e)
-both false b e = absurd (true≢false (sym e))
 
 bools : (a b : Bool) → is_same (bool a) (bool b) ≡ true → a ≡ b
 bools true true e = refl

@@ -32,6 +32,3 @@ pub use set::deepest_member;
 pub use text::Text;
 pub use texts::{Texts, copy_texts};
 pub use value::{Field, Fields, Items, Value, deepest_item};
-
-#[cfg(test)]
-mod tests;

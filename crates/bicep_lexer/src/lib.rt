@@ -13,11 +13,7 @@ mod front;
 mod kind;
 mod lexer;
 mod marks;
-#[cfg(test)]
-mod samples;
 mod skipped;
-#[cfg(test)]
-mod tests;
 mod texts;
 mod token;
 mod value;

@@ -61,6 +61,10 @@ resource_of kind api name others =
 abbrev pub with_parts : Option (List ℕ × List ℕ) → Option (List ℕ × List Member) → Option Resource
 with_parts path ms = option_and_then (λ p. option_and_then (λ q. resource_of p.0 p.1 q.0 q.1) ms) path
 
+-- the entry of this symbol, type, version and these members
+abbrev pub entry_with : List ℕ → List ℕ → List ℕ → List Member → Option Entry
+entry_with symbol kind api ms = option_map (λ r. record { symbol = symbol; resource = r }) (option_and_then (λ q. resource_of kind api q.0 q.1) (parted ms))
+
 -- the resource that a statement with this type text and these members declares
 abbrev pub entry_of : List ℕ → List ℕ → List Member → Option Entry
 entry_of symbol path ms = option_map (λ r. record { symbol = symbol; resource = r }) (with_parts (divided path) (parted ms))

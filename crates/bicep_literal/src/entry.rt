@@ -2,7 +2,7 @@
 
 ghost use Rattle.std.specs.Prelude.{◌≡◌, map, chars};
 ghost use Rattle.arm_value.specs.View.{member, json};
-ghost use Rattle.bicep_literal.specs.Entries.{divided, is_name, name_text, part, parted, body_of, resource_of, entry_of};
+ghost use Rattle.bicep_literal.specs.Entries.{divided, is_name, name_text, part, parted, body_of, resource_of, entry_with, entry_of};
 ghost use Rattle.bicep_literal.specs.Source.{is_reserved};
 ghost use Rattle.std.specs.List.{list_any};
 ghost use Rattle.arm_value.specs.Json.{keys};
@@ -10,7 +10,7 @@ ghost use Rattle.bicep_literal.specs.Values.{Gives};
 
 use crate::object::{MOST_NESTING, distinct};
 use crate::proper::{is_proper, is_reserved};
-use crate::stop::Stop;
+use crate::stop::{Stop, refuse, stopped};
 use arm_value::{Field, Fields, Text, Value, deepest_member};
 use bicep_tree::is_word;
 use literal_template::Resource;
@@ -46,10 +46,10 @@ fn name_text(name: Option<Text>, value: Value) -> Result<Text, Stop>
     ensures { Gives (λ t. t) result (name_text name (json value)) }
 {
     match name {
-        Some(_) => Err(Stop::NotLiteral),
+        Some(name) => refuse((name, value)),
         None => match value {
             Value::Text(text) => Ok(text),
-            _ => Err(Stop::NotLiteral),
+            other => refuse(other),
         },
     }
 }
@@ -63,8 +63,10 @@ fn part(name: Option<Text>, others: &mut Vec<Field>, field: Field) -> Result<Opt
     if is_name(&field.name) {
         Ok(Some(name_text(name, field.value)?))
     } else {
-        others.push(field)?;
-        Ok(name)
+        match others.push(field) {
+            Ok(()) => Ok(name),
+            Err(refused) => stopped(Stop::OutOfMemory, (name, refused)),
+        }
     }
 }
 
@@ -75,10 +77,13 @@ fn parted(alloc: Global, members: Vec<Field>) -> Result<(Text, Vec<Field>), Stop
     let mut name = None;
     let mut others = Vec::new(alloc);
     for field in members {
-        name = part(name, &mut others, field)?;
+        match part(name, &mut others, field) {
+            Ok(more) => name = more,
+            Err(stop) => return stopped(stop, others),
+        }
     }
     match name {
-        None => Err(Stop::NotLiteral),
+        None => refuse(others),
         Some(name) => Ok((name, others)),
     }
 }
@@ -100,13 +105,11 @@ fn has_reserved(fields: &[Field]) -> bool
 fn body(alloc: Global, others: Vec<Field>) -> Result<Fields, Stop>
     ensures { Gives (λ f. f) result (body_of (map member others.items)) }
 {
-    if deepest_member(others.as_slice()) > MOST_NESTING {
-        return Err(Stop::NotLiteral);
+    if deepest_member(others.as_slice()) > MOST_NESTING || has_reserved(others.as_slice()) {
+        refuse(others)
+    } else {
+        distinct(alloc, others)
     }
-    if has_reserved(others.as_slice()) {
-        return Err(Stop::NotLiteral);
-    }
-    distinct(alloc, others)
 }
 
 #[tactic(auto, unfolding(crate::specs::Entries::resource_of))]
@@ -119,24 +122,46 @@ fn resource(
 ) -> Result<Resource, Stop>
     ensures { Gives (λ r. r) result (resource_of kind api name (map member others.items)) }
 {
-    if !is_proper(alloc, &kind, &api, &name)? {
-        return Err(Stop::NotLiteral);
+    match is_proper(alloc, &kind, &api, &name) {
+        Ok(true) => match body(alloc, others) {
+            Ok(body) => Ok(Resource {
+                kind,
+                api,
+                name,
+                body,
+            }),
+            Err(stop) => stopped(stop, (kind, api, name)),
+        },
+        Ok(false) => refuse((kind, api, name, others)),
+        Err(_) => stopped(Stop::OutOfMemory, (kind, api, name, others)),
     }
-    let body = body(alloc, others)?;
-    Ok(Resource {
-        kind,
-        api,
-        name,
-        body,
-    })
+}
+
+// The entry of this symbol, type, version and members.
+fn entry_with(
+    alloc: Global,
+    symbol: Text,
+    kind: Text,
+    api: Text,
+    members: Vec<Field>,
+) -> Result<Entry, Stop>
+    ensures { Gives (λ e. e) result (entry_with symbol kind api (map member members.items)) }
+{
+    match parted(alloc, members) {
+        Ok((name, others)) => match resource(alloc, kind, api, name, others) {
+            Ok(resource) => Ok(Entry { symbol, resource }),
+            Err(stop) => stopped(stop, symbol),
+        },
+        Err(stop) => stopped(stop, (symbol, kind, api)),
+    }
 }
 
 /// The resource that a statement with this symbol, type text and members declares.
 pub fn entry_of(alloc: Global, symbol: Text, path: Text, members: Vec<Field>) -> Result<Entry, Stop>
     ensures { Gives (λ e. e) result (entry_of symbol path (map member members.items)) }
 {
-    let (kind, api) = divided(alloc, path.as_str())?;
-    let (name, others) = parted(alloc, members)?;
-    let resource = resource(alloc, kind, api, name, others)?;
-    Ok(Entry { symbol, resource })
+    match divided(alloc, path.as_str()) {
+        Ok((kind, api)) => entry_with(alloc, symbol, kind, api, members),
+        Err(stop) => stopped(stop, (symbol, members)),
+    }
 }

@@ -1,3 +1,5 @@
+// Why a file or a source declares no resources.
+
 use bicep_lexer::LexFault;
 use bicep_parser::ParseFault;
 use thiserror::Error;

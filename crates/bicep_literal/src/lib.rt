@@ -22,6 +22,3 @@ pub use fault::{LiteralFault, SourceFault};
 pub use laws::a_source_declares_one_list;
 pub use reading::resources_of;
 pub use source::resources;
-
-#[cfg(test)]
-mod tests;

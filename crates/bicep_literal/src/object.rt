@@ -5,7 +5,7 @@ ghost use Rattle.arm_value.specs.Json.{members_nesting};
 ghost use Rattle.arm_value.specs.View.{json, member};
 ghost use Rattle.bicep_literal.specs.Values.{distinct, array_of, object_of, Gives};
 
-use crate::stop::Stop;
+use crate::stop::{Stop, refuse};
 use arm_value::{Field, Fields, Items, Value, deepest_item, deepest_member};
 use std::alloc::Global;
 
@@ -23,7 +23,7 @@ pub fn distinct(alloc: Global, members: Vec<Field>) -> Result<Fields, Stop>
     if fields.len() == count {
         Ok(fields)
     } else {
-        Err(Stop::NotLiteral)
+        refuse(fields)
     }
 }
 
@@ -35,7 +35,7 @@ pub fn array(items: Vec<Value>) -> Result<Value, Stop>
     if deepest_item(items.as_slice()) < MOST_NESTING {
         Ok(Value::Array(Items::from_vec(items)))
     } else {
-        Err(Stop::NotLiteral)
+        refuse(items)
     }
 }
 
@@ -47,6 +47,6 @@ pub fn object(alloc: Global, members: Vec<Field>) -> Result<Value, Stop>
     if deepest_member(members.as_slice()) < MOST_NESTING {
         Ok(Value::Object(distinct(alloc, members)?))
     } else {
-        Err(Stop::NotLiteral)
+        refuse(members)
     }
 }

@@ -13,11 +13,18 @@ use crate::compare::are_proper;
 use crate::entry::Entry;
 use crate::fault::LiteralFault;
 use crate::statement::read;
-use crate::stop::Stop;
+use crate::stop::{Stop, refuse, with_last};
 use arm_value::OutOfMemory;
 use bicep_tree::Statement;
 use literal_template::Resource;
 use std::alloc::Global;
+
+// The resource of an entry.
+fn resource_in(entry: Entry) -> Resource
+    ensures { result ≡ entry.resource }
+{
+    entry.resource
+}
 
 // The resources of entries.
 fn resources_in(alloc: Global, entries: Vec<Entry>) -> Result<Vec<Resource>, OutOfMemory>
@@ -25,7 +32,7 @@ fn resources_in(alloc: Global, entries: Vec<Entry>) -> Result<Vec<Resource>, Out
 {
     let mut resources = Vec::new(alloc);
     for entry in entries {
-        resources.push(entry.resource)?;
+        resources = with_last(resources, resource_in(entry))?;
     }
     Ok(resources)
 }
@@ -34,10 +41,11 @@ fn declared(alloc: Global, file: &[Statement]) -> Result<Vec<Resource>, Stop>
     ensures { Gives (λ rs. rs.items) result (declared (file_of file.now)) }
 {
     let entries = read(alloc, file)?;
-    if !are_proper(entries.as_slice()) {
-        return Err(Stop::NotLiteral);
+    if are_proper(entries.as_slice()) {
+        Ok(resources_in(alloc, entries)?)
+    } else {
+        refuse(entries)
     }
-    Ok(resources_in(alloc, entries)?)
 }
 
 /// The resources that a file in the literal form declares, in its order.

@@ -1,15 +1,31 @@
 // The resources that statements declare.
 
 ghost use Rattle.std.specs.Prelude.{◌≡◌, map};
+ghost use Rattle.arm_value.specs.View.{member};
 ghost use Rattle.bicep_tree.specs.View as view;
-ghost use Rattle.bicep_literal.specs.Entries.{resource_entry, declared_entry, statement_entry, read};
+ghost use Rattle.bicep_literal.specs.Entries.{entry_of, resource_entry, declared_entry, statement_entry, read};
 ghost use Rattle.bicep_literal.specs.Values.{Gives};
 
 use crate::entry::{Entry, entry_of};
-use crate::stop::Stop;
+use crate::stop::{Stop, stopped, with_last};
 use crate::value::members;
+use arm_value::Field;
 use bicep_tree::{Body, Declaration, Resource, Statement};
 use std::alloc::Global;
+
+// The entry of these members, with the symbol and the type text of the resource.
+fn named_entry(alloc: Global, resource: &Resource, members: Vec<Field>) -> Result<Entry, Stop>
+    ensures { Gives (λ e. e) result
+        (entry_of resource.now.name.text resource.now.path.text (map member members.items)) }
+{
+    match resource.name.text.copy(alloc) {
+        Ok(symbol) => match resource.path.text.copy(alloc) {
+            Ok(path) => entry_of(alloc, symbol, path, members),
+            Err(_) => stopped(Stop::OutOfMemory, (symbol, members)),
+        },
+        Err(_) => stopped(Stop::OutOfMemory, members),
+    }
+}
 
 #[tactic(auto, using(bicep_tree::proofs::ViewLemmas::enums, bicep_tree::proofs::ViewLemmas::structs))]
 fn resource_entry(alloc: Global, resource: &Resource) -> Result<Entry, Stop>
@@ -21,9 +37,7 @@ fn resource_entry(alloc: Global, resource: &Resource) -> Result<Entry, Stop>
     match &resource.body {
         Body::Plain(object) => {
             let members = members(alloc, object)?;
-            let symbol = resource.name.text.copy(alloc)?;
-            let path = resource.path.text.copy(alloc)?;
-            entry_of(alloc, symbol, path, members)
+            named_entry(alloc, resource, members)
         }
         Body::If(_, _, _) => Err(Stop::NotLiteral),
         Body::Each(_, _) => Err(Stop::NotLiteral),
@@ -56,8 +70,8 @@ pub fn read(alloc: Global, file: &[Statement]) -> Result<Vec<Entry>, Stop>
     let mut found = Vec::new(alloc);
     for statement in file {
         match statement_entry(alloc, statement) {
-            Ok(entry) => found.push(entry)?,
-            Err(stop) => return Err(stop),
+            Ok(entry) => found = with_last(found, entry)?,
+            Err(stop) => return stopped(stop, found),
         }
     }
     Ok(found)

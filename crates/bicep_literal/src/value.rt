@@ -10,7 +10,7 @@ ghost use Rattle.bicep_literal.specs.Literal.{constant, named};
 ghost use Rattle.bicep_literal.specs.Values.{plain_name, value_of, values_of, members_of, each_of, member_of, given_of, Gives};
 
 use crate::object::{array, object};
-use crate::stop::Stop;
+use crate::stop::{Stop, stopped, with_last};
 use arm_value::{Field, OutOfMemory, Text, Value};
 use bicep_tree::{Expr, Label, Literal, Member, Object};
 use literal_template::is_special;
@@ -79,8 +79,8 @@ fn values(alloc: Global, exprs: &[Expr]) -> Result<Vec<Value>, Stop>
     let mut found = Vec::new(alloc);
     for expr in exprs {
         match value(alloc, expr) {
-            Ok(value) => found.push(value)?,
-            Err(stop) => return Err(stop),
+            Ok(value) => found = with_last(found, value)?,
+            Err(stop) => return stopped(stop, found),
         }
     }
     Ok(found)
@@ -102,8 +102,8 @@ fn fields(alloc: Global, members: &[Member]) -> Result<Vec<Field>, Stop>
     let mut found = Vec::new(alloc);
     for member in members {
         match field(alloc, member) {
-            Ok(field) => found.push(field)?,
-            Err(stop) => return Err(stop),
+            Ok(field) => found = with_last(found, field)?,
+            Err(stop) => return stopped(stop, found),
         }
     }
     Ok(found)
@@ -117,8 +117,10 @@ fn field(alloc: Global, inner: &Member) -> Result<Field, Stop>
     match inner {
         Member::Property(label, given) => {
             let name = plain_name(alloc, label)?;
-            let value = given_value(alloc, given)?;
-            Ok(Field { name, value })
+            match given_value(alloc, given) {
+                Ok(value) => Ok(Field { name, value }),
+                Err(stop) => stopped(stop, name),
+            }
         }
         Member::Child(_, _) => Err(Stop::NotLiteral),
     }

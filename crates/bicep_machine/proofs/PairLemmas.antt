@@ -6,12 +6,7 @@ use Rattle.bicep_tree.specs.declared.expr.Expr.{Expr}
 use Rattle.bicep_tree.specs.Tree.{name, call, Trees, none, more, trees}
 use Rattle.bicep_tree.specs.View.{tree_of}
 use Rattle.bicep_machine.specs.Closing.{pair_of}
-use Rattle.bicep_machine.specs.Folding.{two_names}
-
--- the word before two names
-abbrev pub behind_word : Name → Option (Name × Name) → Option (Name × Name × Name)
-behind_word w None = None
-behind_word w (Some p) = Some (w, p.0, p.1)
+use Rattle.bicep_machine.specs.Folding.{behind_word, two_names}
 
 pub pair_of-call : (w : Name) (es : Trees) → pair_of (call (f.Plain w) es) ≡ behind_word w (two_names es)
 pair_of-call w none = refl

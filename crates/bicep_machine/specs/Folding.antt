@@ -39,6 +39,11 @@ abbrev pub two_names : Trees → Option (Name × Name)
 two_names (more a (more b none)) = both_of (name_in a) (name_in b)
 two_names es = None
 
+-- the word before two names
+abbrev pub behind_word : Name → Option (Name × Name) → Option (Name × Name × Name)
+behind_word w None = None
+behind_word w (Some p) = Some (w, p.0, p.1)
+
 -- ---- what several declarations share
 
 -- the type behind the name of a declaration

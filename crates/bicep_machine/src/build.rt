@@ -12,22 +12,33 @@ use arm_value::{OutOfMemory, Text};
 use bicep_tree::{Access, Expr, Function, Hole, Indexing, Literal, Name, Operator, Prefix};
 use std::alloc::Global;
 
+// The expression, at its depth.
+fn boxed(alloc: Global, e: Expr, depth: usize) -> Result<Kept<Box<Expr>>, OutOfMemory>
+    ensures { IfOk result (λ k. kept k ≡ (tree_of e, depth)) }
+{
+    Ok(Kept {
+        part: Box::new(alloc, e)?,
+        depth,
+    })
+}
+
+// A leaf in the place of a part that nests too deep; the part is let go.
+#[tactic(auto, using(bicep_tree::proofs::ViewLemmas::enums), unfolding(crate::specs::Kept::made))]
+fn gap_for<T: Drop>(alloc: Global, _part: T) -> Result<Kept<Box<Expr>>, OutOfMemory>
+    ensures { IfOk result (λ k. kept k ≡ (gap, 65)) }
+{
+    boxed(alloc, Expr::Literal(0, Literal::Null), MOST_NESTING + 1)
+}
+
 // The composite of parts that nest so deep.
 #[tactic(auto, using(bicep_tree::proofs::ViewLemmas::enums), unfolding(crate::specs::Kept::made))]
 fn made(alloc: Global, composite: Expr, below: usize) -> Result<Kept<Box<Expr>>, OutOfMemory>
     ensures { IfOk result (λ k. kept k ≡ made 64 gap (tree_of composite) below) }
 {
     if below < MOST_NESTING {
-        Ok(Kept {
-            part: Box::new(alloc, composite)?,
-            depth: below + 1,
-        })
+        boxed(alloc, composite, below + 1)
     } else {
-        let gap = Box::new(alloc, Expr::Literal(0, Literal::Null))?;
-        Ok(Kept {
-            part: gap,
-            depth: MOST_NESTING + 1,
-        })
+        gap_for(alloc, composite)
     }
 }
 

@@ -1,6 +1,6 @@
 // What is kept of what was read: the part, and how deep it nests.
 
-ghost use Rattle.std.specs.Prelude.{◌≡◌, [], ◌∷◌, ◌++◌, max, IfOk};
+ghost use Rattle.std.specs.Prelude.{◌≡◌, None, [], ◌∷◌, ◌++◌, max, IfOk};
 
 use arm_value::OutOfMemory;
 use std::alloc::Global;
@@ -48,4 +48,11 @@ pub fn put<T: Drop>(list: Kept<Vec<T>>, item: Kept<T>) -> Result<Kept<Vec<T>>, O
     let mut part = list.part;
     part.push(item.part)?;
     Ok(Kept { part, depth })
+}
+
+/// Nothing; the part is let go.
+pub fn nothing<T: Drop, R: Drop>(_part: T) -> Option<R>
+    ensures { result ≡ None }
+{
+    None
 }

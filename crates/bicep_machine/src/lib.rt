@@ -1,13 +1,14 @@
 //! The machine that reads Bicep: its states, what is open on its stack, and what each token does to them.
 //!
-//! A caller may rely on `specs/Machine`: `step` says where a token leads, `parsed` what is kept of all
-//! tokens; the two laws, that it reads what the grammar of `bicep_tree` spells and nothing else. The types here are what the code keeps of it, and `specs/Views` says which
-//! state and which stack they stand for; each function builds one part as the machine does
-//! (`specs/Kept`, `specs/Closing`). What nests above the limit is not kept, so no deep tree is built.
+//! A caller may rely on `specs/Machine` (`step` is where a token leads, `parsed` what all tokens are read as) and
+//! on two laws: the machine reads what the grammar of `bicep_tree` spells, and nothing else. `specs/Views` says
+//! which state and stack the types of the code mean, and each function builds one part as the machine does
+//! (`specs/Kept`, `specs/Closing`). A part that nests above the limit is not kept, so no deep tree is built.
 #![tactic(auto)]
 
 mod build;
 mod closing;
+mod filing;
 mod frame;
 mod kept;
 mod laws;
@@ -23,6 +24,7 @@ pub use build::{
     text_of, with_hole, with_item,
 };
 pub use closing::closed;
+pub use filing::file;
 pub use frame::{Assigned, Callee, Frame, Front, Header, close, open};
 pub use kept::{Kept, MOST_NESTING, deeper, empty, flat, put};
 pub use laws::{what_is_read_is_spelled, what_is_spelled_is_read};
@@ -31,7 +33,7 @@ pub use parts::{
     body_each, body_each_if, body_if, body_plain, braced, decorator_of, each_of, loop_of,
     no_decorators, object_of, plain_of, property_of, statement_of, with_each, with_expression,
 };
-pub use state::{Next, State, refuse};
+pub use state::{Next, State, refuse, run_out};
 pub use stop::Stop;
 pub use word::{Owner, Word};
 pub use words::{

@@ -8,7 +8,7 @@ ghost use Rattle.bicep_machine.specs.Closing.{of_statement, with_expression, wit
 ghost use Rattle.bicep_machine.specs.Views.{kept, kept_items, kept_members, kept_object, kept_member, kept_value, kept_loop, kept_body, kept_decorators, kept_decorator, kept_declaration, kept_statement, assigned_of};
 
 use crate::frame::Assigned;
-use crate::kept::{Kept, MOST_NESTING, deeper, empty};
+use crate::kept::{Kept, MOST_NESTING, deeper, empty, nothing};
 use arm_value::OutOfMemory;
 use bicep_tree::{
     Body, Declaration, Decorator, Expr, Function, Label, Literal, Loop, LoopNames, Member, Object,
@@ -249,20 +249,15 @@ pub fn with_each(assigned: Assigned, value: Kept<Value>) -> Option<Kept<Declarat
     ensures { option_map kept_declaration result
         ≡ with_each (assigned_of assigned) (kept_value value) }
 {
-    let depth = value.depth;
     match assigned {
-        Assigned::Var(at, name) => {
-            Some(Kept {
-                part: Declaration::Var(at, name, value.part),
-                depth,
-            })
-        }
-        Assigned::Output(at, name, kind) => {
-            Some(Kept {
-                part: Declaration::Output(at, name, kind, value.part),
-                depth,
-            })
-        }
-        _ => None,
+        Assigned::Var(at, name) => Some(Kept {
+            part: Declaration::Var(at, name, value.part),
+            depth: value.depth,
+        }),
+        Assigned::Output(at, name, kind) => Some(Kept {
+            part: Declaration::Output(at, name, kind, value.part),
+            depth: value.depth,
+        }),
+        other => nothing((other, value)),
     }
 }

@@ -1,7 +1,7 @@
 // What was read last.
 
 ghost use Rattle.std.specs.Prelude.{◌≡◌, Err};
-ghost use Rattle.bicep_machine.specs.declared.stop.Stop.TheVariants.{NotAFile};
+ghost use Rattle.bicep_machine.specs.declared.stop.Stop.TheVariants.{NotAFile, OutOfMemory};
 
 use crate::frame::Header;
 use crate::kept::Kept;
@@ -103,4 +103,11 @@ pub fn refuse<T: Drop, R: Drop>(_part: T) -> Result<R, Stop>
     ensures { result ≡ Err NotAFile }
 {
     Err(Stop::NotAFile)
+}
+
+/// Memory ran out; the part is let go.
+pub fn run_out<T: Drop, R: Drop>(_part: T) -> Result<R, Stop>
+    ensures { result ≡ Err OutOfMemory }
+{
+    Err(Stop::OutOfMemory)
 }

@@ -15,6 +15,7 @@ ghost use Rattle.bicep_parser.specs.declared.fault.ParseFault.TheVariants.{TooDe
 
 use crate::depth::noted;
 use crate::fault::ParseFault;
+use crate::stops::{let_go, stopped};
 use crate::turning::{finish, turn};
 use arm_value::OutOfMemory;
 use bicep_lexer::Token;
@@ -41,7 +42,7 @@ fn told(stop: Stop, at: usize) -> ParseFault
     }
 }
 
-// The offset behind the last token.
+// The offset after the last token.
 fn end_of(tokens: &[Token]) -> usize
     ensures { EndsAt (map standing tokens.now) result }
 {
@@ -68,10 +69,10 @@ fn read(alloc: Global, tokens: &[Token]) -> Result<(Kept<Vec<Statement>>, usize)
     for token in tokens {
         let terminal = match terminal_of(alloc, token) {
             Ok(terminal) => terminal,
-            Err(_) => return Err(ParseFault::OutOfMemory),
+            Err(_) => return stopped(ParseFault::OutOfMemory, (state, stack)),
         };
         match turn(alloc, state, inside, &mut stack, token.at, terminal) {
-            Err(stop) => return Err(told(stop, token.at)),
+            Err(stop) => return stopped(told(stop, token.at), stack),
             Ok(next) => {
                 state = next.state;
                 inside = next.inside;
@@ -80,8 +81,11 @@ fn read(alloc: Global, tokens: &[Token]) -> Result<(Kept<Vec<Statement>>, usize)
         deep = noted(deep, &state, stack.as_slice(), token.at);
     }
     match finish(alloc, state, &mut stack) {
-        Err(stop) => Err(told(stop, end)),
-        Ok(statements) => Ok((statements, deep.unwrap_or(end))),
+        Err(stop) => stopped(told(stop, end), stack),
+        Ok(statements) => {
+            let_go(stack);
+            Ok((statements, deep.unwrap_or(end)))
+        }
     }
 }
 
@@ -94,7 +98,7 @@ fn parsed(alloc: Global, tokens: &[Token]) -> Result<File, ParseFault>
         Err(fault) => Err(fault),
         Ok((statements, place)) => {
             if statements.depth > MOST_NESTING {
-                Err(ParseFault::TooDeep(place))
+                stopped(ParseFault::TooDeep(place), statements)
             } else {
                 Ok(statements.part)
             }

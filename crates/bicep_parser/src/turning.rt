@@ -1,32 +1,34 @@
-// One token, and the end.
+// One token, and the end of the tokens.
 #![tactic(auto, using(bicep_machine::proofs::StackLemmas::stacks))]
 
-ghost use Rattle.std.specs.Prelude.{◌≡◌};
+ghost use Rattle.std.specs.Prelude.{◌≡◌, option_and_then};
 ghost use Rattle.bicep_tree.specs.Forms.{is_newline};
-ghost use Rattle.bicep_machine.specs.Closing.{closed};
+ghost use Rattle.bicep_tree.specs.declared.leaf.Namespace.{Namespace};
+ghost use Rattle.bicep_machine.specs.Closing.{closed, newline_on};
 ghost use Rattle.bicep_machine.specs.Machine.{rejoined, paused_step, moved, step, ended, ended_by, ended_between, finished};
-ghost use Rattle.bicep_machine.specs.Stack.{typed};
+ghost use Rattle.bicep_machine.specs.Stack.{typed, qualified};
 ghost use Rattle.bicep_machine.specs.Views.{Gives, kept, kept_decorators, kept_statement, kept_statements, frames_of, state_of, next_of};
 
-use crate::loops::{begin_loop, name_index, name_item, name_loop, past_item, past_names};
-use crate::statements::{
-    begin_decorator, between, end_decorator, end_statement, go_on_declaration, go_on_decorator,
-    go_on_existing, go_on_header, go_on_typed, name_declaration, name_decorator,
-    name_spaced_decorator, parameter, past_decorators,
-};
-use bicep_machine::{
-    Frame, Kept, Next, State, Stop, Word, access_of, close, closed, named, put, refuse,
-    statement_of, with_expression,
-};
-use bicep_steps::{
+use crate::stops::{let_go, stopped};
+use bicep_expressions::{
     access_on, ask, begin_arguments, begin_body, begin_condition, begin_guarded, begin_looped_body,
     end_at_late_colon, end_at_newline, end_loop, go_on, go_on_among, go_on_label, go_on_name,
     go_on_qualified, item, member, past_member, qualify, want_on,
 };
+use bicep_machine::{
+    Frame, Kept, Next, State, Stop, Word, access_of, close, closed, named, put, refuse, run_out,
+    statement_of, with_expression,
+};
+use bicep_statements::{
+    begin_decorator, begin_loop, between, end_decorator, end_statement, go_on_declaration,
+    go_on_decorator, go_on_existing, go_on_header, go_on_typed, name_declaration, name_decorator,
+    name_index, name_item, name_loop, name_spaced_decorator, parameter, past_decorators, past_item,
+    past_names,
+};
 use bicep_tree::{Access, Decorator, Expr, Name, Statement, Terminal, TypeName};
 use std::alloc::Global;
 
-// A token behind a newline that ended an expression.
+// A token after a newline that ended an expression.
 fn rejoin(
     alloc: Global,
     next: Next,
@@ -41,7 +43,24 @@ fn rejoin(
         State::Item => item(alloc, stack, at, terminal),
         State::Member => member(alloc, stack, at, terminal),
         State::Between => between(alloc, at, terminal),
-        other => refuse(other),
+        other => refuse((other, terminal)),
+    }
+}
+
+// A token after an expression that a newline ends.
+fn end_paused(
+    alloc: Global,
+    e: Kept<Box<Expr>>,
+    stack: &mut Vec<Frame>,
+    at: usize,
+    terminal: Terminal,
+) -> Result<Next, Stop>
+    ensures { Gives (λ n. next_of n stack.new.items) result (option_and_then
+        (λ q. rejoined 64 q at terminal) (newline_on 64 (closed 64 0 (kept e) (frames_of stack.old.items)))) }
+{
+    match end_at_newline(alloc, e, stack) {
+        Ok(next) => rejoin(alloc, next, stack, at, terminal),
+        Err(stop) => stopped(stop, terminal),
     }
 }
 
@@ -63,10 +82,7 @@ fn go_on_paused(
         }),
         Terminal::Question => ask(alloc, false, e, stack),
         Terminal::Colon => end_at_late_colon(alloc, e, stack),
-        other => {
-            let next = end_at_newline(alloc, e, stack)?;
-            rejoin(alloc, next, stack, at, other)
-        }
+        other => end_paused(alloc, e, stack, at, other),
     }
 }
 
@@ -157,13 +173,28 @@ pub fn turn(
         (step 64 (state_of state) inside (frames_of stack.old.items) (at, terminal)) }
 {
     if inside && is_newline(&terminal) {
+        let_go(terminal);
         Ok(Next { state, inside })
     } else {
         moved(alloc, state, inside, stack, at, terminal)
     }
 }
 
+// The statements of a file in which nothing is open.
+fn end_between(stack: &mut Vec<Frame>) -> Result<Kept<Vec<Statement>>, Stop>
+    ensures { Gives kept_statements result (ended_between 64 (frames_of stack.old.items)) }
+{
+    match close(stack) {
+        Some(Frame::InFile(statements)) => match close(stack) {
+            None => Ok(statements),
+            Some(frame) => refuse((frame, statements)),
+        },
+        other => refuse(other),
+    }
+}
+
 // A file whose last statement this is.
+#[tactic(auto, using(crate::proofs::StepLemmas::ends))]
 fn end_with(
     statement: Kept<Statement>,
     stack: &mut Vec<Frame>,
@@ -171,24 +202,9 @@ fn end_with(
     ensures { Gives kept_statements result
         (ended 64 (kept_statement statement) (frames_of stack.old.items)) }
 {
-    match close(stack) {
-        Some(Frame::InFile(statements)) => match close(stack) {
-            None => Ok(put(statements, statement)?),
-            Some(frame) => refuse(frame),
-        },
-        other => refuse(other),
-    }
-}
-
-fn end_between(stack: &mut Vec<Frame>) -> Result<Kept<Vec<Statement>>, Stop>
-    ensures { Gives kept_statements result (ended_between 64 (frames_of stack.old.items)) }
-{
-    match close(stack) {
-        Some(Frame::InFile(statements)) => match close(stack) {
-            None => Ok(statements),
-            Some(frame) => refuse(frame),
-        },
-        other => refuse(other),
+    match end_between(stack) {
+        Ok(statements) => Ok(put(statements, statement)?),
+        Err(stop) => stopped(stop, statement),
     }
 }
 
@@ -209,9 +225,31 @@ fn end_expression(
                 stack,
             )
         }
-        other => refuse(other),
+        Some(other) => refuse((other, e)),
+        None => refuse(e),
     }
 }
+
+// The last expression, which is a name of a name space.
+fn end_qualified(
+    alloc: Global,
+    from: Name,
+    name: Name,
+    stack: &mut Vec<Frame>,
+) -> Result<Kept<Vec<Statement>>, Stop>
+    ensures { (space : Namespace) → Gives kept_statements result
+        (finished 64 (qualified space from name) (frames_of stack.old.items)) }
+{
+    match named(alloc, from) {
+        Ok(value) => {
+            let member = access_of(alloc, value, Access::Member, name)?;
+            end_expression(alloc, member, stack)
+        }
+        Err(_) => run_out(name),
+    }
+}
+
+// A declaration with a type, which ends there if it is a parameter.
 
 fn end_typed(
     decorators: Kept<Vec<Decorator>>,
@@ -227,7 +265,7 @@ fn end_typed(
 {
     match word {
         Word::Param => end_with(parameter(decorators, at, name, kind), stack),
-        _ => Err(Stop::NotAFile),
+        _ => refuse((decorators, name)),
     }
 }
 
@@ -247,11 +285,7 @@ pub fn finish(
             end_typed(decorators, at, word, name, kind, stack)
         }
         State::Named(name) => end_expression(alloc, named(alloc, name)?, stack),
-        State::Qualified(_, from, name) => {
-            let value = named(alloc, from)?;
-            let member = access_of(alloc, value, Access::Member, name)?;
-            end_expression(alloc, member, stack)
-        }
+        State::Qualified(_, from, name) => end_qualified(alloc, from, name, stack),
         State::Done(e) => end_expression(alloc, e, stack),
         State::Paused(e) => end_expression(alloc, e, stack),
         other => refuse(other),

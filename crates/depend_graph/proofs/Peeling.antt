@@ -11,6 +11,7 @@ use Rattle.depend_graph.specs.Kept.{IsKept}
 use Rattle.depend_graph.specs.Circles.{can_start, HasCome, KeepsCircles, work}
 use Rattle.depend_graph.proofs.Counts.{times-append, is_there}
 use Rattle.depend_graph.proofs.Keeping.{kept_done, length-filter_cons, same_test, other_test, undone_less}
+use Rattle.foundation.proofs.TruthValues.{both}
 
 -- ---- circles and nodes without an undone need
 
@@ -88,12 +89,8 @@ pub record Lists (done : List Bool) (unmet ready : List ℕ) (bound : ℕ) : Typ
   pub listed : (u : ℕ) → u < bound → can_start done unmet u ≡ true → 1 ≤ times ready u
   pub startable : (u : ℕ) → 1 ≤ times ready u → (u < bound) × (get_or unmet u 0 ≡ 0)
 
-ends : (a b : Bool) → (a && b) ≡ true → (a ≡ true) × (b ≡ true)
-ends true b e = (refl, e)
-ends false b e = absurd (true≢false (sym e))
-
 no_need : (unmet : List ℕ) (done : List Bool) (u : ℕ) → can_start done unmet u ≡ true → get_or unmet u 0 ≡ 0
-no_need unmet done u e = zero_test (get_or unmet u 0) (ends (not (get_or done u false)) (get_or unmet u 0 == 0) e).1
+no_need unmet done u e = zero_test (get_or unmet u 0) (both (not (get_or done u false)) (get_or unmet u 0 == 0) e).1
   where
     zero_test : (n : ℕ) → (n == 0) ≡ true → n ≡ 0
     zero_test n h = grind (arith, nat_tests)
@@ -246,7 +243,7 @@ marked_next g dependents first done unmet fewer ready left new node k h popped f
     still_free u can = by (cases_eq node u)
       where
         undone_now : get_or (set done node true) u false ≡ false
-        undone_now = negated (get_or (set done node true) u false) (ends (not (get_or (set done node true) u false)) (get_or fewer u 0 == 0) can).0
+        undone_now = negated (get_or (set done node true) u false) (both (not (get_or (set done node true) u false)) (get_or fewer u 0 == 0) can).0
           where
             negated : (b : Bool) → not b ≡ true → b ≡ false
             negated true e = absurd (true≢false (sym e))

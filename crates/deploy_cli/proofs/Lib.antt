@@ -1,5 +1,4 @@
 mod Parts
-mod Ascii
 mod Members
 mod Courses
 mod Placing

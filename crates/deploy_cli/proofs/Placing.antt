@@ -13,23 +13,16 @@ use Rattle.deploy_cli.specs.Names.{is_name_byte, is_group_name}
 use Rattle.deploy_cli.specs.Puts.{place_of}
 use Rattle.deploy_cli.specs.Course.{CanPut}
 use Rattle.deploy_cli.specs.Prepared.{Folder, IsPrepared}
-use Rattle.deploy_cli.proofs.Ascii.{word}
+use Rattle.foundation.proofs.AsciiWords.{word}
+use Rattle.foundation.proofs.TruthValues.{both, and_true}
 
 -- a byte of a name is an ASCII character
 name_byte_below : (b : ℕ) → is_name_byte b ≡ true → nat_lt b 128 ≡ true
 name_byte_below b e = grind (arith, nat_tests)
 
-both : (a b : Bool) → (a && b) ≡ true → (a ≡ true) × (b ≡ true)
-both true b e = (refl, e)
-both false b e = absurd (true≢false (sym e))
-
-joined : (a b : Bool) → a ≡ true → b ≡ true → (a && b) ≡ true
-joined true b e f = f
-joined false b e f = e
-
 all_below : (bs : List ℕ) → list_all is_name_byte bs ≡ true → list_all (λ b. nat_lt b 128) bs ≡ true
 all_below [] e = refl
-all_below (b ∷ bs) e = let two = both (is_name_byte b) (list_all is_name_byte bs) e in joined (nat_lt b 128) (list_all (λ c. nat_lt c 128) bs) (name_byte_below b two.0) (all_below bs two.1)
+all_below (b ∷ bs) e = let two = both (is_name_byte b) (list_all is_name_byte bs) e in and_true (nat_lt b 128) (list_all (λ c. nat_lt c 128) bs) (name_byte_below b two.0) (all_below bs two.1)
 
 filled : (bs : List ℕ) → nat_le 1 (length bs) ≡ true → is_empty bs ≡ false
 filled [] e = absurd (true≢false (sym e))

@@ -11,7 +11,7 @@ module _ {D : Type 0} (moment : D → ℕ) (left : D → ℕ → Parts → Type 
       → GoesOn moment left (KeepsFront (at + 1)) old new → Since moment left old new (λ c. IsOneOf records r c.a)
   body_since old new records at r only holds goes = since_first moment left (KeepsFront (at + 1)) (λ c. IsOneOf records r c.a) old new goes (λ d c l s.
       let same : d.a ≡ (reads old).a = only d l in
-      let front = s (omega (arith, ap length same, holds_within records at (reads old).a holds)) in
+      let front = s.front (omega (arith, ap length same, holds_within records at (reads old).a holds)) in
       inl (at, kept_front records at (reads old).a c.a holds (front.0 ∙ ap (λ (l : List ℕ). take (at + 1) l) same)))
 
   pub gate_since : (mid new : D) (records : List Record) (at gate : ℕ) (r : Record) (rest : List ℕ) → at ≡ 16 + length (spelled records []) → IsKept A (reads mid) (left mid (moment mid))

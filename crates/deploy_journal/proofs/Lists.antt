@@ -1,5 +1,5 @@
 -- Parts of records, byte by byte.
-use Rattle.std.proofs.Common.{◌≡◌, ◌≢◌, ◌⊎◌, inl, inr, ⊎_elim, ℕ, ◌+◌, ◌-◌, ◌≤◌, List, [], ◌∷◌, ◌++◌, length, get_or, take, drop, replicate, refl, sym, ◌∙◌, ap, arith, append_assoc, length-append, take-append-drop}
+use Rattle.std.proofs.Common.{◌≡◌, ◌≢◌, inl, inr, ⊎_elim, ℕ, ◌+◌, ◌-◌, ◌≤◌, List, [], ◌∷◌, ◌++◌, length, get_or, take, drop, replicate, refl, sym, ◌∙◌, ap, arith, append_assoc, length-append, take-append-drop}
 use Rattle.std.proofs.lemmas.List.{take_at, drop_at, drop-drop, append-nil, length-take-le, drop_more}
 use Rattle.std.proofs.lemmas.Bool.{cases_eq}
 use Rattle.arm_edges.specs.Disk.{overwritten, Torn}
@@ -139,6 +139,15 @@ one_of records at gate r rest file place is = ⊎_elim
     (λ (shut : gate ≢ 1). inl (at, holds_from records at gate (body r (0 ∷ rest)) file place shut is))
     (cases_eq gate 1)
 
+-- what follows the gate
+past_gate : (records : List Record) (at gate : ℕ) (r : Record) (rest old : List ℕ) → length (front_of records) ≡ at → old ≡ front_of records ++ (gate ∷ body r (0 ∷ rest)) → drop (at + 1) old ≡ body r (0 ∷ rest)
+past_gate records at gate r rest old size is =
+    ap (λ (l : List ℕ). drop (at + 1) l) (is ∙ sym (append_assoc (front_of records) (gate ∷ []) (body r (0 ∷ rest))))
+    ∙ drop_at (front_of records ++ (gate ∷ [])) (body r (0 ∷ rest)) (at + 1) (omega (arith, size, length-append (front_of records) (gate ∷ [])))
+
+body_more : (r : Record) (x y : List ℕ) → body r x ++ y ≡ body r (x ++ y)
+body_more r x y = simp append_assoc
+
 -- the gate's write, torn
 pub torn_gate : (records : List Record) (at gate : ℕ) (r : Record) (rest old new : List ℕ) → at ≡ 16 + length (spelled records []) → old ≡ front_of records ++ (gate ∷ body r (0 ∷ rest))
     → Torn at 1 old new → IsOneOf records r new
@@ -146,12 +155,14 @@ torn_gate records at gate r rest old new place is torn =
     let size = length-front records at place in
     let long : at + 1 ≤ length old = omega (arith, ap length is, size, length-append (front_of records) (gate ∷ body r (0 ∷ rest))) in
     let front : take at new ≡ front_of records = ap (λ (n : ℕ). take n new) (omega (arith, long)) ∙ torn.before ∙ ap (λ (l : List ℕ). take at l) is ∙ take_at (front_of records) (gate ∷ body r (0 ∷ rest)) at size in
-    let back : drop (at + 1) new ≡ body r (0 ∷ rest) = torn.after ∙ ap (λ (l : List ℕ). drop (at + 1) l) (is ∙ sym (append_assoc (front_of records) (gate ∷ []) (body r (0 ∷ rest))))
-    ∙ drop_at (front_of records ++ (gate ∷ [])) (body r (0 ∷ rest)) (at + 1) (omega (arith, size, length-append (front_of records) (gate ∷ []))) in
+    let tail = drop (length old - (at + 1)) (drop (at + 1) new) in
+    let back : drop (at + 1) new ≡ body r (0 ∷ rest ++ tail) =
+    sym (take-append-drop (length old - (at + 1)) (drop (at + 1) new))
+    ∙ ap (λ (l : List ℕ). l ++ tail) (torn.after ∙ past_gate records at gate r rest old size is) ∙ body_more r (0 ∷ rest) tail in
     let byte = get_or new at 0 in
-    let whole : new ≡ front_of records ++ (byte ∷ body r (0 ∷ rest)) =
+    let whole : new ≡ front_of records ++ (byte ∷ body r (0 ∷ rest ++ tail)) =
     sym (take-append-drop at new) ∙ ap (λ (l : List ℕ). l ++ drop at new) front ∙ ap (λ (l : List ℕ). front_of records ++ l) (drop_more new at 0 (omega (arith, long, torn.no_shorter)) ∙ ap (λ (l : List ℕ). byte ∷ l) back) in
-    one_of records at byte r rest new place whole
+    one_of records at byte r (rest ++ tail) new place whole
 
 -- the gate's write, done
 pub written_gate : (records : List Record) (at next gate : ℕ) (r : Record) (rest old : List ℕ) → at ≡ 16 + length (spelled records []) → next ≡ at + (18 + length r.first + length r.second)
@@ -159,6 +170,5 @@ pub written_gate : (records : List Record) (at next gate : ℕ) (r : Record) (re
 written_gate records at next gate r rest old place more is =
     let size = length-front records at place in
     let front : take at old ≡ front_of records = ap (λ (l : List ℕ). take at l) is ∙ take_at (front_of records) (gate ∷ body r (0 ∷ rest)) at size in
-    let back : drop (at + 1) old ≡ body r (0 ∷ rest) = ap (λ (l : List ℕ). drop (at + 1) l) (is ∙ sym (append_assoc (front_of records) (gate ∷ []) (body r (0 ∷ rest))))
-    ∙ drop_at (front_of records ++ (gate ∷ [])) (body r (0 ∷ rest)) (at + 1) (omega (arith, size, length-append (front_of records) (gate ∷ []))) in
+    let back = past_gate records at gate r rest old size is in
     opened records at next r rest (patched at (1 ∷ []) old) place more (λ i. front i ++ (1 ∷ back i))

@@ -10,3 +10,9 @@ abbrev pub FormatAnswers : Bool → Parts → Parts → ℕ → ℕ → Result (
 FormatAnswers tells old new before after (Ok u) = (tells ≡ true → length old.a ≡ 0) × (after ≡ before)
 FormatAnswers tells old new before after (Err (NotEmpty n)) = (tells ≡ true → n ≡ length old.a) × (0 < n) × (new ≡ old) × (after ≡ before)
 FormatAnswers tells old new before after (Err DiskFault) = Rose before after
+
+-- the answer after which the disk is unchanged
+abbrev pub WroteNothing : Result (Unit {0}) FormatFault → Type 0
+WroteNothing (Ok u) = ⊥
+WroteNothing (Err (NotEmpty n)) = Unit {0}
+WroteNothing (Err DiskFault) = ⊥

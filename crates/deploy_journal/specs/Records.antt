@@ -59,9 +59,14 @@ IsDamagedAt file at =
     ((at ≡ 0) × ((rest : List ℕ) → file ≡ beginning ++ rest → ⊥))
     ⊎ ((records : List Record) × (rest : List ℕ) × (file ≡ beginning ++ spelled records rest) × (at + length rest ≡ length file) × EndsBadly rest)
 
--- part A begins as it did, up to this place
-abbrev pub KeepsFront : ℕ → Parts → Parts → Type 0
-KeepsFront n old new = n ≤ length old.a → (take n new.a ≡ take n old.a) × (n ≤ length new.a)
+-- part B is unchanged
+abbrev pub KeepsB : Parts → Parts → Type 0
+KeepsB old new = new.b ≡ old.b
+
+-- part A begins as it did, up to this place, and part B is unchanged
+pub record KeepsFront (n : ℕ) (old new : Parts) : Type 0 where
+  pub front : n ≤ length old.a → (take n new.a ≡ take n old.a) × (n ≤ length new.a)
+  pub part_b : KeepsB old new
 
 -- each image from the old moment to the new has P, and earlier moments keep theirs
 pub record Since {D : Type 0} (moment : D → ℕ) (left : D → ℕ → Parts → Type 0) (old new : D) (P : Parts → Type 0) : Type 0 where

@@ -3,7 +3,7 @@ ghost use Rattle.std.specs.Prelude.{◌≡◌, ◌<◌, ◌^◌, ◌≢◌, ◌�
 ghost use Rattle.arm_edges.specs.Disk.{GoesOn, IsKept};
 ghost use Rattle.arm_edges.specs.Faults.{HasCause};
 ghost use Rattle.arm_edges.specs.declared.disk.Part.TheVariants.{A};
-ghost use Rattle.deploy_journal.specs.Records.{eight, patched, body_bytes, KeepsFront, Holds, Record, record_of, Since, IsOneOf};
+ghost use Rattle.deploy_journal.specs.Records.{eight, patched, body_bytes, KeepsB, KeepsFront, Holds, Record, record_of, Since, IsOneOf};
 
 use arm_edges::{Disk, Failed, Part};
 
@@ -14,6 +14,7 @@ fn write_behind<D: Disk>(disk: &mut D, front: u64, at: u64, bytes: &[u8]) -> Res
     requires behind { front ≤ at }
     ensures written { OnOk result (D.tells_reads ≡ true → at ≤ length (D.reads disk.old).a
         → (D.reads disk.new).a ≡ patched at bytes.now (D.reads disk.old).a) }
+    ensures part_b { D.tells_reads ≡ true → KeepsB (D.reads disk.old) (D.reads disk.new) }
     ensures images { D.tells_images ≡ true
         → GoesOn D.moment D.left (KeepsFront front) disk.old disk.new }
     ensures cause { HasCause (D.faults disk.old) (D.faults disk.new) result }
@@ -44,6 +45,7 @@ fn write_body<D: Disk>(
     ensures written { OnOk result (D.tells_reads ≡ true → at ≤ length (D.reads disk.old).a
         → (D.reads disk.new).a ≡ patched at (body_bytes kind first.now second.now (0 ∷ []))
         (D.reads disk.old).a) }
+    ensures part_b { D.tells_reads ≡ true → KeepsB (D.reads disk.old) (D.reads disk.new) }
     ensures kept { OnOk result (D.tells_images ≡ true
         → IsKept A (D.reads disk.new) (D.left disk.new (D.moment disk.new))) }
     ensures images { D.tells_images ≡ true
@@ -83,6 +85,9 @@ pub(crate) fn put_record<D: Disk>(
         → (records : List Record) → Holds records gate (D.reads disk.old).a
         → Since D.moment D.left disk.old disk.new
         (λ c. IsOneOf records (record_of kind first.now second.now) c.a) }
+    ensures part_b { D.tells_reads ≡ true → KeepsB (D.reads disk.old) (D.reads disk.new) }
+    ensures part_b_images { D.tells_images ≡ true
+        → GoesOn D.moment D.left KeepsB disk.old disk.new }
     ensures cause { HasCause (D.faults disk.old) (D.faults disk.new) result }
     ensures reach { D.reach disk.new ≡ D.reach disk.old }
 {

@@ -1,8 +1,9 @@
 ghost use Rattle.std.specs.Prelude.{◌≡◌, ◌<◌, ◌-◌, ◌≤◌, [], ◌∷◌, true, length, OnOk};
-ghost use Rattle.arm_edges.specs.Disk.{IsKept};
+ghost use Rattle.arm_edges.specs.Disk.{GoesOn, IsKept};
 ghost use Rattle.arm_edges.specs.declared.disk.Part.TheVariants.{A};
-ghost use Rattle.deploy_journal.specs.Records.{Holds};
-ghost use Rattle.deploy_journal.specs.Formatting.{FormatAnswers};
+ghost use Rattle.deploy_journal.specs.Records.{Holds, KeepsB};
+ghost use Rattle.deploy_journal.specs.Formatting.{FormatAnswers, WroteNothing};
+ghost use Rattle.deploy_journal.specs.Reading.{Still};
 
 use crate::Journal;
 use arm_edges::{Disk, Part};
@@ -28,6 +29,13 @@ impl<D: Disk> Journal<D> {
         ensures holds { OnOk result (D.tells_reads ≡ true → Holds [] 16 (D.reads disk.new).a) }
         ensures kept { OnOk result (D.tells_images ≡ true
             → IsKept A (D.reads disk.new) (D.left disk.new (D.moment disk.new))) }
+        ensures still { WroteNothing result
+            → Still D.tells_images D.reads D.moment D.left D.reach disk.old disk.new }
+
+        // Part B reads as before, and a crash leaves nothing new of it.
+        ensures part_b { D.tells_reads ≡ true → KeepsB (D.reads disk.old) (D.reads disk.new) }
+        ensures part_b_images { D.tells_images ≡ true
+            → GoesOn D.moment D.left KeepsB disk.old disk.new }
         ensures reach { D.reach disk.new ≡ D.reach disk.old }
     {
         let Ok(length) = disk.length(Part::A) else {

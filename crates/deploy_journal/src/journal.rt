@@ -1,7 +1,7 @@
 ghost use Rattle.std.specs.Prelude.{◌≡◌, ◌<◌, ◌^◌, ◌⊎◌, ◌+◌, ◌-◌, ◌≤◌, ◌++◌, [], ◌∷◌, ℕ, List, true, false, length, if◌then◌else◌, OnOk, OnErr, IfOk, IfErr, MatchOption};
-ghost use Rattle.arm_edges.specs.Disk.{IsKept};
+ghost use Rattle.arm_edges.specs.Disk.{GoesOn, IsKept};
 ghost use Rattle.arm_edges.specs.declared.disk.Part.TheVariants.{A};
-ghost use Rattle.deploy_journal.specs.Records.{Holds, Record as Entry, record_of, Since, IsOneOf};
+ghost use Rattle.deploy_journal.specs.Records.{Holds, Record as Entry, record_of, KeepsB, Since, IsOneOf, IsDamagedAt};
 ghost use Rattle.deploy_journal.specs.Reading.{Still, FaultCause};
 ghost use Rattle.deploy_journal.specs.Opening.{DamageMeans};
 ghost use Rattle.deploy_journal.specs.Answers.{AppendAnswers, DidNothing, standing};
@@ -84,6 +84,12 @@ impl<D: Disk> Journal<D> {
         // After Ok a crash leaves part A as it reads.
         ensures kept { OnOk result (D.tells_images ≡ true
             → IsKept A (D.reads self.new.disk) (D.left self.new.disk (D.moment self.new.disk))) }
+
+        // Part B reads as before, and a crash leaves nothing new of it.
+        ensures part_b { D.tells_reads ≡ true
+            → KeepsB (D.reads self.old.disk) (D.reads self.new.disk) }
+        ensures part_b_images { D.tells_images ≡ true
+            → GoesOn D.moment D.left KeepsB self.old.disk self.new.disk }
         ensures reach { D.reach self.new.disk ≡ D.reach self.old.disk }
     {
         if self.must_reopen {
@@ -137,6 +143,8 @@ impl<D: Disk> Journal<D> {
         ensures opened { IfOk result (λ r. (r.0.must_reopen ≡ false) × (r.0.limit ≡ limit)) }
         ensures records { IfOk result (λ r. D.tells_reads ≡ true
             → Holds r.1.items (r.0.length - 1) (D.reads disk).a) }
+        ensures undamaged { IfOk result (λ r. D.tells_reads ≡ true
+            → (at : ℕ) → IsDamagedAt (D.reads disk).a at → ⊥) }
         ensures kept { IfOk result (λ r. D.tells_images ≡ true
             → IsKept A (D.reads r.0.disk) (D.left r.0.disk (D.moment r.0.disk))) }
         ensures still { IfOk result

@@ -16,6 +16,3 @@ pub use journal::{AppendFault, Journal, NotOpened, RESERVE};
 pub use laws::{damage_excludes_records, damage_has_one_place, records_are_told_by_the_bytes};
 pub use read::OpenFault;
 pub use record::Record;
-
-#[cfg(test)]
-mod tests;

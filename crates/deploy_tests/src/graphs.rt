@@ -1,3 +1,4 @@
+// Graphs of dependencies: by hand, of many nodes, and beside the plain graph.
 ghost use Rattle.std.specs.Prelude.{◌<◌};
 
 use crate::plain_graph::{blockers, is_chain, is_edge};
@@ -100,4 +101,181 @@ fn random_graphs_answer_as_the_plain_one_does(rt: HostRuntime) -> Result<(), Fai
         compare(&rt, alloc, &graph, &edges, &done)?;
     }
     Ok(())
+}
+
+// Says that the node needs the other, where both are nodes.
+fn add(graph: &mut Graph, from: u32, to: u32) -> Result<(), Fail> {
+    if from < graph.count() && to < graph.count() {
+        graph.add_edge(from, to)?;
+    }
+    Ok(())
+}
+
+// Marks the node as done, where it is one.
+fn mark(graph: &mut Graph, node: u32) {
+    if node < graph.count() {
+        graph.done(node);
+    }
+}
+
+// How many needs of the node are not done; none where it is no node.
+fn unmet(graph: &Graph, node: u32) -> Option<u32> {
+    if node < graph.count() {
+        Some(graph.unmet(node))
+    } else {
+        None
+    }
+}
+
+// The first of three nodes needs the second, twice, and the third.
+fn add_needs(graph: &mut Graph) -> Result<(), Fail> {
+    add(graph, 0, 1)?;
+    add(graph, 0, 1)?;
+    add(graph, 0, 2)
+}
+
+// Compares how many needs of the node are not done.
+fn check_unmet(graph: &Graph, node: u32, wanted: Option<u32>) -> Result<(), Fail> {
+    if unmet(graph, node) == wanted {
+        return Ok(());
+    }
+    Err(Fail::from("another number of needs"))
+}
+
+// Compares the needs of the node that are not done.
+fn check_blockers(alloc: Global, graph: &Graph, node: u32, wanted: &[u32]) -> Result<(), Fail> {
+    let found = graph.blockers(alloc, node)?;
+    if found.as_slice() == wanted {
+        return Ok(());
+    }
+    Err(Fail::from("other needs"))
+}
+
+fn check_ready(graph: &Graph, node: u32, wanted: bool) -> Result<(), Fail> {
+    if graph.ready(node) == wanted {
+        return Ok(());
+    }
+    Err(Fail::from("ready or not"))
+}
+
+fn check_needs(alloc: Global, graph: &Graph) -> Result<(), Fail> {
+    check_unmet(graph, 0, Some(2))?;
+    check_ready(graph, 0, false)?;
+    check_ready(graph, 1, true)?;
+    check_ready(graph, 3, true)?;
+    check_blockers(alloc, graph, 0, &[1, 2])?;
+    check_blockers(alloc, graph, 3, &[])
+}
+
+fn add_and_check(alloc: Global, graph: &mut Graph) -> Result<(), Fail> {
+    add_needs(graph)?;
+    check_needs(alloc, graph)
+}
+
+#[test]
+fn each_need_counts_once(rt: HostRuntime) -> Result<(), Fail> {
+    let mut graph = Graph::new(rt.alloc(), 3)?;
+    add_and_check(rt.alloc(), &mut graph)
+}
+
+fn mark_and_check(alloc: Global, graph: &mut Graph) -> Result<(), Fail> {
+    add_needs(graph)?;
+    mark(graph, 1);
+    check_unmet(graph, 0, Some(1))?;
+    mark(graph, 1);
+    check_unmet(graph, 0, Some(1))?;
+    check_blockers(alloc, graph, 0, &[2])?;
+    mark(graph, 2);
+    check_ready(graph, 0, true)
+}
+
+#[test]
+fn a_need_counts_until_it_is_done(rt: HostRuntime) -> Result<(), Fail> {
+    let mut graph = Graph::new(rt.alloc(), 3)?;
+    mark_and_check(rt.alloc(), &mut graph)
+}
+
+// Whether a graph of eight nodes with these edges has this circle once these are done; an empty one
+// says that there is none.
+fn has_circle(
+    alloc: Global,
+    edges: &[(u32, u32)],
+    done: &[u32],
+    circle: &[u32],
+) -> Result<bool, Fail> {
+    let mut graph = Graph::new(alloc, 8)?;
+    for (from, to) in edges {
+        add(&mut graph, *from, *to)?;
+    }
+    for node in done {
+        mark(&mut graph, *node);
+    }
+    match graph.cycle(alloc)? {
+        Some(found) => Ok(found.as_slice() == circle),
+        None => Ok(circle.is_empty()),
+    }
+}
+
+#[test]
+fn a_circle_begins_at_its_least_node(rt: HostRuntime) -> Result<(), Fail> {
+    let alloc = rt.alloc();
+    assert!(rt; has_circle(alloc, &[(0, 1), (1, 0)], &[], &[0, 1])?);
+    assert!(rt; has_circle(alloc, &[(3, 3)], &[], &[3])?);
+    let beyond = [(0, 1), (7, 5), (5, 2), (2, 7), (1, 5)];
+    assert!(rt; has_circle(alloc, &beyond, &[], &[2, 7, 5])?);
+    Ok(())
+}
+
+#[test]
+fn done_nodes_and_chains_are_no_circle(rt: HostRuntime) -> Result<(), Fail> {
+    let alloc = rt.alloc();
+    assert!(rt; has_circle(alloc, &[(7, 5), (5, 2), (2, 7)], &[5], &[])?);
+    assert!(rt; has_circle(alloc, &[(0, 1), (1, 2), (0, 2)], &[], &[])?);
+    Ok(())
+}
+
+const MANY: u32 = 100_000;
+
+// Compares the length of a circle; 0 says that there is none.
+fn check_circle(alloc: Global, graph: &Graph, wanted: usize) -> Result<(), Fail> {
+    let length = match graph.cycle(alloc)? {
+        Some(circle) => circle.len(),
+        None => 0,
+    };
+    if length == wanted {
+        return Ok(());
+    }
+    Err(Fail::from("another circle"))
+}
+
+fn check_chain(alloc: Global, chain: &mut Graph) -> Result<(), Fail> {
+    for node in 1..MANY {
+        add(chain, node - 1, node)?;
+    }
+    check_circle(alloc, chain, 0)?;
+    add(chain, MANY - 1, 0)?;
+    check_circle(alloc, chain, 100_000)
+}
+
+#[test]
+fn a_chain_of_100000_nodes_is_gone_through(rt: HostRuntime) -> Result<(), Fail> {
+    let mut chain = Graph::new(rt.alloc(), MANY)?;
+    check_chain(rt.alloc(), &mut chain)
+}
+
+fn check_star(alloc: Global, star: &mut Graph) -> Result<(), Fail> {
+    for node in 1..MANY {
+        add(star, 0, MANY - node)?;
+        add(star, node, MANY - 1)?;
+    }
+    check_unmet(star, 0, Some(99_999))?;
+    mark(star, MANY - 1);
+    check_unmet(star, 0, Some(99_998))?;
+    check_circle(alloc, star, 0)
+}
+
+#[test]
+fn a_star_of_100000_nodes_is_gone_through(rt: HostRuntime) -> Result<(), Fail> {
+    let mut star = Graph::new(rt.alloc(), MANY)?;
+    check_star(rt.alloc(), &mut star)
 }

@@ -10,4 +10,6 @@ mod first_path;
 mod graphs;
 pub mod plain_graph;
 #[cfg(test)]
+mod providers;
+#[cfg(test)]
 mod real_files;

@@ -14,6 +14,7 @@ use Rattle.base64.proofs.EngineFacts.{IsAscii-encode_of, decode_of-encode_of, de
 use Rattle.arm_value.specs.Json.{Json, text}
 use Rattle.function_identities.specs.Encodings.{encoded, decoded, text_of_bytes, to_base64, base64_to_string}
 use Rattle.function_identities.proofs.TextLemmas.{is_text, decodes, encoded_characters}
+use Rattle.foundation.proofs.TruthValues.{both}
 
 -- ---- the bytes of texts are below 256
 
@@ -54,10 +55,6 @@ character_bytes c h =
     (λ _. chosen (ltb c 2048) _ _ (λ e. let l = ltb-true c 2048 e in two (192 + c / 64) (128 + c % 64) (omega arith) last)
     (λ _. chosen (ltb c 65536) _ _ (λ e. let l = ltb-true c 65536 e in three (224 + c / 4096) (128 + c / 64 % 64) (128 + c % 64) (omega arith) second last)
     (λ _. four (240 + c / 262144) (128 + c / 4096 % 64) (128 + c / 64 % 64) (128 + c % 64) (omega arith) third second last)))
-
-both : (a b : Bool) → (a && b) ≡ true → (a ≡ true) × (b ≡ true)
-both true b e = (refl, e)
-both false b e = absurd (true≢false (sym e))
 
 text_bytes : (s : List ℕ) → all_scalars s ≡ true → IsBytes (encode_utf8_all s)
 text_bytes [] h = none

@@ -14,6 +14,3 @@ pub mod laws;
 
 pub use encodings::{base64_to_string, to_base64};
 pub use identities::{guid, unique_string};
-
-#[cfg(test)]
-mod tests;

@@ -1,15 +1,15 @@
 -- Arrays joined, and their distinct items.
-use Rattle.std.proofs.Common.{◌≡◌, ◌<◌, ◌≤◌, ◌+◌, ℕ, suc, Bool, true, false, List, [], ◌∷◌, ◌++◌, length, get_or, take, drop, map, Option, Some, None, option_map, option_and_then, refl, ap, ap₂, sym, ◌∙◌, append_assoc, append-nil, arith, add-one}
-use Rattle.std.specs.Prelude.{if◌then◌else◌, not, cond}
-use Rattle.std.specs.List.{filter}
-use Rattle.std.proofs.lemmas.List.{drop_all}
+use Rattle.std.proofs.Common.{◌≡◌, ◌<◌, ◌≤◌, ◌+◌, ℕ, Bool, true, false, List, [], ◌∷◌, ◌++◌, length, get_or, take, drop, map, Option, Some, None, option_map, option_and_then, refl, ap, sym, ◌∙◌, append_assoc, append-nil, add-one}
+use Rattle.std.specs.Prelude.{if◌then◌else◌, not, cond, ◌&&◌}
+use Rattle.std.specs.List.{filter, list_all}
 use Rattle.arm_value.specs.Json.{Json}
 use Rattle.arm_value.specs.View.{json}
 use Rattle.arm_value.specs.declared.value.Value.{Value}
+use Rattle.arm_value.specs.declared.value.Value.TheVariants.{Null, Bool as Truth, Int, Text, Array, Object}
 use Rattle.arm_value.proofs.JsonLemmas.{map-take-more}
 use Rattle.function_numbers.specs.Kinds.{items_of}
 use Rattle.function_numbers.proofs.RowLemmas.{next_in, none_left}
-use Rattle.function_lists.specs.Items.{joined, distinct, is_among, first_from, last_from, or_found, here}
+use Rattle.function_lists.specs.Items.{joined, distinct, is_among, is_item_of, first_from, last_from, or_found, here}
 use Rattle.arm_value.specs.Same.{is_same}
 
 joined-nil : joined [] ≡ Some []
@@ -75,6 +75,50 @@ pub filter_more : (p : Json → Bool) (kept more : List Json) (vs : List Value) 
     → kept ++ filter p (map json (drop i vs)) ≡ all → more ++ filter p (map json (drop (i + 1) vs)) ≡ all
 filter_more p kept more vs i v all h e m before =
     filter_by (p (json v)) kept more (filter p (map json (drop (i + 1) vs))) (json v) m ∙ ap (λ js. kept ++ filter p js) (sym (next_in vs i v h e)) ∙ before
+
+pub filter_ends : (p : Json → Bool) (kept : List Json) (vs : List Value) (i : ℕ) (all : List Json) → length vs ≤ i → kept ++ filter p (map json (drop i vs)) ≡ all → kept ≡ all
+filter_ends p kept vs i all h before = sym (append-nil kept) ∙ sym (ap (λ js. kept ++ filter p js) (none_left vs i h)) ∙ before
+
+-- ---- items of some arrays
+
+twice_by : (b : Bool) (p q : Json → Bool) (j : Json) (js : List Json) → p j ≡ b → filter (λ k. p k && q k) js ≡ filter q (filter p js) → filter (λ k. p k && q k) (j ∷ js) ≡ filter q (filter p (j ∷ js))
+twice_by true p q j js e h = rw (e, h) refl
+twice_by false p q j js e h = rw e h
+
+filter_twice : (p q : Json → Bool) (js : List Json) → filter (λ j. p j && q j) js ≡ filter q (filter p js)
+filter_twice p q [] = refl
+filter_twice p q (j ∷ js) = twice_by (p j) p q j js refl (filter_twice p q js)
+
+filter_none : (js : List Json) → filter (λ j. true) js ≡ js
+filter_none [] = refl
+filter_none (j ∷ js) = ap (λ ks. j ∷ ks) (filter_none js)
+
+filter_nothing : (js : List Json) → [] ≡ filter (λ j. false) js
+filter_nothing [] = refl
+filter_nothing (j ∷ js) = filter_nothing js
+
+-- no value is an item of what is no array
+pub none_among : (v : Value) (js : List Json) → ((ks : List Json) → v ≡ Array ks → ⊥) → [] ≡ filter (λ j. is_item_of j (json v)) js
+none_among Null js h = filter_nothing js
+none_among (Truth b) js h = filter_nothing js
+none_among (Int z) js h = filter_nothing js
+none_among (Text s) js h = filter_nothing js
+none_among (Array ks) js h = absurd (h ks refl)
+none_among (Object ms) js h = filter_nothing js
+
+-- the items of one more array are kept
+pub common_more : (js kept : List Json) (vs : List Value) (i : ℕ) (v : Value) (all : List Json) → i < length vs → v ≡ get_or vs i v → kept ≡ filter (λ j. is_item_of j (json v)) js
+    → filter (λ j. list_all (is_item_of j) (map json (drop i vs))) js ≡ all → filter (λ j. list_all (is_item_of j) (map json (drop (i + 1) vs))) kept ≡ all
+common_more js kept vs i v all h e is_kept before =
+    let ks = map json (drop (i + 1) vs) in
+    rw is_kept (sym (filter_twice (λ j. is_item_of j (json v)) (λ j. list_all (is_item_of j) ks) js) ∙ ap (λ ls. filter (λ j. list_all (is_item_of j) ls) js) (sym (next_in vs i v h e)) ∙ before)
+
+pub common_ends : (js : List Json) (vs : List Value) (i : ℕ) (all : List Json) → length vs ≤ i → filter (λ j. list_all (is_item_of j) (map json (drop i vs))) js ≡ all → js ≡ all
+common_ends js vs i all h before = sym (filter_none js) ∙ sym (ap (λ ls. filter (λ j. list_all (is_item_of j) ls) js) (none_left vs i h)) ∙ before
+
+-- the values so far, and one more
+pub front_more : (vs : List Value) (i : ℕ) (v : Value) → i < length vs → v ≡ get_or vs i v → map json (take i vs) ++ json v ∷ [] ≡ map json (take (i + 1) vs)
+front_more vs i v h e = sym (rw add-one (map-take-more json vs i v h e))
 
 pub distinct_ends : (kept : List Json) (vs : List Value) (i : ℕ) (all : List Json) → length vs ≤ i → kept ++ distinct (map json (take i vs)) (map json (drop i vs)) ≡ all → kept ≡ all
 distinct_ends kept vs i all h before = sym (append-nil kept) ∙ sym (ap (λ r. kept ++ r) (ap (distinct (map json (take i vs))) (none_left vs i h) ∙ distinct-nil _)) ∙ before

@@ -1,5 +1,5 @@
 -- Names and values in turn, and parts along a path.
-use Rattle.std.proofs.Common.{◌≡◌, ◌<◌, ◌≤◌, ◌+◌, ◌-◌, ℕ, zero, suc, List, [], ◌∷◌, ◌++◌, length, get_or, take, drop, map, Option, Some, None, option_map, option_and_then, refl, ap, ap₂, sym, ◌∙◌, append_assoc, append-nil, arith, codes, true, false}
+use Rattle.std.proofs.Common.{◌≡◌, ◌<◌, ◌≤◌, ◌+◌, ◌-◌, ℕ, suc, List, [], ◌∷◌, ◌++◌, length, get_or, take, drop, map, Option, Some, None, option_map, option_and_then, refl, ap, ap₂, sym, ◌∙◌, append_assoc, append-nil, arith, codes, true, false}
 use Rattle.std.specs.Prelude.{◌==◌}
 use Rattle.std.proofs.lemmas.Bool.Decides.{nat_tests}
 use Rattle.std.specs.Str.{chars}
@@ -11,16 +11,13 @@ use Rattle.function_numbers.specs.Kinds.{text_of}
 use Rattle.function_numbers.proofs.RowLemmas.{next_in, none_left}
 use Rattle.function_lists.specs.Members.{paired, part_of, part_along}
 
-chars_key : chars (codes "key") ≡ codes "key"
+pub chars_key : chars (codes "key") ≡ codes "key"
 unfolding chars
 chars_key = refl
 
-chars_value : chars (codes "value") ≡ codes "value"
+pub chars_value : chars (codes "value") ≡ codes "value"
 unfolding chars
 chars_value = refl
-
-pub key_and_value_put : (k v : Json) (ms ns : List Member) → ms ≡ put (chars (codes "key")) k [] → ns ≡ put (chars (codes "value")) v ms → ns ≡ put (codes "value") v (put (codes "key") k [])
-key_and_value_put k v ms ns a b = b ∙ (λ i. put (chars_value i) v (a i)) ∙ (λ i. put (codes "value") v (put (chars_key i) k []))
 
 -- the first of some values, and those behind it
 pub first_of : (vs : List Value) (v : Value) → 1 ≤ length vs → v ≡ get_or vs 0 v → map json vs ≡ json v ∷ map json (take (length vs - 1) (drop 1 vs))

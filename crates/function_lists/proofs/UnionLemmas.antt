@@ -1,46 +1,26 @@
 -- Objects united: what is put together, and how deep it nests.
-use Rattle.std.proofs.Common.{◌≡◌, ◌<◌, ◌≤◌, ◌+◌, ℕ, zero, suc, max, Bool, true, false, List, [], ◌∷◌, ◌++◌, length, get_or, drop, map, Option, Some, None, option_map, option_and_then, Ordering, Less, Equal, Greater, refl, ap, sym, ◌∙◌, append_assoc, append-nil, arith, add-one, bytes_eq}
+use Rattle.std.proofs.Common.{◌≡◌, ◌<◌, ◌≤◌, ◌+◌, ℕ, zero, suc, Bool, true, false, List, [], ◌∷◌, ◌++◌, length, get_or, drop, map, Option, Some, None, option_and_then, Ordering, Less, Equal, Greater, refl, ap, sym, ◌∙◌, append_assoc, arith, add-one, bytes_eq, subst}
 use Rattle.std.specs.Prelude.{if◌then◌else◌, cond}
 use Rattle.std.specs.Ordering.{match_ordering}
 use Rattle.std.specs.List.{filter}
 use Rattle.std.proofs.Math.Seq.{drop-cons}
 use Rattle.std.proofs.lemmas.List.{drop_all}
-use Rattle.arm_value.specs.Json.{Json, null, bool, int, text, array, object, Row, Pairs, no_pairs, pair, Member, pairs, members, nesting, row_nesting, pairs_nesting, members_nesting, put, put_each, key_cmp}
+use Rattle.arm_value.specs.Json.{Json, null, bool, int, text, array, object, Pairs, no_pairs, pair, Member, pairs, members, nesting, pairs_nesting, members_nesting, put, put_each, key_cmp, IsInOrder}
 use Rattle.arm_value.specs.View.{json, member}
 use Rattle.arm_value.specs.declared.value.Value.{Value}
 use Rattle.arm_value.specs.declared.value.Field.{Field}
 use Rattle.function_numbers.specs.Kinds.{members_of}
 use Rattle.function_numbers.proofs.RowLemmas.{next_in, none_left}
 use Rattle.function_lists.specs.Members.{value_at, object_at, under, updated, united, united_all}
+use Rattle.function_lists.specs.Merge.{below, from, object_first, without_first, united_to}
+use Rattle.function_lists.proofs.MergeLemmas.{merged, steps, from_in_order, without_in_order}
+use Rattle.function_lists.proofs.FieldLemmas.{later_keys_above}
 
 pub next_field : (fs : List Field) (i : ℕ) (f : Field) → i < length fs → f ≡ get_or fs i f → map member (drop i fs) ≡ member f ∷ map member (drop (i + 1) fs)
 next_field fs i f h e = rw (add-one, drop-cons fs i f h) (ap (λ (g : Field). member g ∷ map member (drop (suc i) fs)) (sym e))
 
 pub no_field_left : (fs : List Field) (i : ℕ) → length fs ≤ i → map member (drop i fs) ≡ []
 no_field_left fs i h = ap (map member) (drop_all i fs h)
-
--- ---- the value at a key
-
-at-cons : (k : List ℕ) (m : Member) (ms : List Member) → value_at k (m ∷ ms) ≡ (if bytes_eq k m.0 then Some m.1 else value_at k ms)
-unfolding value_at
-at-cons k m ms = refl
-
-at-nil : (k : List ℕ) → value_at k [] ≡ None
-unfolding value_at
-at-nil k = refl
-
-pub at_found : (k : List ℕ) (fs : List Field) (i : ℕ) (f : Field) (all : Option Json) → i < length fs → f ≡ get_or fs i f → bytes_eq k f.name ≡ true → value_at k (map member (drop i fs)) ≡ all → Some (json f.value) ≡ all
-at_found k fs i f all h e t before =
-    let step : value_at k (map member (drop i fs)) ≡ Some (json f.value) = ap (value_at k) (next_field fs i f h e) ∙ at-cons k (member f) (map member (drop (i + 1) fs)) ∙ rw t refl in
-    sym step ∙ before
-
-pub at_more : (k : List ℕ) (fs : List Field) (i : ℕ) (f : Field) (all : Option Json) → i < length fs → f ≡ get_or fs i f → bytes_eq k f.name ≡ false → value_at k (map member (drop i fs)) ≡ all → value_at k (map member (drop (i + 1) fs)) ≡ all
-at_more k fs i f all h e t before =
-    let step : value_at k (map member (drop i fs)) ≡ value_at k (map member (drop (i + 1) fs)) = ap (value_at k) (next_field fs i f h e) ∙ at-cons k (member f) (map member (drop (i + 1) fs)) ∙ rw t refl in
-    sym step ∙ before
-
-pub at_ends : (k : List ℕ) (fs : List Field) (i : ℕ) (all : Option Json) → length fs ≤ i → value_at k (map member (drop i fs)) ≡ all → None ≡ all
-at_ends k fs i all h before = sym (ap (value_at k) (no_field_left fs i h) ∙ at-nil k) ∙ before
 
 -- ---- how deep a union nests
 
@@ -87,7 +67,7 @@ put_each_nests : (ms ns : List Member) (n : ℕ) → members_nesting ms ≤ n �
 put_each_nests ms [] n h g = h
 put_each_nests ms (m ∷ ns) n h g = put_each_nests (put m.0 m.1 ms) ns n (put_nests m.0 m.1 ms n (omega arith) h) (omega arith)
 
-append_nests : (ms ns : List Member) (n : ℕ) → members_nesting ms ≤ n → members_nesting ns ≤ n → members_nesting (ms ++ ns) ≤ n
+pub append_nests : (ms ns : List Member) (n : ℕ) → members_nesting ms ≤ n → members_nesting ns ≤ n → members_nesting (ms ++ ns) ≤ n
 append_nests [] ns n h g = g
 append_nests (m ∷ ms) ns n h g = let rest = append_nests ms ns n (omega arith) g in omega arith
 
@@ -113,21 +93,30 @@ mutual
       let rest = updated_nests ms ns n h (omega arith) in
       omega arith
 
--- one more member of the second
-pub united_more : (ms kept more : List Member) (fs : List Field) (i : ℕ) (f : Field) (j : Json) (all : List Member) → i < length fs → f ≡ get_or fs i f → j ≡ under (object_at f.name ms) (json f.value) → more ≡ kept ++ (f.name, j) ∷ []
-    → kept ++ updated ms (pairs (map member (drop i fs))) ≡ all → more ++ updated ms (pairs (map member (drop (i + 1) fs))) ≡ all
-united_more ms kept more fs i f j all h e is_j grown before =
-    let ns = map member (drop (i + 1) fs) in
-    let step : updated ms (pairs (map member (drop i fs))) ≡ (f.name, j) ∷ updated ms (pairs ns) = ap (λ os. updated ms (pairs os)) (next_field fs i f h e) ∙ ap (λ (k : Json). (f.name, k) ∷ updated ms (pairs ns)) (sym is_j) in
-    rw grown (append_assoc kept ((f.name, j) ∷ []) (updated ms (pairs ns)) ∙ ap (λ r. kept ++ r) (sym step) ∙ before)
+-- a union of two objects nests no deeper than they do
+pub united_nests : (ms : List Member) (ns : Pairs) → members_nesting ms ≤ 119 → pairs_nesting ns ≤ 119 → members_nesting (united ms ns) ≤ 119
+united_nests ms ns h g = put_each_nests [] (ms ++ updated ms ns) 119 (omega arith) (append_nests ms (updated ms ns) 119 h (updated_nests ms ns 119 h g))
 
-pub united_stays : (ms kept more : List Member) (f : Field) (j : Json) → members_nesting ms ≤ 119 → members_nesting kept ≤ 119 → nesting (json f.value) ≤ 119 → j ≡ under (object_at f.name ms) (json f.value) → more ≡ kept ++ (f.name, j) ∷ [] → members_nesting more ≤ 119
-united_stays ms kept more f j h g v is_j grown =
-    let deep : nesting j ≤ 119 = rw is_j (under_nests (object_at f.name ms) (json f.value) 119 (object_nests (value_at f.name ms) 119 (at_nests f.name ms 119 h)) v) in
-    rw grown (append_nests kept ((f.name, j) ∷ []) 119 g (omega arith))
+-- ---- one member of the second after another
 
-pub united_ends : (ms kept : List Member) (fs : List Field) (i : ℕ) (all : List Member) → length fs ≤ i → kept ++ updated ms (pairs (map member (drop i fs))) ≡ all → kept ≡ all
-united_ends ms kept fs i all h before = sym (append-nil kept) ∙ sym (ap (λ os. kept ++ updated ms (pairs os)) (no_field_left fs i h)) ∙ before
+-- the members so far, and what the rest of the first makes with the rest of the second
+pub united_more : (kept more ms rest : List Member) (fs : List Field) (i : ℕ) (f : Field) (all : List Member) → i < length fs → f ≡ get_or fs i f → IsInOrder ms → IsInOrder (map member fs)
+    → more ≡ kept ++ united_to f.name (json f.value) ms → rest ≡ without_first f.name (from f.name ms)
+    → kept ++ merged ms (pairs (map member (drop i fs))) ≡ all → more ++ merged rest (pairs (map member (drop (i + 1) fs))) ≡ all
+united_more kept more ms rest fs i f all h e o p grown is_rest before =
+    let k = f.name in
+    let v = json f.value in
+    let ns = pairs (map member (drop (i + 1) fs)) in
+    let here : Member = (k, under (object_first k (from k ms)) v) in
+    let after = merged (without_first k (from k ms)) ns in
+    let step : merged ms (pairs (map member (drop i fs))) ≡ below k ms ++ here ∷ after = ap (λ os. merged ms (pairs os)) (next_field fs i f h e) ∙ steps k v ms ns o (later_keys_above fs i f p h e) in
+    rw (grown, is_rest) (append_assoc kept (below k ms ++ here ∷ []) after ∙ ap (λ r. kept ++ r) (append_assoc (below k ms) (here ∷ []) after ∙ sym step) ∙ before)
+
+pub rest_in_order : (k : List ℕ) (ms rest : List Member) → IsInOrder ms → rest ≡ without_first k (from k ms) → IsInOrder rest
+rest_in_order k ms rest o is_rest = subst IsInOrder (sym is_rest) (without_in_order k (from k ms) (from_in_order k ms o))
+
+pub united_ends : (kept ms : List Member) (fs : List Field) (i : ℕ) (all : List Member) → length fs ≤ i → kept ++ merged ms (pairs (map member (drop i fs))) ≡ all → kept ++ ms ≡ all
+united_ends kept ms fs i all h before = sym (ap (λ os. kept ++ merged ms (pairs os)) (no_field_left fs i h)) ∙ before
 
 -- ---- one object after another
 

@@ -1,7 +1,7 @@
 -- The functions on the ends of arrays and texts (Microsoft Learn: ARM template functions, array and string).
 use Rattle.std.specs.Prelude.{ℕ, ◌-◌, ℤ, pos, negsuc, List, [], ◌∷◌, length, slice_get, Option, Some, None}
 use Rattle.std.specs.Prelude as prelude
-use Rattle.arm_value.specs.Json.{Json, null, bool, int, text, array, object, items}
+use Rattle.arm_value.specs.Json.{Json, int, text, array, items}
 use Rattle.function_numbers.specs.Kinds.{of_one, of_two}
 use Rattle.function_lists.specs.Values.{array_of, or_null}
 

@@ -1,9 +1,9 @@
 -- The functions on the items of arrays (Microsoft Learn: ARM template functions, array).
-use Rattle.std.specs.Prelude.{ℕ, zero, suc, ℤ, pos, negsuc, Bool, true, false, List, [], ◌∷◌, ◌++◌, ◌+◌, Option, Some, None, option_map, option_and_then, if◌then◌else◌}
+use Rattle.std.specs.Prelude.{ℕ, pos, negsuc, Bool, true, false, List, [], ◌∷◌, ◌++◌, ◌+◌, Option, Some, None, option_map, option_and_then, if◌then◌else◌}
 use Rattle.std.specs.List.{list_any, list_all, filter}
-use Rattle.arm_value.specs.Json.{Json, null, bool, int, text, array, object, items}
+use Rattle.arm_value.specs.Json.{Json, int, array, items}
 use Rattle.arm_value.specs.Same.{is_same}
-use Rattle.function_numbers.specs.Kinds.{items_of, of_one, of_two}
+use Rattle.function_numbers.specs.Kinds.{items_of, of_one}
 use Rattle.function_lists.specs.Values.{array_of}
 
 -- an array itself, else the array of the value alone

@@ -1,8 +1,8 @@
 -- The functions on objects (Microsoft Learn: ARM template functions, object).
-use Rattle.std.specs.Prelude.{ℕ, ℤ, pos, negsuc, bytes_eq, ◌&&◌, codes, Bool, true, false, List, [], ◌∷◌, ◌++◌, map, slice_get, Option, Some, None, option_map, option_and_then, if◌then◌else◌, is_some}
+use Rattle.std.specs.Prelude.{ℕ, ℤ, pos, negsuc, bytes_eq, ◌&&◌, codes, Bool, true, false, List, [], ◌∷◌, ◌++◌, map, slice_get, Option, Some, None, option_map, option_and_then, if◌then◌else◌}
 use Rattle.std.specs.List.{list_any, list_all, filter}
-use Rattle.arm_value.specs.Json.{Json, null, bool, int, text, array, object, Pairs, no_pairs, pair, Member, items, members, pairs, put, put_each}
-use Rattle.arm_value.specs.Look.{look_in, first_by, is_same_folded}
+use Rattle.arm_value.specs.Json.{Json, null, int, text, array, object, Pairs, no_pairs, pair, Member, items, members, pairs, put, put_each}
+use Rattle.arm_value.specs.Look.{look_in, is_same_folded}
 use Rattle.arm_value.specs.Same.{is_same}
 use Rattle.function_numbers.specs.Kinds.{text_of, members_of, of_one}
 use Rattle.function_lists.specs.Values.{array_of, object_of, or_null}

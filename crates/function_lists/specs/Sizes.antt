@@ -1,5 +1,5 @@
 -- The functions on sizes (Microsoft Learn: ARM template functions, array).
-use Rattle.std.specs.Prelude.{ℕ, ◌==◌, pos, Bool, true, false, List, [], ◌∷◌, length, Option, Some, None, option_map, option_and_then}
+use Rattle.std.specs.Prelude.{ℕ, ◌==◌, Bool, true, List, length, Option, Some, None, option_map, option_and_then}
 use Rattle.arm_value.specs.Json.{Json, null, bool, int, text, array, object, items, members}
 use Rattle.function_numbers.specs.Kinds.{of_one}
 use Rattle.function_numbers.specs.Numbers.{from_zero}

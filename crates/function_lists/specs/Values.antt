@@ -1,5 +1,5 @@
 -- Values that functions make: those that nest at most 120.
-use Rattle.std.specs.Prelude.{ℕ, nat_le, List, [], Option, Some, None, if◌then◌else◌}
+use Rattle.std.specs.Prelude.{nat_le, List, [], Option, Some, None, if◌then◌else◌}
 use Rattle.arm_value.specs.Json.{Json, null, array, object, row, pairs, nesting, put_each, Member}
 
 -- the value, where it nests at most 120

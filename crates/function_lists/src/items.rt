@@ -5,13 +5,16 @@ ghost use Rattle.arm_value.specs.Json.{Json};
 ghost use Rattle.arm_value.specs.View.{json};
 ghost use Rattle.function_numbers.specs.Kinds.{items_of};
 ghost use Rattle.function_lists.specs.Values.{array_of};
+ghost use Rattle.function_lists.specs.Index.{IsIndexOf};
 ghost use Rattle.function_lists.specs.Items as row;
 ghost use Rattle.function_lists.specs.Items.{as_array, joined, is_among, distinct, is_array, is_item_of, or_found, here, first_place, last_place};
 
+use crate::index::{add, has, texts_of};
 use crate::values::{array_of, copies};
 use arm_value::{Items, OutOfMemory, Value};
 use function_numbers::kinds::items_of;
 use std::alloc::Global;
+use std::collections::BTreeSet;
 
 fn alone(alloc: Global, value: &Value) -> Result<Option<Value>, OutOfMemory>
     ensures { IfOk result (λ array. option_map json array ≡ array_of (json value.now ∷ [])) }
@@ -130,13 +133,16 @@ fn add_passing(
 }
 
 /// The values that are equal to none before them.
+///
+/// It takes time in the order of n log n comparisons of texts, for n values.
 pub fn distinct(alloc: Global, values: &[Value]) -> Result<Vec<Value>, OutOfMemory>
     ensures { IfOk result (λ all. map json all.items ≡ distinct [] (map json values.now)) }
 {
     let mut all = Vec::new(alloc);
-    for i in 0..values.len() {
-        let value = &values[i];
-        add_passing(alloc, &mut all, value, !is_among(&values[..i], value))?;
+    let mut before = BTreeSet::new(alloc);
+    for value in values {
+        let is_new = add(alloc, &mut before, value)?;
+        add_passing(alloc, &mut all, value, is_new)?;
     }
     Ok(all)
 }
@@ -171,35 +177,47 @@ fn are_arrays(values: &[Value]) -> bool
     true
 }
 
-#[tactic(auto, using(function_numbers::proofs::RowLemmas::items_of_row))]
-fn is_item_of(item: &Value, array: &Value) -> bool
-    ensures { result ≡ is_item_of (json item.now) (json array.now) }
-{
-    match array {
-        Value::Array(items) => is_among(items.as_slice(), item),
-        _ => false,
-    }
-}
-
-fn is_in_all(item: &Value, arrays: &[Value]) -> bool
-    ensures { result ≡ list_all (is_item_of (json item.now)) (map json arrays.now) }
-{
-    for array in arrays {
-        if !is_item_of(item, array) {
-            return false;
-        }
-    }
-    true
-}
-
-// Copies of the values that are in all these arrays.
-fn common(alloc: Global, values: &[Value], arrays: &[Value]) -> Result<Vec<Value>, OutOfMemory>
-    ensures { IfOk result (λ all. map json all.items
-        ≡ filter (λ j. list_all (is_item_of j) (map json arrays.now)) (map json values.now)) }
+// Copies of the values that are among those whose texts these are.
+fn indexed(
+    alloc: Global,
+    values: &[Value],
+    texts: &BTreeSet<Vec<u8>>,
+) -> Result<Vec<Value>, OutOfMemory>
+    ensures { (js : List Json) → IsIndexOf texts.now js
+        → IfOk result (λ all. map json all.items ≡ filter (is_among js) (map json values.now)) }
 {
     let mut all = Vec::new(alloc);
     for value in values {
-        add_passing(alloc, &mut all, value, is_in_all(value, arrays))?;
+        let passes = has(alloc, texts, value)?;
+        add_passing(alloc, &mut all, value, passes)?;
+    }
+    Ok(all)
+}
+
+// Copies of the values that are items of the array.
+#[tactic(auto, using(function_numbers::proofs::RowLemmas::items_of_row))]
+fn items_among(alloc: Global, values: &[Value], array: &Value) -> Result<Vec<Value>, OutOfMemory>
+    ensures { IfOk result (λ all. map json all.items
+        ≡ filter (λ j. is_item_of j (json array.now)) (map json values.now)) }
+{
+    match array {
+        Value::Array(items) => {
+            let texts = texts_of(alloc, items.as_slice())?;
+            indexed(alloc, values, &texts)
+        }
+        _ => Ok(Vec::new(alloc)),
+    }
+}
+
+// The values that are in all these arrays.
+fn common(alloc: Global, values: Vec<Value>, arrays: &[Value]) -> Result<Vec<Value>, OutOfMemory>
+    ensures { IfOk result (λ all. map json all.items
+        ≡ filter (λ j. list_all (is_item_of j) (map json arrays.now)) (map json values.items)) }
+{
+    let mut all = values;
+    for array in arrays {
+        let kept = items_among(alloc, all.as_slice(), array)?;
+        all = kept;
     }
     Ok(all)
 }
@@ -217,7 +235,7 @@ pub fn intersection_of_arrays(
         return Ok(None);
     }
     let values = distinct(alloc, items)?;
-    Ok(array_of(common(alloc, values.as_slice(), others)?))
+    Ok(array_of(common(alloc, values, others)?))
 }
 
 // The place, where it passes, else what was found before.

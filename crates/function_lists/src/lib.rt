@@ -8,9 +8,11 @@
 
 pub mod characters;
 mod ends;
+mod index;
 pub mod items;
 pub mod laws;
 pub mod members;
+mod merge;
 mod parts;
 pub mod sizes;
 mod unions;
@@ -24,6 +26,3 @@ pub use members::{create_object, object_items, object_keys};
 pub use parts::try_get;
 pub use sizes::{empty, size};
 pub use unions::{intersection, union};
-
-#[cfg(test)]
-mod tests;

@@ -1,7 +1,7 @@
 // The members of objects, and parts of values.
-ghost use Rattle.std.specs.Prelude.{◌≡◌, ◌≤◌, ◌++◌, ◌∷◌, [], Some, None, List, Option, chars, bytes_eq, map, option_map, option_and_then, IfOk, OnOk, slice_get};
+ghost use Rattle.std.specs.Prelude.{◌≡◌, ◌≤◌, ◌++◌, ◌∷◌, [], Some, None, List, Option, chars, bytes_eq, map, option_map, option_and_then, IfOk, OnOk, slice_get, codes};
 ghost use Rattle.std.specs.List.{list_all, list_any, filter};
-ghost use Rattle.arm_value.specs.Json.{Json, Member, text, nesting, members_nesting};
+ghost use Rattle.arm_value.specs.Json.{Json, Member, text, nesting, members_nesting, put};
 ghost use Rattle.arm_value.specs.View.{json, member};
 ghost use Rattle.function_lists.specs.Values.{array_of, object_of};
 ghost use Rattle.arm_value.specs.Look.{is_same_folded};
@@ -43,14 +43,33 @@ pub fn object_keys(alloc: Global, args: &[Value]) -> Result<Option<Value>, OutOf
     }
 }
 
+// Puts the member's name among the parts, as `key`.
+fn set_key(alloc: Global, parts: &mut Fields, field: &Field) -> Result<(), OutOfMemory>
+    ensures { OnOk result (parts.new ≡ put (codes "key") (text field.now.name) parts.old) }
+{
+    let name = field.name.copy(alloc)?;
+    parts.set(alloc, "key", Value::Text(name))?;
+    Ok(())
+}
+
+// Puts the member's value among the parts, as `value`.
+fn set_value(alloc: Global, parts: &mut Fields, field: &Field) -> Result<(), OutOfMemory>
+    requires { nesting (json field.now.value) ≤ 119 }
+    ensures { OnOk result (parts.new ≡ put (codes "value") (json field.now.value) parts.old) }
+{
+    let value = field.value.copy(alloc)?;
+    parts.set(alloc, "value", value)?;
+    Ok(())
+}
+
 // The object of a member's name and value.
 fn key_and_value(alloc: Global, field: &Field) -> Result<Value, OutOfMemory>
     requires { nesting (json field.now.value) ≤ 119 }
     ensures { IfOk result (λ value. json value ≡ key_and_value (member field.now)) }
 {
     let mut parts = Fields::new();
-    parts.set(alloc, "key", Value::Text(field.name.copy(alloc)?))?;
-    parts.set(alloc, "value", field.value.copy(alloc)?)?;
+    set_key(alloc, &mut parts, field)?;
+    set_value(alloc, &mut parts, field)?;
     Ok(Value::Object(parts))
 }
 

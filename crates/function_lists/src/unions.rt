@@ -1,74 +1,74 @@
 // Unions and intersections.
 ghost use Rattle.std.specs.Prelude.{◌≡◌, ◌≤◌, ◌++◌, ◌∷◌, [], ◌&&◌, bytes_eq, map, option_map, IfOk, OnOk, if◌then◌else◌};
 ghost use Rattle.std.specs.List.{list_any, list_all, filter};
-ghost use Rattle.arm_value.specs.Json.{object, pairs};
+ghost use Rattle.arm_value.specs.Json.{object, pairs, IsInOrder};
 ghost use Rattle.arm_value.specs.Same.{is_same};
 ghost use Rattle.arm_value.specs.View.{json, member};
+ghost use Rattle.function_lists.specs.Merge.{from, without_first, united_to};
 ghost use Rattle.function_lists.specs.Members as row;
-ghost use Rattle.function_lists.specs.Members.{value_at, object_at, under, united, united_all, union_by, is_object, is_member_of, intersection_with};
+ghost use Rattle.function_lists.specs.Members.{under, united, united_all, union_by, is_object, is_member_of, intersection_with};
 
 use crate::items::{intersection_of_arrays, union_of_arrays};
+use crate::merge::{all_in_object, compare, move_below, push_named, take_object};
 use crate::values::object_of;
-use arm_value::{Field, Fields, OutOfMemory, Text, Value};
+use arm_value::{Field, Fields, OutOfMemory, Value};
 use function_numbers::kinds::members_of;
 use std::alloc::Global;
-
-// The value at exactly this name.
-fn value_at<'a>(fields: &'a Fields, name: &Text) -> Option<&'a Value>
-    ensures { option_map (λ v. json v.now) result ≡ value_at name.now fields.now }
-{
-    for field in fields.as_slice() {
-        if name.same(&field.name) {
-            return Some(&field.value);
-        }
-    }
-    None
-}
-
-fn field_copies(alloc: Global, fields: &[Field]) -> Result<Vec<Field>, OutOfMemory>
-    ensures { IfOk result (λ copies. map member copies.items ≡ map member fields.now) }
-{
-    let mut copies = Vec::new(alloc);
-    for field in fields {
-        copies.push(Field {
-            name: field.name.copy(alloc)?,
-            value: field.value.copy(alloc)?,
-        })?;
-    }
-    Ok(copies)
-}
-
-// The members of the object at exactly this name.
-fn object_at<'a>(fields: &'a Fields, name: &Text) -> Option<&'a Fields>
-    ensures { option_map (λ f. f.now) result ≡ object_at name.now fields.now }
-{
-    members_of(value_at(fields, name)?)
-}
+use std::collections::VecDeque;
 
 // The members of both, of which those of the second win.
+//
+// The members of both are in the order of their names, so that one pass unites them.
 #[cycle(union)]
-fn united(alloc: Global, first: &Fields, second: &Fields) -> Result<Fields, OutOfMemory>
-    ensures { IfOk result (λ fields. fields ≡ united first.now (pairs second.now)) }
+fn united(alloc: Global, first: Fields, second: &Fields) -> Result<Fields, OutOfMemory>
+    ensures { IfOk result (λ fields. fields ≡ united first (pairs second.now)) }
 {
-    let mut members = field_copies(alloc, first.as_slice())?;
+    let depth = first.depth();
+    prove!(depth <= 119);
+    let mut rest = VecDeque::from_vec(first.into_vec(alloc));
+    let mut members = Vec::new(alloc);
     for field in second.as_slice() {
-        let value = under(alloc, object_at(first, &field.name), &field.value)?;
-        let name = field.name.copy(alloc)?;
-        members.push(Field { name, value })?;
+        add_united(alloc, &mut rest, &mut members, field)?;
     }
-    let fields = Fields::from_members(alloc, members)?;
-    Ok(fields)
+    all_in_object(alloc, rest, members)
 }
 
-// Two objects are united; else the second value stands.
+// Moves the members whose names come before that of the field, and adds a member of its name: its
+// value, united with the object that the first has there.
 #[cycle(union)]
-fn under(alloc: Global, first: Option<&Fields>, second: &Value) -> Result<Value, OutOfMemory>
-    ensures { IfOk result (λ value. json value ≡ under (option_map (λ f. f.now) first.entry) (json second.now)) }
+fn add_united(
+    alloc: Global,
+    rest: &mut VecDeque<Field>,
+    members: &mut Vec<Field>,
+    field: &Field,
+) -> Result<(), OutOfMemory>
+    ensures members { OnOk result (map member members.new.items
+        ≡ map member members.old.items ++ united_to field.now.name (json field.now.value) (map member rest.old.items)) }
+    ensures rest { OnOk result (map member rest.new.items
+        ≡ without_first field.now.name (from field.now.name (map member rest.old.items))) }
+{
+    move_below(rest, members, &field.name)?;
+    let value = under(alloc, take_object(rest, &field.name), &field.value)?;
+    push_named(alloc, members, &field.name, value)
+}
+
+// A copy of the value, after the drop of another one.
+fn copy_after<T: Drop>(alloc: Global, dropped: T, value: &Value) -> Result<Value, OutOfMemory>
+    ensures { IfOk result (λ copy. json copy ≡ json value.now) }
+{
+    drop(dropped);
+    value.copy(alloc)
+}
+
+// Two objects are united; else the second value wins.
+#[cycle(union)]
+fn under(alloc: Global, first: Option<Fields>, second: &Value) -> Result<Value, OutOfMemory>
+    ensures { IfOk result (λ value. json value ≡ under first (json second.now)) }
 {
     match first {
         Some(old) => match second {
             Value::Object(new) => Ok(Value::Object(united(alloc, old, new)?)),
-            _ => second.copy(alloc),
+            _ => copy_after(alloc, old, second),
         },
         None => second.copy(alloc),
     }
@@ -84,10 +84,7 @@ fn united_all(
     let mut all = first.copy(alloc)?;
     for other in others {
         match members_of(other) {
-            Some(fields) => {
-                let next = united(alloc, &all, fields)?;
-                all = next;
-            }
+            Some(fields) => all = united(alloc, all, fields)?,
             None => return Ok(None),
         }
     }
@@ -155,21 +152,16 @@ fn are_objects(values: &[Value]) -> bool
     true
 }
 
-fn is_equal(field: &Field, other: &Field) -> bool
-    ensures { result ≡ (bytes_eq field.now.name other.now.name && is_same (json field.now.value) (json other.now.value)) }
-{
-    field.name.same(&other.name) && field.value.same(&other.value)
-}
-
+// Whether one of these, which are in the order of their names, has the name and an equal value.
 fn has_field(fields: &[Field], field: &Field) -> bool
-    ensures { result ≡ list_any (λ n. bytes_eq field.now.name n.0 && is_same (json field.now.value) n.1) (map member fields.now) }
+    requires { IsInOrder (map member fields.now) }
+    ensures { result ≡ list_any (λ n. bytes_eq field.now.name n.0 && is_same (json field.now.value) n.1)
+        (map member fields.now) }
 {
-    for other in fields {
-        if is_equal(field, other) {
-            return true;
-        }
+    match fields.binary_search_by(|other| compare(other, &field.name)) {
+        Ok(place) => field.value.same(&fields[place].value),
+        Err(_) => false,
     }
-    false
 }
 
 #[tactic(auto, using(function_numbers::proofs::RowLemmas::members_of_pairs))]

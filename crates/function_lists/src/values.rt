@@ -1,10 +1,11 @@
 //! Values of at most 120 levels.
-ghost use Rattle.std.specs.Prelude.{◌≡◌, ◌≤◌, [], nat_le, map, option_map, IfOk, Some, None, if◌then◌else◌};
-ghost use Rattle.arm_value.specs.Json.{put_each, members_nesting};
+ghost use Rattle.std.specs.Prelude.{◌≡◌, [], map, option_map, IfOk};
+ghost use Rattle.arm_value.specs.Json.{object, pairs, put_each, IsInOrder};
 ghost use Rattle.arm_value.specs.View.{json, member, entry};
-ghost use Rattle.function_lists.specs.Values.{array_of, object_of, or_null};
+ghost use Rattle.function_lists.specs.Values.{array_of, capped, object_of, or_null};
 
-use arm_value::{Field, Fields, Items, OutOfMemory, Text, Value, deepest_item};
+use crate::merge::in_object;
+use arm_value::{Field, Items, OutOfMemory, Text, Value, deepest_item, deepest_member};
 use std::alloc::Global;
 use std::collections::BTreeMap;
 
@@ -30,19 +31,31 @@ fn sorted(alloc: Global, members: Vec<Field>) -> Result<BTreeMap<String, Value>,
     Ok(sorted)
 }
 
-// The members of values that stand by their names; none where one nests above 119.
-fn in_order(alloc: Global, sorted: BTreeMap<String, Value>) -> Result<Option<Fields>, OutOfMemory>
-    ensures { IfOk result (λ fields. fields ≡ (if nat_le (members_nesting (map entry sorted.entries)) 119
-        then Some (map entry sorted.entries) else None)) }
+// The members of values that are listed by their names.
+fn in_order(alloc: Global, sorted: BTreeMap<String, Value>) -> Result<Vec<Field>, OutOfMemory>
+    ensures { IfOk result (λ members. map member members.items ≡ map entry sorted.entries) }
 {
-    let mut fields = Fields::new();
+    let mut members = Vec::new(alloc);
     for (name, value) in sorted {
-        if value.nesting() > 119 {
-            return Ok(None);
-        }
-        fields.push_last(alloc, Text::from_string(name), value)?;
+        members.push(Field {
+            name: Text::from_string(name),
+            value,
+        })?;
     }
-    Ok(Some(fields))
+    Ok(members)
+}
+
+// The object of members in the order of their names; none where it would nest above 120.
+#[tactic(auto, using(crate::proofs::ValueLemmas::is_capped, crate::proofs::ValueLemmas::is_not_capped))]
+fn capped_object(alloc: Global, members: Vec<Field>) -> Result<Option<Value>, OutOfMemory>
+    requires { IsInOrder (map member members.items) }
+    ensures { IfOk result (λ value. option_map json value ≡ capped (object (pairs (map member members.items)))) }
+{
+    if deepest_member(members.as_slice()) > 119 {
+        return Ok(None);
+    }
+    let fields = in_object(alloc, members)?;
+    Ok(Some(Value::Object(fields)))
 }
 
 /// The object of these members, of which a later one wins over an earlier one of its name; none
@@ -53,10 +66,8 @@ pub fn object_of(alloc: Global, members: Vec<Field>) -> Result<Option<Value>, Ou
     ensures { IfOk result (λ value. option_map json value ≡ object_of (map member members.items)) }
 {
     let sorted = sorted(alloc, members)?;
-    match in_order(alloc, sorted)? {
-        Some(fields) => Ok(Some(Value::Object(fields))),
-        None => Ok(None),
-    }
+    let members = in_order(alloc, sorted)?;
+    capped_object(alloc, members)
 }
 
 /// The same values again.

@@ -21,6 +21,3 @@ pub use extremes::{max, min};
 pub use logic::{always_false, always_null, always_true, not, to_bool};
 pub use numeral::to_int;
 pub use sequence::range;
-
-#[cfg(test)]
-mod tests;

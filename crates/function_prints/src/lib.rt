@@ -17,6 +17,3 @@ pub use joining::{concat, join};
 pub use padding::pad_left;
 pub use printed::to_text;
 pub use stated::read_json;
-
-#[cfg(test)]
-mod tests;

@@ -1,7 +1,7 @@
 -- The functions that cut texts (Microsoft Learn: ARM template functions, string).
-use Rattle.std.specs.Prelude.{ℕ, zero, suc, ◌+◌, ◌-◌, ◌==◌, nat_le, pos, negsuc, Bool, true, false, List, [], ◌∷◌, ◌++◌, length, take, drop, map, Option, Some, None, option_map, option_and_then, if◌then◌else◌, not, ◌&&◌}
-use Rattle.std.specs.List.{list_all}
-use Rattle.arm_value.specs.Json.{Json, null, bool, int, text, array, object, items}
+use Rattle.std.specs.Prelude.{ℕ, zero, suc, ◌+◌, ◌<◌, ◌≡◌, ◌==◌, nat_le, pos, Bool, List, [], ◌∷◌, ◌++◌, length, take, drop, map, Option, Some, None, option_map, option_and_then, if◌then◌else◌, not, ◌&&◌}
+use Rattle.std.specs.List.{list_all, flat_map}
+use Rattle.arm_value.specs.Json.{Json, int, text, array, items}
 use Rattle.function_numbers.specs.Kinds.{text_of, of_two}
 use Rattle.function_lists.specs.Values.{array_of}
 use Rattle.function_texts.specs.Places.{begins}
@@ -31,15 +31,69 @@ substring (j ∷ k ∷ []) = cut j k
 substring (j ∷ k ∷ l ∷ []) = cut_part j k l
 substring _ = None
 
--- the characters with each part replaced, from the left, behind so many that are left out
-unfoldable pub replaced : List ℕ → List ℕ → ℕ → List ℕ → List ℕ
-replaced old new skipped [] = []
-replaced old new (suc n) (c ∷ cs) = replaced old new n cs
-replaced old new zero (c ∷ cs) = if begins old (c ∷ cs) then new ++ replaced old new (length old - 1) cs else c ∷ replaced old new 0 cs
+-- the first of the delimiters that the characters begin with
+unfoldable pub delimiter_at : List (List ℕ) → List ℕ → Option (List ℕ)
+delimiter_at [] s = None
+delimiter_at (d ∷ ds) s = if begins d s then Some d else delimiter_at ds s
+
+-- a text cut at a delimiter: what is before it, the delimiter, and what is after it
+pub record Cut : Type 0 where
+  pub before : List ℕ
+  pub delimiter : List ℕ
+  pub after : List ℕ
+
+-- the cut of a text at the first place where a delimiter begins, and at the first delimiter that begins there
+pub record IsFirstCut (ds : List (List ℕ)) (s : List ℕ) (cut : Cut) : Type 0 where
+  pub whole : s ≡ cut.before ++ (cut.delimiter ++ cut.after)
+  pub there : delimiter_at ds (cut.delimiter ++ cut.after) ≡ Some cut.delimiter
+  pub none_before : (place : ℕ) → place < length cut.before → delimiter_at ds (drop place s) ≡ None
+
+-- no delimiter begins in the text
+abbrev pub IsUncut : List (List ℕ) → List ℕ → Type 0
+IsUncut ds s = (place : ℕ) → place < length s → delimiter_at ds (drop place s) ≡ None
+
+-- The pieces of a text are what is before its first cut, and the pieces of what is after it; without a cut, the text.
+unfoldable pub ArePieces : List (List ℕ) → List ℕ → List (List ℕ) → Type 0
+ArePieces ds s [] = ⊥
+ArePieces ds s (p ∷ []) = IsUncut ds s × (p ≡ s)
+ArePieces ds s (p ∷ q ∷ ps) = (cut : Cut) × IsFirstCut ds s cut × (p ≡ cut.before) × ArePieces ds cut.after (q ∷ ps)
+
+-- the cut at the first character, where a delimiter begins there, else the later cut with the character before it
+abbrev pub cut_here : Option (List ℕ) → ℕ → List ℕ → Option Cut → Option Cut
+cut_here (Some d) c cs later = Some (record { before = []; delimiter = d; after = drop (length d) (c ∷ cs) })
+cut_here None c cs later = option_map (λ k. record { before = c ∷ k.before; delimiter = k.delimiter; after = k.after }) later
+
+-- the first cut of a text, if there is one
+unfoldable pub first_cut : List (List ℕ) → List ℕ → Option Cut
+first_cut ds [] = None
+first_cut ds (c ∷ cs) = cut_here (delimiter_at ds (c ∷ cs)) c cs (first_cut ds cs)
+
+-- what is before a cut, and the pieces of what is after it; without a cut, the text
+abbrev pub cut_at : Option Cut → List ℕ → (List ℕ → List (List ℕ)) → List (List ℕ)
+cut_at None s pieces_after = s ∷ []
+cut_at (Some k) s pieces_after = k.before ∷ pieces_after k.after
+
+-- the pieces of a text that is cut at most n times
+unfoldable pub pieces_within : ℕ → List (List ℕ) → List ℕ → List (List ℕ)
+pieces_within zero ds s = s ∷ []
+pieces_within (suc n) ds s = cut_at (first_cut ds s) s (pieces_within n ds)
+
+-- the pieces of a text between the delimiters
+unfoldable pub pieces : List (List ℕ) → List ℕ → List (List ℕ)
+pieces ds s = pieces_within (length s) ds s
+
+-- the pieces with a text between them
+abbrev pub joined : List ℕ → List (List ℕ) → List ℕ
+joined between [] = []
+joined between (p ∷ ps) = p ++ flat_map (λ q. between ++ q) ps
+
+-- the text with each part replaced: cut at the part, and joined with the other text
+unfoldable pub replaced : List ℕ → List ℕ → List ℕ → List ℕ
+replaced old new s = joined new (pieces (old ∷ []) s)
 
 -- the text with each part replaced; an empty part is none
 abbrev pub replaced_in : List ℕ → List ℕ → List ℕ → Option Json
-replaced_in s old new = if length old == 0 then None else Some (text (replaced old new 0 s))
+replaced_in s old new = if length old == 0 then None else Some (text (replaced old new s))
 
 abbrev pub replaced_text : Json → Json → Json → Option Json
 replaced_text j k l = option_and_then (λ s. option_and_then (λ old. option_and_then (λ new. replaced_in s old new) (text_of l)) (text_of k)) (text_of j)
@@ -47,27 +101,6 @@ replaced_text j k l = option_and_then (λ s. option_and_then (λ old. option_and
 abbrev pub replace : List Json → Option Json
 replace (j ∷ k ∷ l ∷ []) = replaced_text j k l
 replace _ = None
-
--- the length of the first of these parts that the characters begin with
-unfoldable pub length_of_first : List (List ℕ) → List ℕ → Option ℕ
-length_of_first [] s = None
-length_of_first (d ∷ ds) s = if begins d s then Some (length d) else length_of_first ds s
-
--- characters before the first of some pieces
-abbrev pub joined_to_first : List ℕ → List (List ℕ) → List (List ℕ)
-joined_to_first front [] = front ∷ []
-joined_to_first front (piece ∷ pieces) = (front ++ piece) ∷ pieces
-
--- a piece that ends here behind a delimiter of a length, or goes on with the character
-abbrev pub piece_here : Option ℕ → ℕ → (ℕ → List (List ℕ)) → List (List ℕ)
-piece_here None c rest = joined_to_first (c ∷ []) (rest 0)
-piece_here (Some n) c rest = [] ∷ rest (n - 1)
-
--- the pieces between the delimiters, behind so many characters that are left out
-unfoldable pub pieces : List (List ℕ) → ℕ → List ℕ → List (List ℕ)
-pieces ds skipped [] = [] ∷ []
-pieces ds (suc n) (c ∷ cs) = pieces ds n cs
-pieces ds zero (c ∷ cs) = piece_here (length_of_first ds (c ∷ cs)) c (λ n. pieces ds n cs)
 
 -- the texts that all of these are
 unfoldable pub texts_in : List Json → Option (List (List ℕ))
@@ -79,13 +112,17 @@ delimiters (text d) = Some (d ∷ [])
 delimiters (array js) = texts_in (items js)
 delimiters _ = None
 
+-- whether no delimiter is empty
+abbrev pub none_empty : List (List ℕ) → Bool
+none_empty ds = list_all (λ d. not (length d == 0)) ds
+
 -- whether there is a delimiter, and none is empty
 abbrev pub can_cut : List (List ℕ) → Bool
-can_cut ds = not (length ds == 0) && list_all (λ d. not (length d == 0)) ds
+can_cut ds = not (length ds == 0) && none_empty ds
 
 -- the text cut at each delimiter, of several at one place at the first in their order
 abbrev pub split_text : List ℕ → List (List ℕ) → Option Json
-split_text s ds = if can_cut ds then array_of (map text (pieces ds 0 s)) else None
+split_text s ds = if can_cut ds then array_of (map text (pieces ds s)) else None
 
 abbrev pub split_by : Json → Json → Option Json
 split_by j k = option_and_then (λ s. option_and_then (split_text s) (delimiters k)) (text_of j)

@@ -1,3 +1,4 @@
 pub mod Letters
 pub mod Places
 pub mod Cuts
+pub mod Search

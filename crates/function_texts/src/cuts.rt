@@ -1,11 +1,12 @@
 // Parts of texts, and texts with parts replaced.
-ghost use Rattle.std.specs.Prelude.{◌≡◌, ◌<◌, ◌∷◌, ◌++◌, [], length, drop, map, option_map, IfOk};
+ghost use Rattle.std.specs.Prelude.{◌≡◌, ◌<◌, ◌∷◌, ◌++◌, [], length, drop, map, option_map, IfOk, OnOk};
 ghost use Rattle.arm_value.specs.Json.{text};
 ghost use Rattle.arm_value.specs.View.{json};
+ghost use Rattle.function_texts.specs.Search.{AreBorders};
 ghost use Rattle.function_texts.specs.Cuts as row;
 ghost use Rattle.function_texts.specs.Cuts.{count_of, rest_from, part, cut, cut_part, replaced, replaced_in, replaced_text};
 
-use crate::places::begins;
+use crate::search::{borders_of, first_with};
 use arm_value::{OutOfMemory, Text, Value};
 use function_lists::characters::{characters_of, text_of_characters};
 use function_numbers::kinds::text_of;
@@ -116,44 +117,60 @@ pub fn substring(alloc: Global, args: &[Value]) -> Result<Option<Value>, OutOfMe
     }
 }
 
-// Goes on by one character: it is left out, begins a part that is replaced, or stays. Answers how
-// many characters behind it are left out.
-fn replace_here(
-    out: &mut Vec<char>,
-    old: &[char],
-    new: &[char],
-    rest: &[char],
-    skipped: usize,
-) -> Result<usize, OutOfMemory>
-    requires { 0 < length rest.now }
-    ensures { IfOk result (λ next. out.new.items ++ replaced old.now new.now next (drop 1 rest.now)
-        ≡ out.old.items ++ replaced old.now new.now skipped rest.now) }
+// Puts what is before a part, and what it is replaced by.
+fn put_both(out: &mut Vec<char>, before: &[char], new: &[char]) -> Result<(), OutOfMemory>
+    ensures { OnOk result (out.new.items ≡ (out.old.items ++ before.now) ++ new.now) }
 {
-    if skipped > 0 {
-        return Ok(skipped - 1);
-    }
-    if begins(old, rest) {
-        out.extend_from_slice(new)?;
-        return Ok(old.len().saturating_sub(1));
-    }
-    out.push(rest[0])?;
-    Ok(0)
+    out.extend_from_slice(before)?;
+    out.extend_from_slice(new)?;
+    Ok(())
 }
 
+fn replaced_with(
+    alloc: Global,
+    characters: &[char],
+    old: &[char],
+    borders: &[usize],
+    new: &[char],
+) -> Result<Vec<char>, OutOfMemory>
+    requires some { 0 < length old.now }
+    requires borders { AreBorders old.now borders.now }
+    requires enough { length old.now < length borders.now }
+    ensures { IfOk result (λ out. out.items ≡ replaced old.now new.now characters.now) }
+{
+    let mut out = Vec::new(alloc);
+    let mut start = 0usize;
+    'places: while let Some(place) = first_with(old, borders, &characters[start..]) {
+        put_both(&mut out, &characters[start..start + place], new)?;
+        start += place + old.len();
+    }
+    out.extend_from_slice(&characters[start..])?;
+    Ok(out)
+}
+
+// The characters with each place of the part replaced.
 fn replaced(
     alloc: Global,
     characters: &[char],
     old: &[char],
     new: &[char],
 ) -> Result<Vec<char>, OutOfMemory>
-    ensures { IfOk result (λ out. out.items ≡ replaced old.now new.now 0 characters.now) }
+    requires { 0 < length old.now }
+    ensures { IfOk result (λ out. out.items ≡ replaced old.now new.now characters.now) }
 {
-    let mut out = Vec::new(alloc);
-    let mut skipped = 0usize;
-    for i in 0..characters.len() {
-        skipped = replace_here(&mut out, old, new, &characters[i..], skipped)?;
-    }
-    Ok(out)
+    let borders = borders_of(alloc, old)?;
+    replaced_with(alloc, characters, old, borders.as_slice(), new)
+}
+
+// The text with each place of a part that is not empty replaced.
+fn text_replaced(alloc: Global, value: &Text, old: &[char], new: &Text) -> Result<Text, OutOfMemory>
+    requires { 0 < length old.now }
+    ensures { IfOk result (λ out. out ≡ replaced old.now new.now value.now) }
+{
+    let new = characters_of(alloc, new)?;
+    let characters = characters_of(alloc, value)?;
+    let out = replaced(alloc, characters.as_slice(), old, new.as_slice())?;
+    text_of_characters(alloc, out.as_slice())
 }
 
 fn replaced_in(
@@ -168,10 +185,8 @@ fn replaced_in(
     if old.is_empty() {
         return Ok(None);
     }
-    let new = characters_of(alloc, new)?;
-    let characters = characters_of(alloc, value)?;
-    let out = replaced(alloc, characters.as_slice(), old.as_slice(), new.as_slice())?;
-    Ok(Some(Value::Text(text_of_characters(alloc, out.as_slice())?)))
+    let out = text_replaced(alloc, value, old.as_slice(), new)?;
+    Ok(Some(Value::Text(out)))
 }
 
 fn replaced_text(

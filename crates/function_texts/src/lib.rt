@@ -7,14 +7,14 @@
 #![tactic(auto)]
 
 mod cuts;
+pub mod laws;
 mod letters;
+mod marks;
 pub mod places;
+mod search;
 mod splits;
 
 pub use cuts::{replace, substring};
 pub use letters::{to_lower, to_upper, trim};
 pub use places::{contains, ends_with, index_of, last_index_of, starts_with};
 pub use splits::split;
-
-#[cfg(test)]
-mod tests;

@@ -2,11 +2,11 @@
 ghost use Rattle.std.specs.Prelude.{◌≡◌, ◌∷◌, [], map, option_map, IfOk, is_some};
 ghost use Rattle.arm_value.specs.Look.{fold};
 ghost use Rattle.arm_value.specs.View.{json};
-ghost use Rattle.function_lists.specs.Items.{or_found, here};
 ghost use Rattle.function_texts.specs.Places as row;
 ghost use Rattle.function_texts.specs.Places.{begins, ends, first_from, last_from, place, starts_text, ends_text, index_in, last_index_in, has_part};
 
 use crate::letters::{Case, all_cased};
+use crate::search::{first_part, last_part};
 use arm_value::{OutOfMemory, Text, Value};
 use function_lists::characters::characters_of;
 use function_lists::items::{first_place, is_among, last_place};
@@ -37,36 +37,6 @@ fn ends(part: &[char], characters: &[char]) -> bool
         return false;
     }
     begins(part, &characters[characters.len() - part.len()..])
-}
-
-// The place, where it passes, else what was found before.
-fn here_or(passes: bool, place: usize, found: Option<usize>) -> Option<usize>
-    ensures { result ≡ or_found (here passes place) found }
-{
-    if passes { Some(place) } else { found }
-}
-
-/// The least place at which the characters go on with the part, counted from 0.
-pub fn first_part(part: &[char], characters: &[char]) -> Option<usize>
-    ensures { result ≡ first_from 0 part.now characters.now }
-{
-    for i in 0..characters.len() {
-        if begins(part, &characters[i..]) {
-            return Some(i);
-        }
-    }
-    here_or(begins(part, &[]), characters.len(), None)
-}
-
-/// The greatest place at which the characters go on with the part, counted from 0.
-pub fn last_part(part: &[char], characters: &[char]) -> Option<usize>
-    ensures { result ≡ last_from 0 part.now characters.now }
-{
-    let mut found = None;
-    for i in 0..characters.len() {
-        found = here_or(begins(part, &characters[i..]), i, found);
-    }
-    here_or(begins(part, &[]), characters.len(), found)
 }
 
 // The characters with small letters in place of `A` to `Z`.
@@ -150,7 +120,7 @@ fn first_in(alloc: Global, text: &Text, part: &Text) -> Result<Option<usize>, Ou
 {
     let characters = folded(alloc, text)?;
     let part = folded(alloc, part)?;
-    Ok(first_part(part.as_slice(), characters.as_slice()))
+    first_part(alloc, part.as_slice(), characters.as_slice())
 }
 
 #[tactic(auto, using(function_numbers::proofs::RowLemmas::items_of_row))]
@@ -183,7 +153,7 @@ fn last_in(alloc: Global, text: &Text, part: &Text) -> Result<Option<usize>, Out
 {
     let characters = folded(alloc, text)?;
     let part = folded(alloc, part)?;
-    Ok(last_part(part.as_slice(), characters.as_slice()))
+    last_part(alloc, part.as_slice(), characters.as_slice())
 }
 
 #[tactic(auto, using(function_numbers::proofs::RowLemmas::items_of_row))]
@@ -215,7 +185,7 @@ fn text_has(alloc: Global, text: &Text, part: &Text) -> Result<bool, OutOfMemory
 {
     let characters = characters_of(alloc, text)?;
     let part = characters_of(alloc, part)?;
-    Ok(first_part(part.as_slice(), characters.as_slice()).is_some())
+    Ok(first_part(alloc, part.as_slice(), characters.as_slice())?.is_some())
 }
 
 #[tactic(auto, using(function_numbers::proofs::RowLemmas::items_of_row, function_numbers::proofs::RowLemmas::members_of_pairs))]

@@ -1,6 +1,8 @@
 -- No bytes state two lists of resources.
 use Rattle.std.proofs.Common.{◌≡◌, ◌≤◌, ◌<◌, ℕ, ℤ, pos, negsuc, Bool, true, false, true≢false, List, [], Option, Some, None, refl, sym, ap, ap₂, ◌∙◌, subst, arith}
-use Rattle.std.specs.Prelude.{IsSomeAnd}
+use Rattle.std.specs.Prelude.{IsSomeAnd, IfOk, IfErr, Result, Ok, Err}
+use Rattle.std.specs.declared.vec.Vec.{Vec}
+use Rattle.std.specs.declared.alloc.Global.{Global}
 use Rattle.std.proofs.lemmas.Str.{encodes_same}
 use Rattle.serde_json.specs.Data as d
 use Rattle.serde_json.specs.Data.{Data, depth}
@@ -12,6 +14,8 @@ use Rattle.arm_value.specs.declared.read.JsonFault.{JsonFault}
 use Rattle.arm_value.specs.declared.read.JsonFault.TheVariants.{NotJson, NotWhole, TooDeep, OutOfMemory}
 use Rattle.literal_template.specs.Template.{template_of, StatedBy, StateOneList}
 use Rattle.literal_template.specs.declared.resource.Resource.{Resource}
+use Rattle.literal_template.specs.declared.reader.TemplateFault.{TemplateFault}
+use Rattle.literal_template.specs.declared.reader.TemplateFault.TheVariants as fault
 
 -- ---- a tree is told by its data
 
@@ -159,3 +163,26 @@ states_none bytes v o rs g e n s = let h = sym n ∙ e ∙ value_states bytes v 
 -- a value that states these
 pub states_these : (bytes : List ℕ) (v : Json) (o : Option (List Resource)) (found rs : List Resource) → Gives (reading bytes) v → o ≡ template_of v → o ≡ Some found → StatedBy bytes rs → found ≡ rs
 states_these bytes v o found rs g e n s = ap list_in (sym n ∙ e ∙ value_states bytes v rs g s)
+
+-- ---- what is read of bytes that are the JSON of a value
+
+-- what is answered of bytes
+abbrev pub Read : Type 0
+Read = Result (Vec Resource Global) TemplateFault
+
+pub read_stated : (bytes : List ℕ) (v : Json) (r : Read) → Gives (reading bytes) v → IfOk r (λ rs. template_of v ≡ Some rs.items) → IfOk r (λ rs. StatedBy bytes rs.items)
+read_stated bytes v (Ok rs) g h = (v, g, h)
+read_stated bytes v (Err f) g h = tt
+
+pub read_refused : (bytes : List ℕ) (v : Json) (r : Read) → Gives (reading bytes) v → IfErr r (λ f. f ≡ fault.NotLiteral → template_of v ≡ None) → IfErr r (λ f. f ≡ fault.NotLiteral → (rs : List Resource) → StatedBy bytes rs → ⊥)
+read_refused bytes v (Ok rs) g h = tt
+read_refused bytes v (Err f) g h = λ e rs s. states_none bytes v (template_of v) rs g refl (h e) s
+
+pub read_written : (bytes : List ℕ) (v : Json) (r : Read) → Gives (reading bytes) v → IfOk r (λ rs. template_of v ≡ Some rs.items) → (p : List Resource) → StatedBy bytes p → IfOk r (λ rs. rs.items ≡ p)
+read_written bytes v (Ok rs) g h p s = states_these bytes v (template_of v) rs.items p g refl h s
+read_written bytes v (Err f) g h p s = tt
+
+pub read_unrefused : (bytes : List ℕ) (v : Json) (r : Read) → Gives (reading bytes) v → IfErr r (λ f. f ≡ fault.NotLiteral → template_of v ≡ None) → (p : List Resource) → StatedBy bytes p → IfErr r (λ f. f ≡ fault.OutOfMemory)
+read_unrefused bytes v (Ok rs) g h p s = tt
+read_unrefused bytes v (Err fault.NotLiteral) g h p s = absurd (states_none bytes v (template_of v) p g refl (h refl) s)
+read_unrefused bytes v (Err fault.OutOfMemory) g h p s = refl

@@ -59,5 +59,6 @@ whole_text new old k s e h = subst (λ ms. PairsAreWhole (pairs ms)) (sym e) (Pa
 pub whole_array : (new old : List Member) (k : List ℕ) (js : List Json) → new ≡ put k (array (row js)) old → RowIsWhole (row js) → PairsAreWhole (pairs old) → PairsAreWhole (pairs new)
 whole_array new old k js e w h = subst (λ ms. PairsAreWhole (pairs ms)) (sym e) (PairsAreWhole-put k (array (row js)) old w h)
 
-pub whole_none : (ms : List Member) → ms ≡ [] → PairsAreWhole (pairs ms)
-whole_none ms e = subst (λ ns. PairsAreWhole (pairs ns)) (sym e) tt
+-- two members that are texts
+pub whole_head : (ms : List Member) (k s l t : List ℕ) → ms ≡ (k, text s) ∷ (l, text t) ∷ [] → PairsAreWhole (pairs ms)
+whole_head ms k s l t e = subst (λ ns. PairsAreWhole (pairs ns)) (sym e) (tt, (tt, tt))

@@ -68,8 +68,12 @@ value_nests r rest v l e = omega (arith, ap nesting e, resource_nests r l.0)
 pub values_end : (values : List Json) (rs : List Resource) (i : ℕ) → map resource_value rs ≡ values ++ map resource_value (drop i rs) → length rs ≤ i → values ≡ map resource_value rs
 values_end values rs i a h = sym (a ∙ ap (λ ds. values ++ map resource_value ds) (drop_all i rs h) ∙ append-nil values)
 
-pub template_made : (rs : List Resource) (values : List Json) (start first second third : List Member) (s v r address version : List ℕ) → start ≡ [] → first ≡ put s (text address) start → second ≡ put v (text version) first → third ≡ put r (array (row values)) second
-    → s ≡ codes "$schema" → v ≡ codes "contentVersion" → r ≡ codes "resources" → address ≡ schema → version ≡ codes "1.0.0.0" → values ≡ map resource_value rs → object (pairs third) ≡ template_value rs
+pub head_made : (start first second : List Member) (s v address version : List ℕ) → start ≡ [] → first ≡ put s (text address) start → second ≡ put v (text version) first → s ≡ codes "$schema" → v ≡ codes "contentVersion" → address ≡ schema → version ≡ codes "1.0.0.0"
+    → second ≡ (codes "$schema", text schema) ∷ (codes "contentVersion", text (codes "1.0.0.0")) ∷ []
+unfolding lib.Utf8.encode
+head_made start first second s v address version b p q es ev ea eversion = q ∙ (λ h. put (ev h) (text (eversion h)) ((p ∙ (λ g. put (es g) (text (ea g)) (b g))) h))
+
+pub template_made : (rs : List Resource) (values : List Json) (head whole : List Member) (r : List ℕ) → head ≡ (codes "$schema", text schema) ∷ (codes "contentVersion", text (codes "1.0.0.0")) ∷ [] → whole ≡ put r (array (row values)) head
+    → r ≡ codes "resources" → values ≡ map resource_value rs → object (pairs whole) ≡ template_value rs
 unfolding template_value lib.Utf8.encode
-template_made rs values start first second third s v r address version b p q t es ev er ea eversion evalues =
-    ap (λ ms. object (pairs ms)) (t ∙ (λ i. put (er i) (array (row (evalues i))) ((q ∙ (λ h. put (ev h) (text (eversion h)) ((p ∙ (λ g. put (es g) (text (ea g)) (b g))) h))) i)))
+template_made rs values head whole r h t er evalues = ap (λ ms. object (pairs ms)) (t ∙ (λ i. put (er i) (array (row (evalues i))) (h i)))

@@ -9,6 +9,7 @@
 mod brackets;
 pub mod laws;
 mod literals;
+mod parts;
 mod plain;
 mod reader;
 mod resource;
@@ -21,6 +22,3 @@ pub use plain::are_literal;
 pub use reader::{TemplateFault, read};
 pub use resource::Resource;
 pub use writer::write;
-
-#[cfg(test)]
-mod tests;

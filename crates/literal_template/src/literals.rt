@@ -1,11 +1,12 @@
 // How values are written in a template, and which values it states.
 ghost use Rattle.std.specs.Prelude.{◌≡◌, IfOk, chars, codes, bytes_eq, option_map};
 ghost use Rattle.arm_value.specs.View.{json};
-ghost use Rattle.arm_value.specs.Json.{row, pairs};
+ghost use Rattle.arm_value.specs.Json.{text, array, object, row, pairs};
 ghost use Rattle.literal_template.specs.Whole.{IsWhole, RowIsWhole, PairsAreWhole};
 ghost use Rattle.literal_template.specs.Literals.{is_special, written, row_written, pairs_written, stated, row_stated, pairs_stated};
 
 use crate::brackets::{escaped, is_bracketed, stated_text};
+use crate::parts::{nothing, run_out, with_item, with_member};
 use arm_value::{Fields, Items, OutOfMemory, Text, Value};
 use std::alloc::Global;
 
@@ -47,7 +48,10 @@ fn items_written(alloc: Global, items: &Items) -> Result<Items, OutOfMemory>
 {
     let mut found = Items::new();
     for item in items.as_slice() {
-        found.push(alloc, written(alloc, item)?)?;
+        match written(alloc, item) {
+            Ok(value) => found = with_item(alloc, found, value)?,
+            Err(_) => return run_out(found),
+        }
     }
     Ok(found)
 }
@@ -60,11 +64,42 @@ pub fn fields_written(alloc: Global, fields: &Fields) -> Result<Fields, OutOfMem
 {
     let mut found = Fields::new();
     for field in fields.as_slice() {
-        let name = field.name.copy(alloc)?;
-        let value = written(alloc, &field.value)?;
-        found.push_last(alloc, name, value)?;
+        match written(alloc, &field.value) {
+            Ok(value) => found = with_member(alloc, found, &field.name, value)?,
+            Err(_) => return run_out(found),
+        }
     }
     Ok(found)
+}
+
+// The text, where there is one, as a value.
+fn text_value(found: Option<Text>) -> Option<Value>
+    ensures { option_map json result ≡ option_map (λ t. text t) found }
+{
+    match found {
+        Some(text) => Some(Value::Text(text)),
+        None => None,
+    }
+}
+
+// The items, where there are some, as an array.
+fn array_value(found: Option<Items>) -> Option<Value>
+    ensures { option_map json result ≡ option_map (λ r. array r) (option_map row found) }
+{
+    match found {
+        Some(items) => Some(Value::Array(items)),
+        None => None,
+    }
+}
+
+// The members, where there are some, as an object.
+fn object_value(found: Option<Fields>) -> Option<Value>
+    ensures { option_map json result ≡ option_map (λ ps. object ps) (option_map pairs found) }
+{
+    match found {
+        Some(members) => Some(Value::Object(members)),
+        None => None,
+    }
 }
 
 /// The value that a value of a template states, and none where an expression or a loop stands in it.
@@ -76,18 +111,9 @@ pub fn stated(alloc: Global, value: &Value) -> Result<Option<Value>, OutOfMemory
         Value::Null => Ok(Some(Value::Null)),
         Value::Bool(b) => Ok(Some(Value::Bool(*b))),
         Value::Int(n) => Ok(Some(Value::Int(*n))),
-        Value::Text(text) => match stated_text(alloc, text)? {
-            Some(found) => Ok(Some(Value::Text(found))),
-            None => Ok(None),
-        },
-        Value::Array(items) => match items_stated(alloc, items)? {
-            Some(found) => Ok(Some(Value::Array(found))),
-            None => Ok(None),
-        },
-        Value::Object(fields) => match fields_stated(alloc, fields)? {
-            Some(found) => Ok(Some(Value::Object(found))),
-            None => Ok(None),
-        },
+        Value::Text(text) => Ok(text_value(stated_text(alloc, text)?)),
+        Value::Array(items) => Ok(array_value(items_stated(alloc, items)?)),
+        Value::Object(fields) => Ok(object_value(fields_stated(alloc, fields)?)),
     }
 }
 
@@ -97,9 +123,10 @@ fn items_stated(alloc: Global, items: &Items) -> Result<Option<Items>, OutOfMemo
 {
     let mut found = Items::new();
     for item in items.as_slice() {
-        match stated(alloc, item)? {
-            Some(value) => found.push(alloc, value)?,
-            None => return Ok(None),
+        match stated(alloc, item) {
+            Ok(Some(value)) => found = with_item(alloc, found, value)?,
+            Ok(None) => return nothing(found),
+            Err(_) => return run_out(found),
         }
     }
     Ok(Some(found))
@@ -112,12 +139,12 @@ fn fields_stated(alloc: Global, fields: &Fields) -> Result<Option<Fields>, OutOf
     let mut found = Fields::new();
     for field in fields.as_slice() {
         if is_special(&field.name) {
-            return Ok(None);
+            return nothing(found);
         }
-        let name = field.name.copy(alloc)?;
-        match stated(alloc, &field.value)? {
-            Some(value) => found.push_last(alloc, name, value)?,
-            None => return Ok(None),
+        match stated(alloc, &field.value) {
+            Ok(Some(value)) => found = with_member(alloc, found, &field.name, value)?,
+            Ok(None) => return nothing(found),
+            Err(_) => return run_out(found),
         }
     }
     Ok(Some(found))

@@ -1,17 +1,19 @@
 // The resources that a template states.
-ghost use Rattle.std.specs.Prelude.{◌≡◌, ◌≢◌, List, Some, None, chars, codes, option_map, is_some, IfOk, IfErr};
+ghost use Rattle.std.specs.Prelude.{◌≡◌, ◌≢◌, ◌++◌, ◌∷◌, [], false, List, Some, None, chars, codes, option_map, is_some, IfOk, IfErr};
 ghost use Rattle.std.specs.List.{AllByRecursion};
 ghost use Rattle.arm_value.specs.View.{json};
 ghost use Rattle.arm_value.specs.Json.{row, pairs};
 ghost use Rattle.arm_value.specs.Look.{look_in};
 ghost use Rattle.literal_template.specs.Brackets.{stated_text};
 ghost use Rattle.literal_template.specs.Literals.{pairs_stated};
+ghost use Rattle.literal_template.specs.Resources.{is_deployment};
 ghost use Rattle.literal_template.specs.Template.{text_of, body_members, with_parts, resource_with, resource_of, resources_of, resources_in, names_schema, has_three, template_with, template_of, StatedBy};
 ghost use Rattle.literal_template.specs.declared.resource.Resource.{Resource};
 ghost use Rattle.literal_template.specs.declared.reader.TemplateFault.TheVariants.{NotLiteral, OutOfMemory};
 
 use crate::brackets::stated_text;
 use crate::literals::{is_special, stated};
+use crate::parts::{nothing, run_out, with_member};
 use crate::resource::Resource;
 use crate::resources::{has_directive, heads, is_deployment, is_head};
 use crate::schema::is_schema;
@@ -75,18 +77,63 @@ fn body(alloc: Global, fields: &Fields) -> Result<Option<Fields>, OutOfMemory>
             continue;
         }
         if is_special(&field.name) {
-            return Ok(None);
+            return nothing(found);
         }
-        let name = field.name.copy(alloc)?;
-        match stated(alloc, &field.value)? {
-            Some(value) => found.push_last(alloc, name, value)?,
-            None => return Ok(None),
+        match stated(alloc, &field.value) {
+            Ok(Some(value)) => found = with_member(alloc, found, &field.name, value)?,
+            Ok(None) => return nothing(found),
+            Err(_) => return run_out(found),
         }
     }
     Ok(Some(found))
 }
 
+// The resource of these parts.
+fn resource(
+    alloc: Global,
+    kind: &Text,
+    api: &Text,
+    name: Text,
+    body: Fields,
+) -> Result<Resource, OutOfMemory>
+    ensures { IfOk result (λ r. r
+        ≡ record { kind = kind.now; api = api.now; name = name; body = body }) }
+{
+    match kind.copy(alloc) {
+        Ok(kind) => match api.copy(alloc) {
+            Ok(api) => Ok(Resource {
+                kind,
+                api,
+                name,
+                body,
+            }),
+            Err(_) => run_out((kind, name, body)),
+        },
+        Err(_) => run_out((name, body)),
+    }
+}
+
 // The resource of this type, version and name, with the body that the members state.
+fn with_name(
+    alloc: Global,
+    kind: &Text,
+    api: &Text,
+    name: Text,
+    fields: &Fields,
+) -> Result<Option<Resource>, OutOfMemory>
+    requires { is_deployment kind.now ≡ false }
+    ensures { IfOk result (λ o. o ≡ with_parts kind.now api.now (Some name)
+        (pairs_stated (body_members (pairs fields.now)))) }
+{
+    match body(alloc, fields) {
+        Ok(Some(body)) => Ok(Some(resource(alloc, kind, api, name, body)?)),
+        Ok(None) => nothing(name),
+        Err(_) => run_out(name),
+    }
+}
+
+// The resource of this type, version and name, with the body that the members state, where it is no
+// nested deployment and the name is no expression.
 fn with_parts(
     alloc: Global,
     kind: &Text,
@@ -100,18 +147,10 @@ fn with_parts(
     if is_deployment(kind) {
         return Ok(None);
     }
-    let Some(name) = stated_text(alloc, name)? else {
-        return Ok(None);
-    };
-    let Some(body) = body(alloc, fields)? else {
-        return Ok(None);
-    };
-    Ok(Some(Resource {
-        kind: kind.copy(alloc)?,
-        api: api.copy(alloc)?,
-        name,
-        body,
-    }))
+    match stated_text(alloc, name)? {
+        Some(name) => with_name(alloc, kind, api, name, fields),
+        None => Ok(None),
+    }
 }
 
 // The resource of these members, where they state one.
@@ -150,15 +189,29 @@ fn resource_of(alloc: Global, value: &Value) -> Result<Option<Resource>, OutOfMe
     }
 }
 
+// The resources with one more at their end.
+fn with_resource(
+    mut resources: Vec<Resource>,
+    resource: Resource,
+) -> Result<Vec<Resource>, OutOfMemory>
+    ensures { IfOk result (λ rs. rs.items ≡ resources.items ++ resource ∷ []) }
+{
+    match resources.push(resource) {
+        Ok(()) => Ok(resources),
+        Err(refused) => run_out((resources, refused)),
+    }
+}
+
 // The resources that the items state, where each of them states one.
 fn resources_of(alloc: Global, items: &Items) -> Result<Option<Vec<Resource>>, OutOfMemory>
     ensures { IfOk result (λ o. option_map (λ rs. rs.items) o ≡ resources_of (row items.now)) }
 {
     let mut found = Vec::new(alloc);
     for item in items.as_slice() {
-        match resource_of(alloc, item)? {
-            Some(resource) => found.push(resource)?,
-            None => return Ok(None),
+        match resource_of(alloc, item) {
+            Ok(Some(resource)) => found = with_resource(found, resource)?,
+            Ok(None) => return nothing(found),
+            Err(_) => return run_out(found),
         }
     }
     Ok(Some(found))
@@ -235,6 +288,17 @@ fn template_of(alloc: Global, value: &Value) -> Result<Option<Vec<Resource>>, Ou
     }
 }
 
+// The resources that the value states as a template, or that it states none.
+fn stated_by(alloc: Global, value: &Value) -> Result<Vec<Resource>, TemplateFault>
+    ensures stated { IfOk result (λ rs. template_of (json value.now) ≡ Some rs.items) }
+    ensures refused { IfErr result (λ f. f ≡ NotLiteral → template_of (json value.now) ≡ None) }
+{
+    match template_of(alloc, value)? {
+        Some(resources) => Ok(resources),
+        None => Err(TemplateFault::NotLiteral),
+    }
+}
+
 /// The resources that a literal template states, in their order.
 ///
 /// A literal template is JSON as `Value::from_json` reads it: an object with a `$schema`, a
@@ -255,13 +319,9 @@ pub fn read(alloc: Global, bytes: &[u8]) -> Result<Vec<Resource>, TemplateFault>
     ensures unrefused { (p : List Resource) → StatedBy bytes.now p
         → IfErr result (λ f. f ≡ OutOfMemory) }
 {
-    let value = match Value::from_json(alloc, bytes) {
-        Ok(value) => value,
-        Err(JsonFault::OutOfMemory) => return Err(TemplateFault::OutOfMemory),
-        Err(_) => return Err(TemplateFault::NotLiteral),
-    };
-    match template_of(alloc, &value)? {
-        Some(resources) => Ok(resources),
-        None => Err(TemplateFault::NotLiteral),
+    match Value::from_json(alloc, bytes) {
+        Ok(value) => stated_by(alloc, &value),
+        Err(JsonFault::OutOfMemory) => Err(TemplateFault::OutOfMemory),
+        Err(_) => Err(TemplateFault::NotLiteral),
     }
 }

@@ -1,3 +1,5 @@
+// A resource whose members are literals.
+
 use arm_value::{Fields, Text};
 
 /// A resource whose members are literals, as a Bicep file declares it and as a template states it.

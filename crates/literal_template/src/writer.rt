@@ -1,15 +1,17 @@
 // The template of resources.
-ghost use Rattle.std.specs.Prelude.{◌≡◌, Some, chars, map, IfOk, OnOk};
+ghost use Rattle.std.specs.Prelude.{◌≡◌, ◌∷◌, [], Some, chars, codes, map, IfOk};
 ghost use Rattle.std.specs.List.{AllByRecursion};
 ghost use Rattle.arm_value.specs.View.{json};
 ghost use Rattle.arm_value.specs.Json.{put, row, text as json_text};
 ghost use Rattle.arm_value.specs.Reading.{data_of, reading};
+ghost use Rattle.literal_template.specs.Brackets.{escaped};
 ghost use Rattle.literal_template.specs.Resources.{IsLiteral};
-ghost use Rattle.literal_template.specs.Template.{resource_value, template_value, template_bytes, StatedBy};
+ghost use Rattle.literal_template.specs.Template.{schema, resource_value, template_value, template_bytes, StatedBy};
 ghost use Rattle.literal_template.specs.Whole.{IsWhole, RowIsWhole};
 
 use crate::brackets::escaped;
 use crate::literals::fields_written;
+use crate::parts::{run_out, with_item, with_value, with_words};
 use crate::resource::Resource;
 use arm_value::{Bytes, Fields, Items, OutOfMemory, Text, Value};
 use std::alloc::Global;
@@ -18,12 +20,14 @@ use std::alloc::Global;
 const SCHEMA: &str =
     "https://schema.management.azure.com/schemas/2019-04-01/deploymentTemplate.json#";
 
-// Puts a text at the name.
-fn set_text(alloc: Global, members: &mut Fields, name: &str, value: Text) -> Result<(), OutOfMemory>
-    ensures { OnOk result (members.new ≡ put (chars name.now) (json_text value) members.old) }
+// The members with the text at the name, as a template writes it.
+fn with_text(alloc: Global, members: Fields, name: &str, text: &Text) -> Result<Fields, OutOfMemory>
+    ensures { IfOk result (λ ms. ms ≡ put (chars name.now) (json_text (escaped text.now)) members) }
 {
-    members.set(alloc, name, Value::Text(value))?;
-    Ok(())
+    match escaped(alloc, text) {
+        Ok(text) => with_value(alloc, members, name, Value::Text(text)),
+        Err(_) => run_out(members),
+    }
 }
 
 // The value that is written for a resource.
@@ -31,11 +35,11 @@ fn resource_value(alloc: Global, resource: &Resource) -> Result<Value, OutOfMemo
     ensures value { IfOk result (λ v. json v ≡ resource_value resource.now) }
     ensures whole { IfOk result (λ v. IsWhole (json v)) }
 {
-    let mut members = fields_written(alloc, &resource.body)?;
-    set_text(alloc, &mut members, "apiVersion", resource.api.copy(alloc)?)?;
-    set_text(alloc, &mut members, "name", escaped(alloc, &resource.name)?)?;
-    set_text(alloc, &mut members, "type", resource.kind.copy(alloc)?)?;
-    Ok(Value::Object(members))
+    let body = fields_written(alloc, &resource.body)?;
+    let versioned = with_words(alloc, body, "apiVersion", resource.api.as_str())?;
+    let named = with_text(alloc, versioned, "name", &resource.name)?;
+    let typed = with_words(alloc, named, "type", resource.kind.as_str())?;
+    Ok(Value::Object(typed))
 }
 
 // The values that are written for the resources.
@@ -46,9 +50,21 @@ fn resource_values(alloc: Global, resources: &[Resource]) -> Result<Items, OutOf
 {
     let mut values = Items::new();
     for resource in resources {
-        values.push(alloc, resource_value(alloc, resource)?)?;
+        match resource_value(alloc, resource) {
+            Ok(value) => values = with_item(alloc, values, value)?,
+            Err(_) => return run_out(values),
+        }
     }
     Ok(values)
+}
+
+// The members of a template before its resources.
+fn template_head(alloc: Global) -> Result<Fields, OutOfMemory>
+    ensures { IfOk result (λ ms. ms ≡ (codes "$schema", json_text schema)
+        ∷ (codes "contentVersion", json_text (codes "1.0.0.0")) ∷ []) }
+{
+    let members = with_words(alloc, Fields::new(), "$schema", SCHEMA)?;
+    Ok(with_words(alloc, members, "contentVersion", "1.0.0.0")?)
 }
 
 // The template that is written for the resources.
@@ -57,17 +73,14 @@ fn template_value(alloc: Global, resources: &[Resource]) -> Result<Value, OutOfM
     ensures value { IfOk result (λ v. json v ≡ template_value resources.now) }
     ensures whole { IfOk result (λ v. IsWhole (json v)) }
 {
-    let mut members = Fields::new();
-    set_text(alloc, &mut members, "$schema", Text::of(alloc, SCHEMA)?)?;
-    set_text(
-        alloc,
-        &mut members,
-        "contentVersion",
-        Text::of(alloc, "1.0.0.0")?,
-    )?;
     let values = resource_values(alloc, resources)?;
-    members.set(alloc, "resources", Value::Array(values))?;
-    Ok(Value::Object(members))
+    match template_head(alloc) {
+        Ok(head) => {
+            let members = with_value(alloc, head, "resources", Value::Array(values))?;
+            Ok(Value::Object(members))
+        }
+        Err(_) => run_out(values),
+    }
 }
 
 /// The template of these resources, as compact JSON with the members of each object in the byte

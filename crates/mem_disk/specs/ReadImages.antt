@@ -1,10 +1,14 @@
 -- Why what a read gives is one of the images: the proof that each disk in memory owes.
-use Rattle.std.proofs.Common.{◌≡◌, ◌<◌, ℕ, ◌+◌, ◌-◌, ◌≤◌, min, List, [], ◌∷◌, ◌++◌, length, take, drop, replicate, refl, sym, ◌∙◌, ap, subst, arith, ⊎_elim, length-append, length-drop, append_assoc}
-use Rattle.std.proofs.lemmas.List.{take_all, take_at, drop_at, drop-drop, length-take, length-replicate}
+use Rattle.std.proofs.Common.{◌≡◌, ◌<◌, ℕ, ◌+◌, ◌-◌, ◌≤◌, min, max, List, [], ◌∷◌, ◌++◌, length, take, drop, replicate, refl, sym, ◌∙◌, ap, subst, arith, ⊎_elim, length-append, length-drop, append_assoc}
+use Rattle.std.proofs.lemmas.List.{take_all, take_at, take_rest, drop_all, drop_at, drop-drop, drop-take, length-take, length-replicate}
 use Rattle.std.proofs.lemmas.Bool.{cases_lt}
 use Rattle.arm_edges.specs.Disk.{Parts, overwritten, resized, Torn, Cut}
 use Rattle.arm_edges.specs.declared.disk.Part.TheVariants.{A, B}
 use Rattle.mem_disk.specs.Moves.{Move, Step, wrote, tore, shortened, tore_off, synced, moves_on, reads_after, parts_after, image_after, images_after, left_after, left_at}
+
+-- how long a file is after a cut
+pub length_resized : (n : ℕ) (old : List ℕ) → length (resized n old) ≡ n
+length_resized n old = omega (arith, length-append (take n old) (replicate {A = ℕ} (n - length old) 0), length-take n old, length-replicate {A = ℕ} (n - length old) 0)
 
 front_of : (n : ℕ) (old : List ℕ) → take (min n (length old)) old ≡ take n old
 front_of n old = ⊎_elim
@@ -14,7 +18,19 @@ front_of n old = ⊎_elim
 
 -- a write of which nothing is there
 pub torn_same : (at n : ℕ) (old : List ℕ) → Torn at n old old
-torn_same at n old = record { before = front_of at old; after = refl; no_shorter = omega arith; no_longer = omega arith }
+torn_same at n old = record { before = front_of at old; after = take_rest old (at + n); no_shorter = omega arith }
+
+-- how long a file is after a write of something
+written_length : (at : ℕ) (bytes old : List ℕ) → 0 < length bytes
+    → length (resized at old ++ (bytes ++ drop (at + length bytes) old)) ≡ max (length old) (at + length bytes)
+written_length at bytes old some =
+    let rest = drop (at + length bytes) old in
+    omega (arith, length_resized at old, length-append (resized at old) (bytes ++ rest), length-append bytes rest, length-drop (at + length bytes) old)
+
+-- a write makes a file as long as it reaches
+pub length_overwritten : (at : ℕ) (bytes old : List ℕ) → length (overwritten at bytes old) ≤ max (length old) (at + length bytes)
+length_overwritten at [] old = omega arith
+length_overwritten at (b ∷ bytes) old = omega (arith, written_length at (b ∷ bytes) old (omega arith))
 
 -- a write that is there whole
 pub torn_overwritten : (at : ℕ) (bytes old : List ℕ) → Torn at (length bytes) old (overwritten at bytes old)
@@ -23,43 +39,48 @@ torn_overwritten at (b ∷ bytes) old =
     let new = b ∷ bytes in
     let zeros = replicate {A = ℕ} (at - length old) 0 in
     let rest = drop (at + length new) old in
-    let size : length (resized at old) ≡ at = omega (arith, length-append (take at old) zeros, length-take at old, length-replicate {A = ℕ} (at - length old) 0) in
-    let whole : length (overwritten at new old) ≡ at + length new + length rest = omega (arith, size, length-append (resized at old) (new ++ rest), length-append new rest) in
-    let front_size : length (take at old) ≡ min at (length old) = length-take at old in
+    let size : length (resized at old ++ new) ≡ at + length new = omega (arith, length_resized at old, length-append (resized at old) new) in
+    let back : drop (at + length new) (overwritten at new old) ≡ rest =
+    ap (λ (l : List ℕ). drop (at + length new) l) (sym (append_assoc (resized at old) new rest)) ∙ drop_at (resized at old ++ new) rest (at + length new) size in
     record {
-      before = ap (λ (l : List ℕ). take (min at (length old)) l) (append_assoc (take at old) zeros (new ++ rest)) ∙ take_at (take at old) (zeros ++ (new ++ rest)) (min at (length old)) front_size;
-      after = ap (λ (l : List ℕ). drop (at + length new) l) (sym (append_assoc (resized at old) new rest)) ∙ drop_at (resized at old ++ new) rest (at + length new) (omega (arith, size, length-append (resized at old) new));
-      no_shorter = omega (arith, whole, length-drop (at + length new) old);
-      no_longer = omega (arith, whole, length-drop (at + length new) old);
+      before = ap (λ (l : List ℕ). take (min at (length old)) l) (append_assoc (take at old) zeros (new ++ rest)) ∙ take_at (take at old) (zeros ++ (new ++ rest)) (min at (length old)) (length-take at old);
+      after = ap (λ (l : List ℕ). take (length old - (at + length new)) l) back ∙ take_rest old (at + length new);
+      no_shorter = omega (arith, written_length at new old (omega arith));
     }
 
 -- a part of a write that is there
 pub torn_wider : (at k n : ℕ) (old new : List ℕ) → k ≤ n → Torn at k old new → Torn at n old new
 torn_wider at k n old new le torn = record {
   before = torn.before;
-  after = behind new ∙ ap (λ (l : List ℕ). drop (n - k) l) torn.after ∙ sym (behind old);
+  after = ⊎_elim
+      (λ (short : length old < at + n). ap (λ (m : ℕ). take m (drop (at + n) new)) (let e : length old - (at + n) ≡ 0 = omega arith in e) ∙ sym (drop_all (at + n) old (omega arith)))
+      (λ (long : at + n ≤ length old). narrower long)
+      (cases_lt (length old) (at + n));
   no_shorter = torn.no_shorter;
-  no_longer = omega (arith, torn.no_longer);
 }
   where
-    behind : (l : List ℕ) → drop (at + n) l ≡ drop (n - k) (drop (at + k) l)
-    behind l = ap (λ (m : ℕ). drop m l) (omega arith) ∙ sym (drop-drop (n - k) (at + k) l)
+    past : (l : List ℕ) → drop (at + n) l ≡ drop (n - k) (drop (at + k) l)
+    past l = ap (λ (m : ℕ). drop m l) (omega arith) ∙ sym (drop-drop (n - k) (at + k) l)
+
+    narrower : at + n ≤ length old → take (length old - (at + n)) (drop (at + n) new) ≡ drop (at + n) old
+    narrower long =
+        let more : n - k + (length old - (at + n)) ≡ length old - (at + k) = omega arith in
+        ap (λ (l : List ℕ). take (length old - (at + n)) l) (past new)
+        ∙ sym (drop-take (n - k) (length old - (at + n)) (drop (at + k) new))
+        ∙ ap (λ (m : ℕ). drop (n - k) (take m (drop (at + k) new))) more
+        ∙ ap (λ (l : List ℕ). drop (n - k) l) torn.after
+        ∙ sym (past old)
 
 -- a cut of which nothing is there
 pub cut_same : (n : ℕ) (old : List ℕ) → Cut n old old
-cut_same n old = record { before = front_of n old; no_shorter = omega arith; no_longer = omega arith }
+cut_same n old = record { before = front_of n old; no_shorter = omega arith }
 
 -- a cut that is there
 pub cut_resized : (n : ℕ) (old : List ℕ) → Cut n old (resized n old)
-cut_resized n old =
-    let zeros = replicate {A = ℕ} (n - length old) 0 in
-    let front_size : length (take n old) ≡ min n (length old) = length-take n old in
-    let size : length (resized n old) ≡ n = omega (arith, length-append (take n old) zeros, front_size, length-replicate {A = ℕ} (n - length old) 0) in
-    record {
-      before = take_at (take n old) zeros (min n (length old)) front_size;
-      no_shorter = omega (arith, size);
-      no_longer = omega (arith, size);
-    }
+cut_resized n old = record {
+  before = take_at (take n old) (replicate {A = ℕ} (n - length old) 0) (min n (length old)) (length-take n old);
+  no_shorter = omega (arith, length_resized n old);
+}
 
 -- what a read gives is one of the images
 pub reads_image : (moves : List Move) (now : List ℕ) (set : List ℕ → Type 0) → set now → images_after moves now set (reads_after moves now)

@@ -1,7 +1,7 @@
 // The bytes of both parts of a disk in memory.
 ghost use Rattle.std.specs.Prelude.{◌≡◌, ◌<◌, ◌≤◌, ◌+◌, ◌-◌, [], length, IfOk, OnOk};
 ghost use Rattle.std.specs.Vec.{vec_capacity};
-ghost use Rattle.arm_edges.specs.Disk.{on, overwritten, resized};
+ghost use Rattle.arm_edges.specs.Disk.{on, overwritten, resized, AreWithin};
 ghost use Rattle.mem_disk.specs.Contents.{contents_of, HasRoom, with_part};
 
 use crate::edit::overwrite;
@@ -44,6 +44,7 @@ pub(crate) fn roomy(
 ) -> Result<Contents, AllocError>
     ensures same { IfOk result (λ copy. contents_of copy ≡ contents_of contents.now) }
     ensures room { IfOk result (λ copy. HasRoom bytes copy) }
+    ensures within { IfOk result (λ copy. AreWithin 18446744073709551615 (contents_of copy)) }
 {
     Ok(Contents {
         a: roomy_part(alloc, contents.a.as_slice(), bytes)?,
@@ -54,6 +55,7 @@ pub(crate) fn roomy(
 fn roomy_part(alloc: Global, part: &[u8], bytes: usize) -> Result<Vec<u8>, AllocError>
     ensures same { IfOk result (λ copy. copy.items ≡ part.now) }
     ensures room { IfOk result (λ copy. length copy.items + bytes ≤ vec_capacity copy) }
+    ensures within { IfOk result (λ copy. length copy.items ≤ 18446744073709551615) }
 {
     let size = part.len().checked_add(bytes).ok_or(AllocError)?;
     let mut copy = Vec::with_capacity(alloc, size)?;

@@ -16,6 +16,3 @@ mod ram_disk;
 pub use contents::{Contents, Room};
 pub use mem_disk::MemDisk;
 pub use ram_disk::RamDisk;
-
-#[cfg(test)]
-mod tests;

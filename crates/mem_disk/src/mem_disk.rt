@@ -1,7 +1,7 @@
-ghost use Rattle.std.specs.Prelude.{◌≡◌, ◌<◌, ◌≤◌, ◌+◌, ◌-◌, ◌^◌, ◌++◌, ◌⊎◌, [], ◌∷◌, true, length, min, IsOk, IfOk, OnOk, OnErr};
+ghost use Rattle.std.specs.Prelude.{◌≡◌, nat_le, ◌<◌, ◌≤◌, ◌+◌, ◌-◌, ◌^◌, ◌++◌, ◌⊎◌, [], ◌∷◌, true, if◌then◌else◌, length, min, IsOk, IfOk, OnOk, OnErr};
 ghost use Rattle.std.specs.Vec.{vec_capacity};
 ghost use Rattle.arm_edges.specs.Calls.{limit_at, one_more};
-ghost use Rattle.arm_edges.specs.Disk.{on, overwritten, resized, At, Torn, Cut, Unchanged, GoesOn, ReadsAt, IsKept, largest_fits};
+ghost use Rattle.arm_edges.specs.Disk.{on, other, overwritten, resized, At, Torn, Cut, Unchanged, GoesOn, ReadsAt, IsKept, AreWithin, largest_fits};
 ghost use Rattle.arm_edges.specs.Faults.{HasCause};
 ghost use Rattle.mem_disk.specs.Moves.{parts_after, IsOneMore};
 ghost use Rattle.mem_disk.specs.Log.{steps_of, move_of, size_of};
@@ -21,7 +21,6 @@ use std::alloc::Global;
 /// A disk in memory. It keeps each call that changes it, so that what a crash leaves is known.
 #[derive(Debug, Drop)]
 pub struct MemDisk {
-    alloc: Global,
     first: Contents,
     held: Contents,
     log: Log,
@@ -30,6 +29,7 @@ pub struct MemDisk {
     calls: Calls,
     ghost reads_are: { contents_of held
         ≡ parts_after (steps_of log.bytes.items log.entries.items) (contents_of first) },
+    ghost within: { AreWithin 18446744073709551615 (contents_of held) },
     ghost held_room: { HasRoom left.bytes held },
     ghost log_room: { length log.bytes.items + left.bytes ≤ vec_capacity log.bytes },
     ghost call_room: { length log.entries.items + left.calls ≤ vec_capacity log.entries },
@@ -54,7 +54,6 @@ impl MemDisk {
         ensures faults { IfOk result (λ d. d.calls.faults ≡ 0) }
     {
         Ok(MemDisk {
-            alloc,
             first: roomy(alloc, contents, 0)?,
             held: roomy(alloc, contents, room.bytes)?,
             log: Log::new(alloc, room.calls, room.bytes)?,
@@ -82,7 +81,7 @@ impl MemDisk {
     /// Of 4 times `r` and 1, they say which are there and which have left other bytes in their range.
     /// Of 4 times `r` and 2 or 3, the changes before one are there, of that one so many bytes, and of those behind it nothing; with 3 other bytes stand in the rest of its range.
     /// That one's number is in the bits 0 to 2 and 6 to 8 of `r`, the number of bytes in the bits 3 to 5 and from 9 on.
-    pub fn crash(&self, choice: u64) -> Result<MemDisk, OutOfMemory>
+    pub fn crash(&self, alloc: Global, choice: u64) -> Result<MemDisk, OutOfMemory>
         ensures image { IfOk result (λ d. left_in self.now (moment_in self.now) (reads_in d)) }
         ensures first { IfOk result (λ d. contents_of d.first ≡ contents_of d.held) }
         ensures steps { IfOk result (λ d. steps_of d.log.bytes.items d.log.entries.items ≡ []) }
@@ -93,23 +92,11 @@ impl MemDisk {
         ensures faults { IfOk result (λ d. d.calls.faults ≡ 0) }
     {
         let left = Contents {
-            a: image(
-                self.alloc,
-                &self.log,
-                Part::A,
-                self.first.a.as_slice(),
-                choice,
-            )?,
-            b: image(
-                self.alloc,
-                &self.log,
-                Part::B,
-                self.first.b.as_slice(),
-                choice,
-            )?,
+            a: image(alloc, &self.log, Part::A, self.first.a.as_slice(), choice)?,
+            b: image(alloc, &self.log, Part::B, self.first.b.as_slice(), choice)?,
         };
-        let cuts = self.calls.cuts.as_slice().to_vec(self.alloc)?;
-        MemDisk::new(self.alloc, &left, cuts, Vec::new(self.alloc), self.room)
+        let cuts = self.calls.cuts.as_slice().to_vec(alloc)?;
+        MemDisk::new(alloc, &left, cuts, Vec::new(alloc), self.room)
     }
 }
 
@@ -123,7 +110,8 @@ fn keep_torn(log: &mut Log, left: &mut usize, part: Part, change: Change, bytes:
     ensures entries { length log.new.entries.items ≤ length log.old.entries.items + 1 }
     ensures capacity { vec_capacity log.old.entries ≤ vec_capacity log.new.entries }
     ensures bytes_room { length log.new.bytes.items + left.new ≤ vec_capacity log.new.bytes }
-    ensures left { left.new ≤ left.old }
+    ensures left { left.new + (if nat_le (length bytes.now) left.old then length bytes.now else 0)
+        ≡ left.old }
 {
     if bytes.len() <= *left {
         *left -= bytes.len();
@@ -132,7 +120,7 @@ fn keep_torn(log: &mut Log, left: &mut usize, part: Part, change: Change, bytes:
 }
 
 impl Disk for MemDisk {
-    ghost use Rattle.mem_disk.specs.MemDisks.{reads_in, moment_in, left_in, reach_in, NextGoes, room_for, Spends};
+    ghost use Rattle.mem_disk.specs.MemDisks.{reads_in, moment_in, left_in, reach_in, NextGoes, room_for, torn_room, Spends};
 
     ghost tells_reads = { true };
 
@@ -150,6 +138,8 @@ impl Disk for MemDisk {
 
     ghost reach_fits = { λ _. largest_fits };
 
+    ghost reads_fit = { λ d _. d.within };
+
     ghost reads_an_image = { λ d _. reads_left_at (contents_of d.first)
         (steps_of d.log.bytes.items d.log.entries.items) (contents_of d.held) d.reads_are };
 
@@ -162,7 +152,7 @@ impl Disk for MemDisk {
         ensures reach { reach_in self.new ≡ reach_in self.old }
         ensures goes { NextGoes self.old → IsOk result }
         ensures only { OnOk result (NextGoes self.old) }
-        ensures spends { OnOk result (Spends 0 self.old self.new) }
+        ensures spends { Spends 0 self.old self.new }
     {
         match begin(&mut self.left.calls, &mut self.calls) {
             Begun::Goes(_) => Ok(part_of(&self.held, part).len() as u64),
@@ -184,7 +174,7 @@ impl Disk for MemDisk {
         ensures reach { reach_in self.new ≡ reach_in self.old }
         ensures goes { NextGoes self.old → IsOk result }
         ensures only { OnOk result (NextGoes self.old) }
-        ensures spends { OnOk result (Spends 0 self.old self.new) }
+        ensures spends { Spends 0 self.old self.new }
     {
         match begin(&mut self.left.calls, &mut self.calls) {
             Begun::Goes(limit) => Ok(read_in(part_of(&self.held, part), at, limit, buf)),
@@ -197,6 +187,8 @@ impl Disk for MemDisk {
         ensures told { OnOk result (true ≡ true
             → At part (λ old new. new ≡ overwritten at bytes.now old)
             (reads_in self.old) (reads_in self.new)) }
+        ensures other_part { true ≡ true
+            → on (other part) (reads_in self.new) ≡ on (other part) (reads_in self.old) }
         ensures images { true ≡ true
             → GoesOn moment_in left_in (At part (Torn at (length bytes.now))) self.old self.new }
         ensures cause { HasCause self.old.calls.faults self.new.calls.faults result }
@@ -209,6 +201,8 @@ impl Disk for MemDisk {
             × (room_for part at (length bytes.now) self.old ≤ self.old.left.bytes)) }
         ensures spends { OnOk result
             (Spends (room_for part at (length bytes.now) self.old) self.old self.new) }
+        ensures tears { OnErr result
+            (Spends (torn_room (length bytes.now) self.old) self.old self.new) }
     {
         let change = Change::Wrote {
             at,
@@ -242,6 +236,8 @@ impl Disk for MemDisk {
         ensures told { OnOk result (true ≡ true
             → At part (λ old new. new ≡ resized length old)
             (reads_in self.old) (reads_in self.new)) }
+        ensures other_part { true ≡ true
+            → on (other part) (reads_in self.new) ≡ on (other part) (reads_in self.old) }
         ensures images { true ≡ true
             → GoesOn moment_in left_in (At part (Cut length)) self.old self.new }
         ensures cause { HasCause self.old.calls.faults self.new.calls.faults result }
@@ -253,6 +249,7 @@ impl Disk for MemDisk {
         ensures only { OnOk result (NextGoes self.old
             × (room_for part length 0 self.old ≤ self.old.left.bytes)) }
         ensures spends { OnOk result (Spends (room_for part length 0 self.old) self.old self.new) }
+        ensures tears { OnErr result (Spends 0 self.old self.new) }
     {
         match begin(&mut self.left.calls, &mut self.calls) {
             Begun::Refused => Err(Failed),
@@ -284,7 +281,7 @@ impl Disk for MemDisk {
         ensures reach { reach_in self.new ≡ reach_in self.old }
         ensures goes { NextGoes self.old → IsOk result }
         ensures only { OnOk result (NextGoes self.old) }
-        ensures spends { OnOk result (Spends 0 self.old self.new) }
+        ensures spends { Spends 0 self.old self.new }
     {
         match begin(&mut self.left.calls, &mut self.calls) {
             Begun::Goes(_) => {

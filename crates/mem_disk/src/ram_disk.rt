@@ -51,6 +51,8 @@ impl Disk for RamDisk {
 
     ghost reach_fits = { λ d. d.small };
 
+    ghost reads_fit = { λ d _. (d.a_within, d.b_within) };
+
     ghost reads_an_image = { λ _ told. Prim.cc };
 
     fn length(&mut self, part: Part) -> Result<u64, Failed> {

@@ -6,12 +6,8 @@ use Rattle.std.proofs.lemmas.Bool.{cases_lt}
 use Rattle.std.proofs.lemmas.Bool.Decides.{nat_tests}
 use Rattle.std.proofs.lemmas.Str.{encode_ascii, inside_one, length-encode, len_utf8_bounds}
 use Rattle.provider_trait.specs.Catalog.{is_account_character, is_account_name}
-
-nat_le_yes : (a b : ℕ) → a ≤ b → nat_le a b ≡ true
-nat_le_yes a b h = grind (arith, nat_tests)
-
-nat_le_no : (a b : ℕ) → b < a → nat_le a b ≡ false
-nat_le_no a b h = grind (arith, nat_tests)
+use Rattle.foundation.proofs.TruthValues.{both, first_fails, second_fails, third_decides}
+use Rattle.foundation.proofs.Comparisons.{le_true, le_false}
 
 high_fails : (c : ℕ) → 128 ≤ c → is_account_character c ≡ false
 high_fails c h = grind (arith, nat_tests)
@@ -47,10 +43,6 @@ passes_low c e = by_cases (cases_lt c 128)
     by_cases (inl low) = low
     by_cases (inr high) = absurd (true≢false (sym e ∙ high_fails c high))
 
-both : (a b : Bool) → (a && b) ≡ true → (a ≡ true) × (b ≡ true)
-both true b e = (refl, e)
-both false b e = absurd (true≢false (sym e))
-
 encodes_same : (cs : List ℕ) → list_all is_account_character cs ≡ true → encodes cs ≡ cs
 encodes_same [] e = refl
 encodes_same (c ∷ cs) e =
@@ -71,29 +63,15 @@ account_by_bytes cs = by_all (list_all is_account_character cs) refl
     by_all false e =
         ap (λ b. nat_le 3 (length (encodes cs)) && (nat_le (length (encodes cs)) 24 && b)) (all-encodes cs ∙ e) ∙ none _ _ ∙ sym (ap (λ b. nat_le 3 (length cs) && (nat_le (length cs) 24 && b)) e ∙ none _ _)
 
-and_low : (a b c : Bool) → a ≡ false → false ≡ (a && (b && c))
-and_low false b c e = refl
-and_low true b c e = absurd (true≢false e)
-
-and_high : (a b c : Bool) → a ≡ true → b ≡ false → false ≡ (a && (b && c))
-and_high true false c e f = refl
-and_high true true c e f = absurd (true≢false f)
-and_high false b c e f = absurd (true≢false (sym e))
-
-and_within : (a b c r : Bool) → a ≡ true → b ≡ true → r ≡ c → r ≡ (a && (b && c))
-and_within true true c r e f g = g
-and_within true false c r e f g = absurd (true≢false (sym f))
-and_within false b c r e f g = absurd (true≢false (sym e))
-
 -- a name that is too short, too long, or of a fit length
 pub too_short : (cs bs : List ℕ) → bs ≡ encodes cs → length bs < 3 → false ≡ is_account_name cs
 too_short cs bs e l =
-    and_low _ (nat_le (length (encodes cs)) 24) (list_all is_account_character (encodes cs)) (let short : length (encodes cs) < 3 = omega (arith, ap length e, l) in nat_le_no 3 _ short) ∙ account_by_bytes cs
+    first_fails _ (nat_le (length (encodes cs)) 24) (list_all is_account_character (encodes cs)) (let short : length (encodes cs) < 3 = omega (arith, ap length e, l) in le_false 3 _ short) ∙ account_by_bytes cs
 
 pub too_long : (cs bs : List ℕ) → bs ≡ encodes cs → 3 ≤ length bs → 24 < length bs → false ≡ is_account_name cs
 too_long cs bs e m l =
-    and_high _ _ (list_all is_account_character (encodes cs)) (let enough : 3 ≤ length (encodes cs) = omega (arith, ap length e, m) in nat_le_yes 3 _ enough) (let long : 24 < length (encodes cs) = omega (arith, ap length e, l) in nat_le_no _ 24 long) ∙ account_by_bytes cs
+    second_fails _ _ (list_all is_account_character (encodes cs)) (let enough : 3 ≤ length (encodes cs) = omega (arith, ap length e, m) in le_true 3 _ enough) (let long : 24 < length (encodes cs) = omega (arith, ap length e, l) in le_false _ 24 long) ∙ account_by_bytes cs
 
 pub fit_length : (cs bs : List ℕ) (r : Bool) → bs ≡ encodes cs → 3 ≤ length bs → length bs ≤ 24 → r ≡ list_all is_account_character bs → r ≡ is_account_name cs
 fit_length cs bs r e m l h =
-    and_within _ _ (list_all is_account_character (encodes cs)) r (let enough : 3 ≤ length (encodes cs) = omega (arith, ap length e, m) in nat_le_yes 3 _ enough) (let few : length (encodes cs) ≤ 24 = omega (arith, ap length e, l) in nat_le_yes _ 24 few) (h ∙ ap (list_all is_account_character) e) ∙ account_by_bytes cs
+    third_decides _ _ (list_all is_account_character (encodes cs)) r (let enough : 3 ≤ length (encodes cs) = omega (arith, ap length e, m) in le_true 3 _ enough) (let few : length (encodes cs) ≤ 24 = omega (arith, ap length e, l) in le_true _ 24 few) (h ∙ ap (list_all is_account_character) e) ∙ account_by_bytes cs

@@ -1,4 +1,3 @@
-pub mod Words
 pub mod NestLemmas
 pub mod AccountLemmas
 pub mod PlainLemmas

@@ -15,7 +15,7 @@ use Rattle.provider_trait.specs.declared.act.Act.TheVariants.{Put}
 use Rattle.provider_trait.specs.declared.answer.Answer.{Answer}
 use Rattle.provider_trait.specs.declared.answer.Answer.TheVariants.{Stored, Refused}
 use Rattle.provider_trait.specs.Plain.{members_of, members_found, object_of, is_storage, full_type, full_name, types_joined, names_joined, endpoints, endpoint, with_endpoints, stored_properties, state_named, plain_state}
-use Rattle.provider_trait.proofs.Words.{word, ascii_word}
+use Rattle.foundation.proofs.AsciiWords.{word, ascii_word}
 use Rattle.provider_trait.proofs.NestLemmas.{members-pairs, put_body, put_nests, members_nest, found_nests}
 
 pub copied_members : {E : Type 0} (r : Result (List Member) E) (ms : List Member) (j : Json) → j ≡ object (pairs ms) → IfOk r (λ v. v ≡ ms) → IfOk r (λ v. v ≡ members_of j)

@@ -30,6 +30,3 @@ pub use script::Script;
 pub use seat::Seat;
 pub use state::{State, StateFault};
 pub use step::Step;
-
-#[cfg(test)]
-mod tests;

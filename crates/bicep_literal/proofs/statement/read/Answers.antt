@@ -10,11 +10,11 @@ loop-statement-init c =
 
 pub returns-in-Err : goal.returns-in-Err
 returns-in-Err c =
-    rest_stops c.in-Err.stop statement_entry view.statement_of c.loop-statement.found.items c.args.file.now c.loop-statement.statement-index c.statement-item.result _ c.loop-statement-test.true c.statement-item.is c.in-Err.ensures c.loop-statement.invariant
+    rw c.stopped.ensures (rest_stops c.in-Err.stop statement_entry view.statement_of c.loop-statement.found.items c.args.file.now c.loop-statement.statement-index c.statement-item.result _ c.loop-statement-test.true c.statement-item.is c.in-Err.ensures c.loop-statement.invariant)
 
 pub loop-statement-preserved : goal.loop-statement-preserved
 loop-statement-preserved c =
-    rest_more statement_entry view.statement_of c.loop-statement.found.items c.push.new.self.items c.in-Ok.entry c.args.file.now c.loop-statement.statement-index c.statement-item.result _ c.loop-statement-test.true c.statement-item.is c.in-Ok.ensures c.in_ok-push-in-Ok.ensures.items c.loop-statement.invariant
+    rest_more statement_entry view.statement_of c.loop-statement.found.items c.in_ok-found-in-Ok.found.items c.in-Ok.entry c.args.file.now c.loop-statement.statement-index c.statement-item.result _ c.loop-statement-test.true c.statement-item.is c.in-Ok.ensures c.in_ok-found-in-Ok.ensures c.loop-statement.invariant
 
 pub returns : goal.returns
 returns c = rest_ends statement_entry view.statement_of c.loop-statement.found.items c.args.file.now c.loop-statement.statement-index _ c.loop-statement-test.false c.loop-statement.invariant

@@ -14,7 +14,7 @@ loop-token-init c =
 
 pub returns-in-Err-turn-clause-place : goal.returns-in-Err-turn-clause-place
 returns-in-Err-turn-clause-place c =
-    subst (TellsPlace (map standing c.args.tokens.now)) (sym c.told.ensures) (breaks_token c.args.tokens.now c.loop-token.token-index _ _ _ _ _ c.in-Err-turn.stop (drop_more c.args.tokens.now c.loop-token.token-index _ c.loop-token-test.true) c.in-Ok-terminal_of.ensures c.loop-token.invariant.0 c.in-Err-turn.ensures)
+    rw c.stopped-in-Err-turn.ensures (subst (TellsPlace (map standing c.args.tokens.now)) (sym c.told.ensures) (breaks_token c.args.tokens.now c.loop-token.token-index _ _ _ _ _ c.in-Err-turn.stop (drop_more c.args.tokens.now c.loop-token.token-index _ c.loop-token-test.true) c.in-Ok-terminal_of.ensures c.loop-token.invariant.0 c.in-Err-turn.ensures))
 
 pub loop-token-preserved : goal.loop-token-preserved
 loop-token-preserved c =
@@ -24,8 +24,8 @@ loop-token-preserved c =
 
 pub returns-in-Err-finish-clause-place : goal.returns-in-Err-finish-clause-place
 returns-in-Err-finish-clause-place c =
-    subst (TellsPlace (map standing c.args.tokens.now)) (sym c.told-in-Err-finish.ensures) (breaks_behind c.args.tokens.now c.loop-token.token-index _ _ _ c.in-Err-finish.stop _ c.loop-token-test.false c.loop-token.invariant.0 c.end_of-end.ensures)
+    rw c.stopped-in-Err-finish.ensures (subst (TellsPlace (map standing c.args.tokens.now)) (sym c.told-in-Err-finish.ensures) (breaks_behind c.args.tokens.now c.loop-token.token-index _ _ _ c.in-Err-finish.stop _ c.loop-token-test.false c.loop-token.invariant.0 c.end_of-end.ensures))
 
-pub returns-clause-deep : goal.returns-clause-deep
-returns-clause-deep c =
+pub returns-in-Ok-finish-clause-deep : goal.returns-in-Ok-finish-clause-deep
+returns-in-Ok-finish-clause-deep c =
     subst (λ at. TellsPlace (map standing c.args.tokens.now) (fault.TooDeep at)) (sym c.unwrap_or.ensures) (deep_behind c.args.tokens.now c.loop-token.token-index _ _ _ c.loop-token.deep c.end_of-end.result c.loop-token-test.false c.loop-token.invariant c.end_of-end.ensures)

@@ -1,5 +1,5 @@
 use Rattle.std.proofs.Common.{codes, refl, ◌∙◌}
-use Rattle.deploy_cli.proofs.Ascii.{word}
+use Rattle.foundation.proofs.AsciiWords.{word}
 use Rattle.deploy_cli.proofs.Placing.{place_made}
 use Rattle.deploy_cli.proofs.deploy.place_of.Goals as goal
 

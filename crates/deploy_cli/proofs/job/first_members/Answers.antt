@@ -1,7 +1,7 @@
 use Rattle.std.proofs.Common.{ap, refl, codes}
 use Rattle.arm_value.specs.Json.{pairs, object, text}
 use Rattle.deploy_cli.specs.Puts.{first_members}
-use Rattle.deploy_cli.proofs.Ascii.{word}
+use Rattle.foundation.proofs.AsciiWords.{word}
 use Rattle.deploy_cli.proofs.Members.{put_named}
 use Rattle.deploy_cli.proofs.job.first_members.Goals as goal
 

@@ -2,7 +2,7 @@ use Rattle.std.proofs.Common.{◌+◌, ◌≤◌, ◌++◌, [], ◌∷◌, ℕ, 
 use Rattle.arm_edges.specs.Disk.{Parts}
 use Rattle.deploy_journal.specs.Records.{body, record_of, Holds}
 use Rattle.deploy_journal.proofs.Lists.{staged, written_gate, overwritten_within, holds_within, length_patched}
-use Rattle.deploy_journal.proofs.Moments.{on_ok, since_then}
+use Rattle.deploy_journal.proofs.Moments.{on_ok, since_then, b_goes_on, b_kept, b_torn, b_same}
 use Rattle.deploy_journal.proofs.Crash.{body_since, gate_since, since_same}
 use Rattle.deploy_journal.proofs.append.put_record.Goals as goal
 
@@ -42,3 +42,17 @@ returns-clause-holds g c = on_ok c.sync.result
     let done = written_gate records c.args.gate (c.args.gate + (18 + length c.args.first.now + length c.args.second.now)) holds.gate r form.0 (g.D.Disk.reads c.write_body.new.disk).a holds.place refl is in
     subst (λ (l : List ℕ). Holds (records ++ r ∷ []) (c.args.gate + (18 + length c.args.first.now + length c.args.second.now)) l) (sym (ap (λ (f : Parts). f.a) c.sync.ensures.reads ∙ gate_is)) done)
     c.sync.ensures.kept
+
+pub returns-in_err-write_at-clause-part_b_images : goal.returns-in_err-write_at-clause-part_b_images
+returns-in_err-write_at-clause-part_b_images g c = λ t.
+    b_goes_on g.D.Disk.moment g.D.Disk.left _ _ _
+    (b_kept g.D.Disk.moment g.D.Disk.left (c.args.gate + 1) _ _ (c.write_body.ensures.images t))
+    (b_torn g.D.Disk.moment g.D.Disk.left c.args.gate 1 _ _ (c.write_at.ensures.images t))
+
+pub returns-clause-part_b_images : goal.returns-clause-part_b_images
+returns-clause-part_b_images g c = λ t.
+    let then = b_goes_on g.D.Disk.moment g.D.Disk.left in
+    then _ _ _
+    (then _ _ _ (b_kept g.D.Disk.moment g.D.Disk.left (c.args.gate + 1) _ _ (c.write_body.ensures.images t))
+    (b_torn g.D.Disk.moment g.D.Disk.left c.args.gate 1 _ _ (c.write_at.ensures.images t)))
+    (b_same g.D.Disk.moment g.D.Disk.left _ _ (c.sync.ensures.images t))

@@ -1,4 +1,4 @@
-use Rattle.std.proofs.Common.{length, refl, inl, ap, sym, ◌∙◌, true}
+use Rattle.std.proofs.Common.{length, refl, inl, ap, sym, ◌∙◌}
 use Rattle.arm_edges.specs.Disk.{Parts}
 use Rattle.deploy_journal.proofs.open.read_all.Goals as goal
 

@@ -1,7 +1,7 @@
 use Rattle.std.proofs.Common.{◌≡◌, drop, map}
 use Rattle.std.specs.List.{list_all}
 use Rattle.arm_value.specs.View.{json}
-use Rattle.function_lists.specs.Items.{is_array, is_item_of}
+use Rattle.function_lists.specs.Items.{is_array}
 use Rattle.function_lists.proofs.items.are_arrays.Given as goal
 
 abbrev pub invariant-loop-value : goal.invariant-loop-value

@@ -1,6 +1,6 @@
-use Rattle.std.proofs.Common.{◌≡◌, ℕ, ℤ, pos, negsuc, List, ◌++◌, take, drop, refl, ap, ap₂, sym, ◌∙◌}
+use Rattle.std.proofs.Common.{◌≡◌, ℕ, List, ◌++◌, take, drop, ap₂, ◌∙◌}
 use Rattle.std.proofs.lemmas.List.{take-append-drop}
-use Rattle.arm_value.specs.Json.{Json, text, array, row, items}
+use Rattle.arm_value.specs.Json.{Json, row, items}
 use Rattle.function_numbers.proofs.RowLemmas.{items_of_row}
 use Rattle.function_lists.specs.Ends.{amount}
 use Rattle.function_lists.proofs.ValueLemmas.{array_of_is}

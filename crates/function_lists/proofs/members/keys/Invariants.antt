@@ -1,9 +1,6 @@
-use Rattle.std.proofs.Common.{◌≡◌, ◌++◌, drop, map, option_map}
-use Rattle.std.specs.List.{list_any, list_all}
+use Rattle.std.proofs.Common.{◌≡◌, ◌++◌, drop, map}
 use Rattle.arm_value.specs.Json.{text}
 use Rattle.arm_value.specs.View.{json, member}
-use Rattle.function_lists.specs.Values.{or_null}
-use Rattle.function_lists.specs.Members.{key_and_value}
 use Rattle.function_lists.proofs.members.keys.Given as goal
 
 abbrev pub invariant-loop-field : goal.invariant-loop-field

@@ -1,8 +1,5 @@
-use Rattle.std.proofs.Common.{◌≡◌, ◌++◌, drop, map, option_map}
-use Rattle.std.specs.List.{list_any, list_all}
-use Rattle.arm_value.specs.Json.{text}
+use Rattle.std.proofs.Common.{◌≡◌, ◌++◌, drop, map}
 use Rattle.arm_value.specs.View.{json, member}
-use Rattle.function_lists.specs.Values.{or_null}
 use Rattle.function_lists.specs.Members.{key_and_value}
 use Rattle.function_lists.proofs.members.keys_and_values.Given as goal
 

@@ -1,4 +1,4 @@
-use Rattle.std.proofs.Common.{◌∙◌, ap, sym, map, length, option_map, arith}
+use Rattle.std.proofs.Common.{◌∙◌, ap, sym, map, option_map, arith}
 use Rattle.std.proofs.lemmas.List.{length-take, length-drop}
 use Rattle.arm_value.specs.View.{member}
 use Rattle.arm_value.proofs.JsonLemmas.{map-push}

@@ -1,7 +1,5 @@
-use Rattle.std.proofs.Common.{◌≡◌, ◌++◌, drop, map, option_map}
-use Rattle.std.specs.List.{list_any, list_all}
-use Rattle.arm_value.specs.Json.{text}
-use Rattle.arm_value.specs.View.{json, member}
+use Rattle.std.proofs.Common.{◌≡◌, drop, map, option_map}
+use Rattle.arm_value.specs.View.{json}
 use Rattle.function_lists.specs.Values.{or_null}
 use Rattle.function_lists.specs.Members.{part_along}
 use Rattle.function_lists.proofs.parts.part_along.Given as goal

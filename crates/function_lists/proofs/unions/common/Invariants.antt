@@ -1,7 +1,5 @@
-use Rattle.std.proofs.Common.{◌≡◌, ◌++◌, drop, map, option_map, bytes_eq}
-use Rattle.std.specs.Prelude.{◌&&◌}
-use Rattle.std.specs.List.{list_any, list_all, filter}
-use Rattle.arm_value.specs.Same.{is_same}
+use Rattle.std.proofs.Common.{◌≡◌, ◌++◌, drop, map}
+use Rattle.std.specs.List.{list_all, filter}
 use Rattle.arm_value.specs.View.{json, member}
 use Rattle.function_lists.specs.Members.{is_member_of}
 use Rattle.function_lists.proofs.unions.common.Given as goal

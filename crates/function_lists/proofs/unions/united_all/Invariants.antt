@@ -1,8 +1,5 @@
-use Rattle.std.proofs.Common.{◌≡◌, ◌++◌, drop, map, option_map, bytes_eq}
-use Rattle.std.specs.Prelude.{◌&&◌}
-use Rattle.std.specs.List.{list_any, list_all, filter}
-use Rattle.arm_value.specs.Same.{is_same}
-use Rattle.arm_value.specs.View.{json, member}
+use Rattle.std.proofs.Common.{◌≡◌, drop, map}
+use Rattle.arm_value.specs.View.{json}
 use Rattle.function_lists.specs.Members.{united_all}
 use Rattle.function_lists.proofs.unions.united_all.Given as goal
 

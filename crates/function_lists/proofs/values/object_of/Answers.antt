@@ -1,9 +1,16 @@
-use Rattle.std.proofs.Common.{◌∙◌, sym}
-use Rattle.function_lists.proofs.ValueLemmas.{is_object_of, no_object_of}
+use Rattle.std.proofs.Common.{◌≡◌, ◌∙◌, [], ap, sym, map, option_map, subst, IfOk}
+use Rattle.arm_value.specs.Json.{object, pairs, put_each, IsInOrder}
+use Rattle.arm_value.specs.View.{json, member}
+use Rattle.arm_value.proofs.JsonLemmas.{IsInOrder-nil}
+use Rattle.function_lists.specs.Values.{capped}
+use Rattle.function_lists.proofs.MergeLemmas.{put_each_in_order}
+use Rattle.function_lists.proofs.ValueLemmas.{is_object_of}
 use Rattle.function_lists.proofs.values.object_of.Goals as goal
 
-pub returns-in-Some : goal.returns-in-Some
-returns-in-Some c = is_object_of _ _ _ c.in_ok-sorted.ensures (sym c.in-Some.is ∙ c.in_ok-fields.ensures)
+pub capped_object-requires : goal.capped_object-requires
+capped_object-requires c = subst IsInOrder (sym (c.in_ok-members.ensures ∙ c.in_ok-sorted.ensures)) (put_each_in_order [] (map member c.args.members.items) IsInOrder-nil)
 
-pub returns-in-None : goal.returns-in-None
-returns-in-None c = no_object_of _ _ c.in_ok-sorted.ensures (sym c.in-None.is ∙ c.in_ok-fields.ensures)
+pub returns : goal.returns
+returns c =
+    let whole = c.in_ok-members.ensures ∙ c.in_ok-sorted.ensures in
+    subst (λ o. IfOk c.capped_object.result (λ value. option_map json value ≡ o)) (ap (λ ms. capped (object (pairs ms))) whole ∙ is_object_of (map member c.args.members.items)) c.capped_object.ensures

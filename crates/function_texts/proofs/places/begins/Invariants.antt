@@ -1,4 +1,4 @@
-use Rattle.std.proofs.Common.{◌≡◌, ◌≤◌, length, drop}
+use Rattle.std.proofs.Common.{◌≡◌, drop}
 use Rattle.function_texts.specs.Places.{begins}
 use Rattle.function_texts.proofs.places.begins.Given as goal
 

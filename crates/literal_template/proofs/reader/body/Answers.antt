@@ -1,4 +1,4 @@
-use Rattle.std.proofs.Common.{option_map, ap, sym, ◌∙◌, arith}
+use Rattle.std.proofs.Common.{option_map, ap, sym, ◌∙◌, arith, refl}
 use Rattle.arm_value.specs.View.{json}
 use Rattle.literal_template.proofs.LoopLemmas.{member_within, stated_within, member_last, members_ordered}
 use Rattle.literal_template.proofs.ReadLemmas.{head_passed, order_passed, body_member, body_end}
@@ -10,19 +10,19 @@ loop-field-preserved-then-is_head c = record {
   ordered = order_passed c.loop-field.found c.as_slice-field-items.result.now c.loop-field.field-index c.field-item.result c.loop-field.invariant.ordered c.loop-field-test.true c.field-item.is;
 }
 
-pub push_last-requires-clause-nests : goal.push_last-requires-clause-nests
-push_last-requires-clause-nests c =
+pub with_member-requires-clause-nests : goal.with_member-requires-clause-nests
+with_member-requires-clause-nests c =
     let h = member_within c.as_slice-field-items.result.now c.args.fields.now c.loop-field.field-index c.field-item.result c.as_slice-field-items.ensures.members c.loop-field-test.true c.field-item.is in
-    stated_within (json c.field-item.result.value) _ _ 119 c.in_ok-value.ensures (ap (option_map json) c.in-Some.is) (omega (arith, h, c.as_slice-field-items.ensures.rules.2))
+    stated_within (json c.field-item.result.value) _ _ 119 c.in-Ok-Some.ensures (ap (option_map json) c.in-Ok-Some.field-0-is) (omega (arith, h, c.as_slice-field-items.ensures.rules.2))
 
-pub push_last-requires-clause-last : goal.push_last-requires-clause-last
-push_last-requires-clause-last c =
-    member_last c.loop-field.found c.as_slice-field-items.result.now c.loop-field.field-index c.field-item.result c.in_ok-name.name (json c.in-Some.value) c.loop-field.invariant.ordered c.loop-field-test.true c.field-item.is c.in_ok-name.ensures
+pub with_member-requires-clause-last : goal.with_member-requires-clause-last
+with_member-requires-clause-last c =
+    member_last c.loop-field.found c.as_slice-field-items.result.now c.loop-field.field-index c.field-item.result c.field-item.result.name (json c.in-Ok-Some.value) c.loop-field.invariant.ordered c.loop-field-test.true c.field-item.is refl
 
 pub loop-field-preserved : goal.loop-field-preserved
 loop-field-preserved c = record {
-  all = body_member _ c.loop-field.found c.push_last.new.self c.as_slice-field-items.result.now c.loop-field.field-index c.field-item.result c.in_ok-name.name (json c.in-Some.value) _ c.loop-field.invariant.all c.loop-field-test.true c.field-item.is (sym c.is_head.ensures ∙ c.if-is_head.false) (sym c.is_special.ensures ∙ c.if-is_special.false) c.in_ok-name.ensures c.in_ok-value.ensures (ap (option_map json) c.in-Some.is) c.in_ok-push_last-in-Some.ensures;
-  ordered = members_ordered c.loop-field.found c.push_last.new.self c.as_slice-field-items.result.now c.loop-field.field-index c.field-item.result c.in_ok-name.name (json c.in-Some.value) c.loop-field.invariant.ordered c.loop-field-test.true c.field-item.is c.in_ok-name.ensures c.in_ok-push_last-in-Some.ensures;
+  all = body_member _ c.loop-field.found c.in_ok-found-in-Ok-Some.found c.as_slice-field-items.result.now c.loop-field.field-index c.field-item.result c.field-item.result.name (json c.in-Ok-Some.value) _ c.loop-field.invariant.all c.loop-field-test.true c.field-item.is (sym c.is_head.ensures ∙ c.if-is_head.false) (sym c.is_special.ensures ∙ c.if-is_special.false) refl c.in-Ok-Some.ensures (ap (option_map json) c.in-Ok-Some.field-0-is) c.in_ok-found-in-Ok-Some.ensures;
+  ordered = members_ordered c.loop-field.found c.in_ok-found-in-Ok-Some.found c.as_slice-field-items.result.now c.loop-field.field-index c.field-item.result c.field-item.result.name (json c.in-Ok-Some.value) c.loop-field.invariant.ordered c.loop-field-test.true c.field-item.is refl c.in_ok-found-in-Ok-Some.ensures;
 }
 
 pub returns : goal.returns

@@ -2,7 +2,7 @@ use Rattle.std.proofs.Common.{◌∙◌, ap, sym, not, codes, refl}
 use Rattle.arm_value.specs.View.{json}
 use Rattle.arm_value.specs.Look.{look}
 use Rattle.provider_trait.specs.Catalog.{is_text, needs_location}
-use Rattle.provider_trait.proofs.Words.{word}
+use Rattle.foundation.proofs.AsciiWords.{word}
 use Rattle.provider_trait.proofs.PlainLemmas.{asks}
 use Rattle.provider_trait.proofs.catalog.lacks_location.Goals as goal
 

@@ -1,6 +1,6 @@
 use Rattle.std.proofs.Common.{◌∙◌, ap, sym, codes, refl, Some}
 use Rattle.arm_value.specs.View.{json}
-use Rattle.provider_trait.proofs.Words.{word}
+use Rattle.foundation.proofs.AsciiWords.{word}
 use Rattle.provider_trait.proofs.PlainLemmas.{tells_first, tells_second, tells_third, tells_fourth, tells_none}
 use Rattle.provider_trait.proofs.catalog.refusal.Goals as goal
 

@@ -1,7 +1,7 @@
 use Rattle.std.proofs.Common.{◌∙◌, ap, sym, codes, refl}
 use Rattle.arm_value.specs.View.{json}
 use Rattle.arm_value.specs.Look.{look}
-use Rattle.provider_trait.proofs.Words.{word}
+use Rattle.foundation.proofs.AsciiWords.{word}
 use Rattle.provider_trait.proofs.PlainLemmas.{look_twice, look_none}
 use Rattle.provider_trait.proofs.catalog.sku_name.Goals as goal
 

@@ -1,5 +1,5 @@
 use Rattle.std.proofs.Common.{codes, refl}
-use Rattle.provider_trait.proofs.Words.{word}
+use Rattle.foundation.proofs.AsciiWords.{word}
 use Rattle.provider_trait.proofs.PlainLemmas.{endpoints_made}
 use Rattle.provider_trait.proofs.plain.endpoints.Goals as goal
 

@@ -2,7 +2,7 @@ use Rattle.std.proofs.Common.{◌∙◌, ap, sym, codes, refl}
 use Rattle.arm_value.specs.View.{json}
 use Rattle.arm_value.specs.Look.{look}
 use Rattle.provider_trait.specs.Plain.{members_found}
-use Rattle.provider_trait.proofs.Words.{word}
+use Rattle.foundation.proofs.AsciiWords.{word}
 use Rattle.provider_trait.proofs.PlainLemmas.{endpoints_few, properties_plain, properties_with_endpoints}
 use Rattle.provider_trait.proofs.plain.properties_of.Goals as goal
 

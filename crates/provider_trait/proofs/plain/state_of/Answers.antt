@@ -1,6 +1,6 @@
 use Rattle.std.proofs.Common.{codes, refl}
 use Rattle.arm_value.specs.View.{json}
-use Rattle.provider_trait.proofs.Words.{word}
+use Rattle.foundation.proofs.AsciiWords.{word}
 use Rattle.provider_trait.proofs.PlainLemmas.{properties_few, state_made, state_shallow}
 use Rattle.provider_trait.proofs.plain.state_of.Goals as goal
 

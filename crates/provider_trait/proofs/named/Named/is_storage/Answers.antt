@@ -1,5 +1,5 @@
 use Rattle.std.proofs.Common.{◌∙◌, codes, refl}
-use Rattle.provider_trait.proofs.Words.{word}
+use Rattle.foundation.proofs.AsciiWords.{word}
 use Rattle.provider_trait.proofs.PlainLemmas.{kind_is}
 use Rattle.provider_trait.proofs.named.Named.is_storage.Goals as goal
 

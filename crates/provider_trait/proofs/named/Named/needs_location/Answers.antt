@@ -1,7 +1,7 @@
 use Rattle.std.proofs.Common.{◌∙◌, sym, codes, refl, bytes_eq}
 use Rattle.arm_value.specs.Look.{fold}
 use Rattle.provider_trait.specs.Plain.{is_storage}
-use Rattle.provider_trait.proofs.Words.{word}
+use Rattle.foundation.proofs.AsciiWords.{word}
 use Rattle.provider_trait.proofs.PlainLemmas.{kind_is, first_or, second_or, third_or, last_or}
 use Rattle.provider_trait.proofs.named.Named.needs_location.Goals as goal
 

@@ -1,5 +1,0 @@
-use Rattle.arm_expr.proofs.NameLemmas.{names-Text}
-use Rattle.arm_expr.proofs.tests.string_of.Goals as goal
-
-pub returns : goal.returns
-returns c = names-Text c.from_string.result

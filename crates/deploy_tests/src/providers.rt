@@ -1,0 +1,282 @@
+// What providers answer, call by call.
+ghost use Rattle.std.specs.Prelude.{◌≡◌, IfOk};
+ghost use Rattle.arm_value.specs.View.{json};
+ghost use Rattle.provider_trait.specs.Act.{FitsAct};
+ghost use Rattle.provider_trait.specs.declared.act.Act.TheVariants.{Delete, Put};
+
+use arm_value::{Bytes, Fields, Text, Value};
+use provider_trait::{
+    Act, Answer, Catalog, Job, JobParts, Provider, ProviderFault, Script, Seat, State, StateFault,
+    Step,
+};
+use std::alloc::{AllocError, Global};
+use std::test::Fail;
+
+const THING: &str = "/subscriptions/s/resourceGroups/g/providers/Demo.Lab/things/x";
+
+const CHILD: &str = "/subscriptions/s/resourceGroups/g/providers/Demo.Lab/things/x/parts/y";
+
+const STORAGE: &str =
+    "/subscriptions/s/resourceGroups/g/providers/Microsoft.Storage/storageAccounts/acc1";
+
+// The object of these members, or an empty one where they nest too deep.
+fn body_of(members: Fields) -> Value
+    ensures { FitsAct Put (json result) }
+{
+    if members.depth() <= 99 {
+        return Value::Object(members);
+    }
+    Value::Object(Fields::new())
+}
+
+// The job of a put with this body.
+fn put_job(alloc: Global, id: &str, body: &str) -> Result<Job, Fail>
+    ensures { IfOk result (λ job. job.act ≡ Put) }
+{
+    let members = match Value::from_json(alloc, body.as_bytes())? {
+        Value::Object(members) => members,
+        _ => Fields::new(),
+    };
+    Ok(Job::new(JobParts {
+        task: 1,
+        worker: 0,
+        act: Act::Put,
+        id: Text::of(alloc, id)?,
+        api: Text::of(alloc, "2023-01-01")?,
+        body: body_of(members),
+        first: Bytes::from_vec(Vec::new(alloc)),
+    }))
+}
+
+fn delete_job(alloc: Global, id: &str) -> Result<Job, Fail>
+    ensures { IfOk result (λ job. job.act ≡ Delete) }
+{
+    Ok(Job::new(JobParts {
+        task: 2,
+        worker: 0,
+        act: Act::Delete,
+        id: Text::of(alloc, id)?,
+        api: Text::of(alloc, "")?,
+        body: Value::Null,
+        first: Bytes::from_vec(Vec::new(alloc)),
+    }))
+}
+
+// Fails where something else is answered than wanted.
+fn compare(asked: &str, found: &str, wanted: &str) -> Result<(), Fail> {
+    if found == wanted {
+        return Ok(());
+    }
+    Err(Fail::new(format_args!("{asked} -> {wanted} but {found}")))
+}
+
+// Compares the text of a state with the wanted one.
+fn compare_state(alloc: Global, id: &str, state: &State, wanted: &str) -> Result<(), Fail> {
+    let text = String::from_utf8(Vec::from_slice(alloc, state.text().as_slice())?)?;
+    compare(id, text.as_str(), wanted)
+}
+
+// Compares the text of the stored state, the refusal's code, or what else is answered with what is
+// wanted.
+fn compare_answer(
+    alloc: Global,
+    id: &str,
+    gave: &Result<Answer, ProviderFault>,
+    wanted: &str,
+) -> Result<(), Fail> {
+    match gave {
+        Ok(Answer::Stored(state)) => compare_state(alloc, id, state, wanted),
+        Ok(Answer::Gone) => compare(id, "Gone", wanted),
+        Ok(Answer::Refused(code)) => compare(id, code.as_str(), wanted),
+        Err(ProviderFault::Fault) => compare(id, "Fault", wanted),
+        Err(ProviderFault::OutOfMemory) => compare(id, "OutOfMemory", wanted),
+    }
+}
+
+fn check_put<P: Provider>(
+    alloc: Global,
+    provider: &mut P,
+    id: &str,
+    body: &str,
+    wanted: &str,
+) -> Result<(), Fail> {
+    let job = put_job(alloc, id, body)?;
+    let gave = provider.put(alloc, &job);
+    compare_answer(alloc, id, &gave, wanted)
+}
+
+fn check_delete<P: Provider>(
+    alloc: Global,
+    provider: &mut P,
+    id: &str,
+    wanted: &str,
+) -> Result<(), Fail> {
+    let job = delete_job(alloc, id)?;
+    let gave = provider.delete(alloc, &job);
+    compare_answer(alloc, id, &gave, wanted)
+}
+
+const THING_STATE: &str = concat!(
+    r#"{"a":1,"apiVersion":"2023-01-01","#,
+    r#""id":"/subscriptions/s/resourceGroups/g/providers/Demo.Lab/things/x","name":"x","#,
+    r#""properties":{"provisioningState":"Succeeded"},"type":"Demo.Lab/things"}"#,
+);
+
+const CHILD_STATE: &str = concat!(
+    r#"{"apiVersion":"2023-01-01","#,
+    r#""id":"/subscriptions/s/resourceGroups/g/providers/Demo.Lab/things/x/parts/y","name":"x/y","#,
+    r#""properties":{"provisioningState":"Succeeded","z":[1]},"type":"Demo.Lab/things/parts"}"#,
+);
+
+const NAMELESS_STATE: &str = concat!(
+    r#"{"apiVersion":"2023-01-01","id":"no id","name":"","#,
+    r#""properties":{"provisioningState":"Succeeded"},"type":""}"#,
+);
+
+#[test]
+fn the_catalogue_stores_the_body_with_what_the_id_says(rt: HostRuntime) -> Result<(), Fail> {
+    let mut catalog = Catalog::new(rt.alloc());
+    let thing = r#"{"a":1,"id":"no"}"#;
+    check_put(rt.alloc(), &mut catalog, THING, thing, THING_STATE)?;
+    let child = r#"{"properties":{"z":[1]}}"#;
+    check_put(rt.alloc(), &mut catalog, CHILD, child, CHILD_STATE)?;
+    check_put(rt.alloc(), &mut catalog, "no id", "{}", NAMELESS_STATE)
+}
+
+const STORAGE_STATE: &str = concat!(
+    r#"{"apiVersion":"2023-01-01","#,
+    r#""id":"/subscriptions/s/resourceGroups/g/providers/Microsoft.Storage/storageAccounts/acc1","#,
+    r#""location":"w","name":"acc1","properties":{"primaryEndpoints":{"#,
+    r#""blob":"https://acc1.blob.core.windows.net/","file":"https://acc1.file.core.windows.net/","#,
+    r#""queue":"https://acc1.queue.core.windows.net/","table":"https://acc1.table.core.windows.net/"},"#,
+    r#""provisioningState":"Succeeded"},"sku":{"name":"S"},"type":"Microsoft.Storage/storageAccounts"}"#,
+);
+
+#[test]
+fn the_catalogue_gives_storage_accounts_endpoints(rt: HostRuntime) -> Result<(), Fail> {
+    let mut catalog = Catalog::new(rt.alloc());
+    let body = r#"{"location":"w","sku":{"name":"S"}}"#;
+    check_put(rt.alloc(), &mut catalog, STORAGE, body, STORAGE_STATE)?;
+    check_delete(rt.alloc(), &mut catalog, STORAGE, "Gone")?;
+    assert_eq!(rt; catalog.calls().len(), 2);
+    Ok(())
+}
+
+// A type with a name, the body of a put, and after an arrow the code of its refusal.
+const REFUSALS: &str = r#"Demo.Lab/things/x {"properties":[]} -> InvalidProperties
+Microsoft.Storage/storageAccounts/acc1 {"properties":1} -> InvalidProperties
+Microsoft.Storage/storageAccounts/acc1 {"sku":{"name":"Standard_LRS"}} -> LocationRequired
+Microsoft.Storage/storageAccounts/acc1 {"location":"westeurope"} -> SkuRequired
+Microsoft.Storage/storageAccounts/acc1 {"location":"westeurope","sku":{"name":1}} -> SkuRequired
+Microsoft.Storage/storageAccounts/Acc {"location":"w","sku":{"name":"S"}} -> AccountNameInvalid
+microsoft.storage/STORAGEACCOUNTS/ab {"location":"w","sku":{"name":"S"}} -> AccountNameInvalid
+Microsoft.Web/sites/w {"location":1} -> LocationRequired
+Microsoft.Web/serverFarms/w {} -> LocationRequired
+Microsoft.Network/virtualNetworks/w {} -> LocationRequired"#;
+
+fn check_refusal(alloc: Global, catalog: &mut Catalog, line: &str) -> Result<(), Fail> {
+    let (asked, wanted) = line.split_once(" -> ").unwrap_or((line, "a code"));
+    let (named, body) = asked.split_once(' ').unwrap_or((asked, "{}"));
+    let id = format!(in alloc; "/subscriptions/s/resourceGroups/g/providers/{named}")?;
+    check_put(alloc, catalog, id.as_str(), body, wanted)
+}
+
+#[test]
+fn the_catalogue_refuses_by_its_table(rt: HostRuntime) -> Result<(), Fail> {
+    let mut catalog = Catalog::new(rt.alloc());
+    for line in REFUSALS.lines() {
+        check_refusal(rt.alloc(), &mut catalog, line)?;
+    }
+    assert_eq!(rt; catalog.calls().len(), 10);
+    Ok(())
+}
+
+// Adds a refusal, a fault and a step that stores.
+fn add_steps(alloc: Global, steps: &mut Vec<Step>) -> Result<(), Fail> {
+    steps.push(Step::Refuse(Text::of(alloc, "Quota")?))?;
+    steps.push(Step::Fail)?;
+    Ok(steps.push(Step::Store)?)
+}
+
+fn check_steps(alloc: Global, provider: &mut Script) -> Result<(), Fail> {
+    check_put(alloc, provider, THING, "{}", "Quota")?;
+    check_delete(alloc, provider, THING, "Fault")?;
+    check_delete(alloc, provider, THING, "Gone")?;
+    check_put(
+        alloc,
+        provider,
+        "no id",
+        r#"{"properties":3}"#,
+        NAMELESS_STATE,
+    )
+}
+
+fn check_count(asked: &str, found: u64, wanted: u64) -> Result<(), Fail> {
+    if found == wanted {
+        return Ok(());
+    }
+    Err(Fail::new(format_args!("{asked} -> {wanted} but {found}")))
+}
+
+fn check_script(alloc: Global, script: &mut Script) -> Result<(), Fail> {
+    check_steps(alloc, script)?;
+    check_count("calls", script.calls().len() as u64, 4)?;
+    check_count("faults", script.faults(), 1)
+}
+
+// A seat over the script of these steps, which has no job.
+fn check_seat(alloc: Global, steps: Vec<Step>) -> Result<(), Fail> {
+    let mut seat = Seat::new(Script::new(alloc, steps));
+    if seat.job.is_some() {
+        return Err(Fail::from("a job"));
+    }
+    check_script(alloc, &mut seat.provider)
+}
+
+#[test]
+fn a_script_answers_by_its_steps_and_then_stores(rt: HostRuntime) -> Result<(), Fail> {
+    let mut steps = Vec::new(rt.alloc());
+    add_steps(rt.alloc(), &mut steps)?;
+    check_seat(rt.alloc(), steps)
+}
+
+// This many arrays, one in another.
+fn nested(alloc: Global, depth: usize) -> Result<String, AllocError> {
+    let mut text = String::new(alloc);
+    for _ in 0..depth {
+        text.push('[')?;
+    }
+    for _ in 0..depth {
+        text.push(']')?;
+    }
+    Ok(text)
+}
+
+fn nested_value(alloc: Global, depth: usize) -> Result<Value, Fail> {
+    let text = nested(alloc, depth)?;
+    Ok(Value::from_json(alloc, text.as_bytes())?)
+}
+
+fn check_copy(alloc: Global, state: &State) -> Result<(), Fail> {
+    let value = state.copy(alloc)?.into_value();
+    check_count("nesting", value.nesting() as u64, 110)
+}
+
+fn check_state(alloc: Global, value: Value) -> Result<(), Fail> {
+    let state = State::of(alloc, value)?;
+    check_count("bytes", state.text().as_slice().len() as u64, 220)?;
+    check_copy(alloc, &state)
+}
+
+#[test]
+fn a_state_nests_110_deep(rt: HostRuntime) -> Result<(), Fail> {
+    let value = nested_value(rt.alloc(), 110)?;
+    check_state(rt.alloc(), value)
+}
+
+#[test]
+fn no_state_nests_111_deep(rt: HostRuntime) -> Result<(), Fail> {
+    let deeper = State::of(rt.alloc(), nested_value(rt.alloc(), 111)?);
+    assert!(rt; matches!(deeper, Err(StateFault::TooDeep)));
+    Ok(())
+}

@@ -1,0 +1,12 @@
+-- Choices by a truth value.
+use Rattle.std.proofs.Common.{◌≡◌, Bool, true, false, cond, refl}
+
+-- what holds of both sides holds of the choice
+pub if_else : {A : Type 0} (P : A → Type 0) (b : Bool) (x y : A) → (b ≡ true → P x) → (b ≡ false → P y) → P (cond b x y)
+if_else P true x y f g = f refl
+if_else P false x y f g = g refl
+
+-- a function of a choice is the choice of its values
+pub chosen : {A B : Type 0} (f : A → B) (b : Bool) (x y : A) → f (cond b x y) ≡ cond b (f x) (f y)
+chosen f true x y = refl
+chosen f false x y = refl

@@ -1,0 +1,5 @@
+pub mod AsciiWords
+pub mod Choices
+pub mod Comparisons
+pub mod OptionLoops
+pub mod TruthValues

@@ -1,0 +1,104 @@
+-- Values that are found by their compact texts.
+use Rattle.std.proofs.Common.{◌≡◌, ℕ, ℤ, pos, negsuc, Bool, true, false, ◌||◌, List, [], ◌∷◌, ◌++◌, Some, bytes_eq, refl, ap, ap₂, sym, ◌∙◌}
+use Rattle.std.specs.Prelude.{cond}
+use Rattle.std.specs.Cmp.{both_ways}
+use Rattle.std.specs.List.{AllByRecursion, list_any}
+use Rattle.std.specs.BTreeSet.{BTreeSet, contains, IsEmpty, Updates}
+use Rattle.std.specs.declared.vec.Vec.{Vec}
+use Rattle.std.specs.declared.alloc.Global.{Global}
+use Rattle.std.proofs.lemmas.List.Folds.{list_any-append}
+use Rattle.std.proofs.lemmas.Map.Text.{is_eq-slice_cmp}
+use Rattle.std.proofs.lemmas.Slice.Eq.{bytes_eq-Decides}
+use Rattle.std.proofs.lemmas.Str.{encodes_same}
+use Rattle.serde_json.specs.Data as d
+use Rattle.serde_json.specs.Data.{Data}
+use Rattle.serde_json.specs.Find.{of_integer}
+use Rattle.arm_value.specs.Json.{Json, null, bool, int, text, array, object, Row, no_items, item, Pairs, no_pairs, pair}
+use Rattle.arm_value.specs.Reading.{data_of, row_data, pairs_data, reading}
+use Rattle.arm_value.specs.Same.{is_same}
+use Rattle.arm_value.proofs.SameLemmas.{decides_equal}
+use Rattle.function_lists.specs.Items.{is_among}
+use Rattle.function_lists.specs.Index.{text_of, ReadsBack, text_cmp, IsIndexOf}
+
+-- ---- a tree and its data
+
+abbrev integer_in : d.Num → ℤ
+integer_in (d.unsigned n) = pos n
+integer_in (d.negative z) = z
+integer_in (d.float x) = pos 0
+
+integer_back : (z : ℤ) → integer_in (of_integer z) ≡ z
+integer_back (pos n) = refl
+integer_back (negsuc n) = refl
+
+mutual
+  same_data : (j k : Json) → data_of j ≡ data_of k → j ≡ k
+  same_data null null e = refl
+  same_data (bool a) (bool b) e = let same : a ≡ b = cc in ap bool same
+  same_data (int x) (int y) e = let same : of_integer x ≡ of_integer y = cc in ap int (sym (integer_back x) ∙ ap integer_in same ∙ integer_back y)
+  same_data (text s) (text t) e = ap text (encodes_same s t (cc))
+  same_data (array js) (array ks) e = ap array (same_row js ks (cc))
+  same_data (object ms) (object ns) e = ap object (same_pairs ms ns (cc))
+  same_data _ _ e = absurd (cc)
+
+  same_row : (js ks : Row) → row_data js ≡ row_data ks → js ≡ ks
+  same_row no_items no_items e = refl
+  same_row (item j js) (item k ks) e = ap₂ item (same_data j k (cc)) (same_row js ks (cc))
+  same_row _ _ e = absurd (cc)
+
+  same_pairs : (ms ns : Pairs) → pairs_data ms ≡ pairs_data ns → ms ≡ ns
+  same_pairs no_pairs no_pairs e = refl
+  same_pairs (pair s j ms) (pair t k ns) e = λ i. pair (encodes_same s t (cc) i) (same_data j k (cc) i) (same_pairs ms ns (cc) i)
+  same_pairs _ _ e = absurd (cc)
+
+-- ---- a text and its value
+
+same_value : (j k : Json) → ReadsBack j → ReadsBack k → text_of j ≡ text_of k → j ≡ k
+same_value j k a b texts =
+    let datas : Some (data_of j) ≡ Some (data_of k) = sym a ∙ ap reading texts ∙ b in
+    same_data j k (cc)
+
+-- texts that read back are equal where their values are
+texts_tell : (j k : Json) → ReadsBack j → ReadsBack k → bytes_eq (text_of j) (text_of k) ≡ is_same j k
+texts_tell j k a b =
+    let equal = decides_equal (is_same j k) j k refl in
+    both_ways (bytes_eq (text_of j) (text_of k)) (is_same j k)
+    (λ t. equal.1 (same_value j k a b ((bytes_eq-Decides (text_of j) (text_of k)).0 t)))
+    (λ t. (bytes_eq-Decides (text_of j) (text_of k)).1 (ap text_of (equal.0 t)))
+
+among_texts : (j : Json) (js : List Json) → ReadsBack j → AllByRecursion ReadsBack js → list_any (λ k. bytes_eq (text_of j) (text_of k)) js ≡ is_among js j
+among_texts j [] a h = refl
+among_texts j (k ∷ js) a h = ap₂ (λ x y. x || y) (texts_tell j k a h.0) (among_texts j js a h.1)
+
+-- ---- the set
+
+-- what the set says of a text, it says of the value
+pub is_indexed : (texts : BTreeSet (Vec ℕ Global)) (key : Vec ℕ Global) (js : List Json) (j : Json) → IsIndexOf texts js → key.items ≡ text_of j → ReadsBack j → contains text_cmp texts key ≡ is_among js j
+is_indexed texts key js j h e a =
+    h.has key ∙ ap (λ s. list_any (λ k. bytes_eq s (text_of k)) js) e ∙ among_texts j js a h.read_back
+
+pub index_empty : (texts : BTreeSet (Vec ℕ Global)) → IsEmpty texts → IsIndexOf texts []
+index_empty texts e = record { has = λ s. ap (list_any _) e; read_back = tt }
+
+swapped : (s t : List ℕ) → bytes_eq s t ≡ bytes_eq t s
+swapped s t =
+    both_ways (bytes_eq s t) (bytes_eq t s) (λ h. (bytes_eq-Decides t s).1 (sym ((bytes_eq-Decides s t).0 h))) (λ h. (bytes_eq-Decides s t).1 (sym ((bytes_eq-Decides t s).0 h)))
+
+last_or : (a b : Bool) → cond a true b ≡ (b || (a || false))
+last_or true true = refl
+last_or true false = refl
+last_or false true = refl
+last_or false false = refl
+
+all_push : (js : List Json) (j : Json) → AllByRecursion ReadsBack js → ReadsBack j → AllByRecursion ReadsBack (js ++ j ∷ [])
+all_push [] j h a = (a, tt)
+all_push (k ∷ js) j h a = (h.0, all_push js j h.1 a)
+
+-- one more value
+pub index_more : (old new : BTreeSet (Vec ℕ Global)) (key : Vec ℕ Global) (js : List Json) (j : Json) → IsIndexOf old js → key.items ≡ text_of j → ReadsBack j → Updates text_cmp old new key true → IsIndexOf new (js ++ j ∷ [])
+index_more old new key js j h e a u = record {
+  has = λ s.
+      let here = is_eq-slice_cmp key.items s.items ∙ swapped key.items s.items ∙ ap (bytes_eq s.items) e in
+      u.0 s ∙ ap₂ (λ x y. cond x true y) here (h.has s) ∙ last_or (bytes_eq s.items (text_of j)) (list_any (λ k. bytes_eq s.items (text_of k)) js) ∙ sym (list_any-append (λ k. bytes_eq s.items (text_of k)) js (j ∷ []));
+  read_back = all_push js j h.read_back a;
+}

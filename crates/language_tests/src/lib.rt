@@ -1,0 +1,24 @@
+//! Tests of template expressions: their spelling, what they look at, and their values.
+//!
+//! Most are tables of texts: a line has an expression, and after an arrow the wanted answer. They
+//! cover `arm_expr`, `arm_env` and `arm_eval` with what stands between, which have no tests of their
+//! own, so that each is proved once. There is nothing here but tests, so there is no edit that must
+//! be refused.
+#![tactic(auto)]
+
+#[cfg(test)]
+mod environment;
+#[cfg(test)]
+mod expressions;
+#[cfg(test)]
+mod limits;
+#[cfg(test)]
+mod names;
+#[cfg(test)]
+mod references;
+#[cfg(test)]
+mod spelling;
+#[cfg(test)]
+mod trees;
+#[cfg(test)]
+mod unlisted;

@@ -1,5 +1,6 @@
 -- What the calls of a disk do to its two parts, and what a crash leaves between two syncs.
-use Rattle.std.specs.Prelude.{◌<◌, ◌^◌, ◌≡◌, ℕ, ◌+◌, ◌-◌, ◌≤◌, min, max, List, [], ◌∷◌, ◌++◌, length, take, drop, replicate}
+use Rattle.std.specs.Prelude.{◌<◌, ◌^◌, ◌≡◌, ℕ, ◌+◌, ◌-◌, ◌≤◌, min, max, List, [], ◌∷◌, ◌++◌, length, take, drop}
+use Rattle.std.specs.Prelude.{replicate}
 use Rattle.std.proofs.Common.{lit<}
 use Rattle.arm_edges.specs.declared.disk.Part.{Part}
 use Rattle.arm_edges.specs.declared.disk.Part.TheVariants.{A, B}
@@ -33,7 +34,8 @@ abbrev pub overwritten : ℕ → List ℕ → List ℕ → List ℕ
 overwritten at [] old = old
 overwritten at (byte ∷ bytes) old = resized at old ++ (byte ∷ bytes ++ drop (at + length (byte ∷ bytes)) old)
 
--- a write of n bytes at a place that may be on the disk in part: any bytes in its range and past the old end, up to any place, and the same elsewhere
+-- a write of n bytes at a place that may be on the disk in part: any bytes in its range and past the old end, up to
+-- any place, and the same elsewhere
 pub record Torn (at n : ℕ) (old new : List ℕ) : Type 0 where
   pub before : take (min at (length old)) new ≡ take at old
   pub after : take (length old - (at + n)) (drop (at + n) new) ≡ drop (at + n) old
@@ -53,12 +55,15 @@ pub record At (part : Part) (step : List ℕ → List ℕ → Type 0) (old new :
 abbrev pub Unchanged : Parts → Parts → Type 0
 Unchanged old new = new ≡ old
 
--- what a crash at an earlier moment may leave stays; a crash from the old moment on leaves what one at the old moment may leave, after that step
-pub record GoesOn {D : Type 0} (moment : D → ℕ) (left : D → ℕ → Parts → Type 0) (step : Parts → Parts → Type 0) (old new : D) : Type 0 where
+-- what a crash at an earlier moment may leave stays; a crash from the old moment on leaves what one at the old moment
+-- may leave, after that step
+pub record GoesOn {D : Type 0} (moment : D → ℕ) (left : D → ℕ → Parts → Type 0) (step : Parts → Parts → Type 0)
+    (old new : D) : Type 0 where
   pub later : moment old ≤ moment new
   pub past : (t : ℕ) (image : Parts) → t ≤ moment old → left new t image → left old t image
   pub keeps : (t : ℕ) (image : Parts) → t ≤ moment old → left old t image → left new t image
-  pub during : (t : ℕ) (image : Parts) → moment old ≤ t → t ≤ moment new → left new t image → (before : Parts) × left old (moment old) before × step before image
+  pub during : (t : ℕ) (image : Parts) → moment old ≤ t → t ≤ moment new → left new t image → (before : Parts)
+      × left old (moment old) before × step before image
 
 -- a read of n bytes at a place, into the front of a buffer; none in a buffer that is not empty only at the end
 pub record ReadsAt (at n : ℕ) (file buf : List ℕ) : Type 0 where

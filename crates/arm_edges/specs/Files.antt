@@ -1,5 +1,6 @@
 -- Files by their names, and what a tree of them answers.
-use Rattle.std.specs.Prelude.{◌≡◌, ℕ, ◌<◌, ◌≤◌, List, [], ◌∷◌, length, if◌then◌else◌, bytes_eq, string_bytes, Option, Some, None, Result, Ok, Err}
+use Rattle.std.specs.Prelude.{◌≡◌, ℕ, ◌<◌, ◌≤◌, List, [], ◌∷◌, length, if◌then◌else◌, bytes_eq, string_bytes, Option}
+use Rattle.std.specs.Prelude.{Some, None, Result, Ok, Err}
 use Rattle.arm_edges.specs.Faults.{Rose}
 use Rattle.arm_edges.specs.declared.faults.TreeFault.{TreeFault}
 use Rattle.arm_edges.specs.declared.faults.TreeFault.TheVariants.{OutOfMemory, TooLarge, Fault}
@@ -14,7 +15,8 @@ file_in (file ∷ files) name = if bytes_eq (string_bytes file.name) name then S
 abbrev pub no_files : List ℕ → Option (List ℕ)
 no_files name = None
 
--- an answer to the call for this file, or for none: nothing only where there is none, its bytes where they are not too many, and a refusal where they are
+-- an answer to the call for this file, or for none: nothing only where there is none, its bytes where they are not
+-- too many, and a refusal where they are
 abbrev pub AnswersFile : Option (List ℕ) → Result (Option (List ℕ)) TreeFault → Type 0
 AnswersFile file (Ok None) = file ≡ None
 AnswersFile file (Ok (Some bytes)) = (file ≡ Some bytes) × (length bytes ≤ 4194304)

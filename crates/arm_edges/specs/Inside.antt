@@ -9,4 +9,5 @@ stays_inside depth [] = true
 stays_inside depth (part ∷ parts) =
     if bytes_eq part root_dir then false else
     (if bytes_eq part cur_dir then stays_inside depth parts else
-    (if bytes_eq part parent_dir then (if depth == 0 then false else stays_inside (depth - 1) parts) else stays_inside (one_more depth) parts))
+    (if bytes_eq part parent_dir then (if depth == 0 then false else stays_inside (depth - 1) parts)
+    else stays_inside (one_more depth) parts))

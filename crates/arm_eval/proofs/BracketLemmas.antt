@@ -1,5 +1,6 @@
 -- Texts in brackets, in bytes and in characters.
-use Rattle.std.proofs.Common.{◌≡◌, ◌≢◌, ◌<◌, ◌==◌, ◌&&◌, ℕ, zero, suc, Bool, true, false, true≢false, List, [], ◌∷◌, ◌++◌, refl, ap, sym, ◌∙◌, lit<, arith}
+use Rattle.std.proofs.Common.{◌≡◌, ◌≢◌, ◌<◌, ◌==◌, ◌&&◌, ℕ, zero, suc, Bool, true, false, true≢false, List, [], ◌∷◌}
+use Rattle.std.proofs.Common.{◌++◌, refl, ap, sym, ◌∙◌, lit<, arith}
 use Rattle.std.specs.Str.{chars, IsUtf8, IsAscii}
 use Rattle.std.proofs.lemmas.Str.{chars-append, chars-IsAscii, encodes-chars, encodes-append, IsUtf8-from_ascii}
 use Rattle.std.proofs.lemmas.Bool.Decides.{nat_tests}
@@ -48,28 +49,34 @@ chars_behind bytes rest h =
 
 chars_before : (bytes front : List ℕ) → IsUtf8 front → bytes ≡ front ++ 93 ∷ [] → chars bytes ≡ chars front ++ 93 ∷ []
 chars_before bytes front u h =
-    ap chars h ∙ chars-append front (93 ∷ []) u ∙ ap (λ x. chars front ++ x) (chars-IsAscii (93 ∷ []) (one_ascii 93 (lit< tt)))
+    ap chars h ∙ chars-append front (93 ∷ []) u
+    ∙ ap (λ x. chars front ++ x) (chars-IsAscii (93 ∷ []) (one_ascii 93 (lit< tt)))
 
 pub no_first : (bytes : List ℕ) → IsUtf8 bytes → ((rest : List ℕ) → bytes ≢ 91 ∷ rest) → opens (chars bytes) ≡ false
 no_first bytes u none = unless _ (λ e. let p = first_of (chars bytes) e in none (encodes p.0) (behind bytes p.0 u p.1))
 
-pub no_bracket : (bytes : List ℕ) → IsUtf8 bytes → ((rest : List ℕ) → bytes ≢ 91 ∷ rest) → is_bracketed (chars bytes) ≡ false
+pub no_bracket : (bytes : List ℕ) → IsUtf8 bytes → ((rest : List ℕ) → bytes ≢ 91 ∷ rest)
+    → is_bracketed (chars bytes) ≡ false
 no_bracket bytes u none = ap (λ b. b && closes (chars bytes)) (no_first bytes u none)
 
 closes_later : (c : ℕ) (cs : List ℕ) → closes (91 ∷ cs) ≡ true → closes cs ≡ true
 closes_later c [] e = absurd (true≢false (sym e))
 closes_later c (d ∷ cs) e = e
 
-pub no_last : (bytes rest : List ℕ) → IsUtf8 rest → bytes ≡ 91 ∷ rest → ((front : List ℕ) → rest ≢ front ++ 93 ∷ []) → is_bracketed (chars bytes) ≡ false
+pub no_last : (bytes rest : List ℕ) → IsUtf8 rest → bytes ≡ 91 ∷ rest → ((front : List ℕ) → rest ≢ front ++ 93 ∷ [])
+    → is_bracketed (chars bytes) ≡ false
 no_last bytes rest u h none =
     ap is_bracketed (chars_behind bytes rest h)
-    ∙ unless _ (λ e. let p = end_of (chars rest) (closes_later 0 (chars rest) e) in none (encodes p.0) (before rest p.0 u p.1))
+    ∙ unless _ (λ e. let p = end_of (chars rest) (closes_later 0 (chars rest) e) in
+    none (encodes p.0) (before rest p.0 u p.1))
 
 closes_with : (cs front : List ℕ) → cs ≡ front ++ 93 ∷ [] → closes (91 ∷ cs) ≡ true
 closes_with cs front e = ap (λ r. closes (91 ∷ r)) e ∙ closes_end (91 ∷ front)
 
-pub in_brackets : (bytes rest inner : List ℕ) → IsUtf8 inner → bytes ≡ 91 ∷ rest → rest ≡ inner ++ 93 ∷ [] → is_bracketed (chars bytes) ≡ true
-in_brackets bytes rest inner u h g = ap is_bracketed (chars_behind bytes rest h) ∙ closes_with (chars rest) (chars inner) (chars_before rest inner u g)
+pub in_brackets : (bytes rest inner : List ℕ) → IsUtf8 inner → bytes ≡ 91 ∷ rest → rest ≡ inner ++ 93 ∷ []
+    → is_bracketed (chars bytes) ≡ true
+in_brackets bytes rest inner u h g = ap is_bracketed (chars_behind bytes rest h)
+    ∙ closes_with (chars rest) (chars inner) (chars_before rest inner u g)
 
 pub opened : (bytes rest : List ℕ) → bytes ≡ 91 ∷ rest → opens (chars bytes) ≡ true
 opened bytes rest h = ap opens (chars_behind bytes rest h)

@@ -1,8 +1,10 @@
 -- How deep the values of trees nest.
-use Rattle.std.proofs.Common.{◌≡◌, ◌≤◌, ℕ, List, [], ◌∷◌, Bool, true, false, nat_le, Option, Some, None, refl, sym, ap, ◌∙◌, subst, arith}
+use Rattle.std.proofs.Common.{◌≡◌, ◌≤◌, ℕ, List, [], ◌∷◌, Bool, true, false, nat_le, Option, Some, None, refl, sym}
+use Rattle.std.proofs.Common.{ap, ◌∙◌, subst, arith}
 use Rattle.std.proofs.lemmas.Bool.Decides.{nat_tests}
 use Rattle.std.specs.Prelude.{if◌then◌else◌}
-use Rattle.arm_value.specs.Json.{Json, null, bool, int, text, array, object, Row, no_items, item, pairs, Member, nesting, members_nesting}
+use Rattle.arm_value.specs.Json.{Json, null, bool, int, text, array, object, Row, no_items, item, pairs, Member}
+use Rattle.arm_value.specs.Json.{nesting, members_nesting}
 use Rattle.reading.specs.Reading.{done, pure, none, continued, both}
 use Rattle.reading.specs.Knowledge.{Known}
 use Rattle.arm_env.specs.Look.{Look, Looking, Surroundings}
@@ -12,7 +14,8 @@ use Rattle.expression_values.specs.Meaning.{used, held}
 use Rattle.arm_env.specs.Look.{all}
 use Rattle.arm_eval.specs.Text.{Said, plain, expression, said_by, expression_of}
 use Rattle.arm_env.specs.Answer.{Answer, is, is_none, needs, is_late, answered, next, given, outcome_answer}
-use Rattle.arm_eval.specs.Trees.{Copy, said_value, tree_value, given_members, is_copy, copies, row_copies, copied, copy_in, turns, counting, counted, array_of}
+use Rattle.arm_eval.specs.Trees.{Copy, said_value, tree_value, given_members, is_copy, copies, row_copies, copied}
+use Rattle.arm_eval.specs.Trees.{copy_in, turns, counting, counted, array_of}
 use Rattle.arm_expr.specs.Tree.{Tree}
 use Rattle.expression_values.specs.Meaning as meaning
 use Rattle.arm_env.proofs.Answers.{both_answers, answered-done, answered-continued, answered-both, answered-capped}
@@ -32,7 +35,8 @@ came is_late f y e = absurd cc
 within : (n : ℕ) → nat_le n 100 ≡ true → n ≤ 100
 within n h = grind (arith, nat_tests)
 
-kept_by : (j v : Json) (b : Bool) → nat_le (nesting j) 100 ≡ b → given (if b then Some j else None) ≡ is v → nesting v ≤ 100
+kept_by : (j v : Json) (b : Bool) → nat_le (nesting j) 100 ≡ b → given (if b then Some j else None) ≡ is v
+    → nesting v ≤ 100
 kept_by j v true h e =
     let same : j ≡ v = cc in
     subst (λ v. nesting v ≤ 100) same (within (nesting j) h)
@@ -57,12 +61,15 @@ module _ (p : Look → Known Json) where
       let eq : j ≡ v = cc in
       subst (λ v. nesting v ≤ 100) eq (omega (arith, flat))
 
-  expression_nests : (here : Surroundings) (o : Option Tree) (v : Json) → answered p (continued (done o) (meaning.value here)) ≡ is v → nesting v ≤ 100
+  expression_nests : (here : Surroundings) (o : Option Tree) (v : Json)
+      → answered p (continued (done o) (meaning.value here)) ≡ is v → nesting v ≤ 100
   expression_nests here o v e =
-      let c = came (answered p (done o)) (λ x. answered p (meaning.value here x)) v (sym (answered-continued p (done o) (meaning.value here)) ∙ e) in
+      let c = came (answered p (done o)) (λ x. answered p (meaning.value here x)) v
+      (sym (answered-continued p (done o) (meaning.value here)) ∙ e) in
       used_nests here c.value v c.then_was
 
-  said_nests : (here : Surroundings) (t : List ℕ) (s : Said) (v : Json) → answered p (said_value here t s) ≡ is v → nesting v ≤ 100
+  said_nests : (here : Surroundings) (t : List ℕ) (s : Said) (v : Json) → answered p (said_value here t s) ≡ is v
+      → nesting v ≤ 100
   said_nests here t (plain u) v e = scalar_nests (text u) v refl e
   said_nests here t expression v e = expression_nests here (expression_of t) v e
 
@@ -80,24 +87,30 @@ module _ (p : Look → Known Json) where
   value_in_outcome (needs k) v e = absurd cc
   value_in_outcome is_late v e = absurd cc
 
-  pub outcome_nests : (here : Surroundings) (j v : Json) → outcome_answer (answered p (tree_value j here)) ≡ is (Some v) → nesting v ≤ 100
+  pub outcome_nests : (here : Surroundings) (j v : Json)
+      → outcome_answer (answered p (tree_value j here)) ≡ is (Some v) → nesting v ≤ 100
   outcome_nests here j v e = tree_nests here j v (value_in_outcome (answered p (tree_value j here)) v e)
 
   -- the members that loops give
-  counted_nests : (c : Copy) (here : Surroundings) (n : ℕ) (m : Member) → answered p (counted c here n) ≡ is m → nesting m.1 ≤ 100
+  counted_nests : (c : Copy) (here : Surroundings) (n : ℕ) (m : Member) → answered p (counted c here n) ≡ is m
+      → nesting m.1 ≤ 100
   counted_nests c here n m e =
-      let f = came (answered p (array_of (turns c here 0 n))) (λ v. answered p (pure (c.name, v))) m (sym (answered-continued p (array_of (turns c here 0 n)) (λ v. pure (c.name, v))) ∙ e) in
+      let f = came (answered p (array_of (turns c here 0 n))) (λ v. answered p (pure (c.name, v))) m
+      (sym (answered-continued p (array_of (turns c here 0 n)) (λ v. pure (c.name, v))) ∙ e) in
       let same : is (c.name, f.value) ≡ is m = sym (answered-done p (Some (c.name, f.value))) ∙ f.then_was in
       let eq : (c.name, f.value) ≡ m = cc in
       subst (λ (m : Member). nesting m.1 ≤ 100) eq (capped_nests _ f.value f.was)
 
-  copied_nests : (here : Surroundings) (c : Option Copy) (m : Member) → answered p (copied here c) ≡ is m → nesting m.1 ≤ 100
+  copied_nests : (here : Surroundings) (c : Option Copy) (m : Member) → answered p (copied here c) ≡ is m
+      → nesting m.1 ≤ 100
   copied_nests here None m e = let wrong : is_none ≡ is m = sym (answered-done p None) ∙ e in absurd cc
   copied_nests here (Some c) m e =
-      let f = came (answered p (counting (c.count here))) (λ n. answered p (counted c here n)) m (sym (answered-continued p (counting (c.count here)) (counted c here)) ∙ e) in
+      let f = came (answered p (counting (c.count here))) (λ n. answered p (counted c here n)) m
+      (sym (answered-continued p (counting (c.count here)) (counted c here)) ∙ e) in
       counted_nests c here f.value m f.then_was
 
-  both_values : {A B : Type 0} (s : Answer A) (t : Answer B) (x : A × B) → both_answers s t ≡ is x → (s ≡ is x.0) × (t ≡ is x.1)
+  both_values : {A B : Type 0} (s : Answer A) (t : Answer B) (x : A × B) → both_answers s t ≡ is x → (s ≡ is x.0)
+      × (t ≡ is x.1)
   both_values (is a) (is b) x e = let same : (a, b) ≡ x = cc in (ap (λ x. is x.0) same, ap (λ x. is x.1) same)
   both_values (is a) is_none x e = absurd cc
   both_values (is a) (needs k) x e = absurd cc
@@ -115,15 +128,18 @@ module _ (p : Look → Known Json) where
       let eq : [] ≡ ms = cc in
       subst (λ ms. members_nesting ms ≤ 100) eq (omega arith)
 
-  rows_nest : (here : Surroundings) (js : Row) (ms : List Member) → answered p (all (row_copies js here)) ≡ is ms → members_nesting ms ≤ 100
+  rows_nest : (here : Surroundings) (js : Row) (ms : List Member) → answered p (all (row_copies js here)) ≡ is ms
+      → members_nesting ms ≤ 100
   unfolding all
   rows_nest here no_items ms e = none_nest ms e
   rows_nest here (item j js) ms e =
       let o = copied here (copy_in j) in
       let os = all (row_copies js here) in
-      let f = came (answered p (both o os)) (λ q. answered p (pure (q.0 ∷ q.1))) ms (sym (answered-continued p (both o os) (λ q. pure (q.0 ∷ q.1))) ∙ e) in
+      let f = came (answered p (both o os)) (λ q. answered p (pure (q.0 ∷ q.1))) ms
+      (sym (answered-continued p (both o os) (λ q. pure (q.0 ∷ q.1))) ∙ e) in
       let parts = both_values (answered p o) (answered p os) f.value (sym (answered-both p o os) ∙ f.was) in
-      let same : is (f.value.0 ∷ f.value.1) ≡ is ms = sym (answered-done p (Some (f.value.0 ∷ f.value.1))) ∙ f.then_was in
+      let same : is (f.value.0 ∷ f.value.1) ≡ is ms = sym (answered-done p (Some (f.value.0 ∷ f.value.1)))
+      ∙ f.then_was in
       let eq : (f.value.0 ∷ f.value.1) ≡ ms = cc in
       let first = copied_nests here (copy_in j) f.value.0 parts.0 in
       let others = rows_nest here js f.value.1 parts.1 in
@@ -132,7 +148,8 @@ module _ (p : Look → Known Json) where
   nothing_nests : (ms : List Member) → answered p none ≡ is ms → members_nesting ms ≤ 100
   nothing_nests ms e = let wrong : is_none ≡ is ms = sym (answered-done p None) ∙ e in absurd cc
 
-  copies_nest : (here : Surroundings) (j : Json) (ms : List Member) → answered p (copies j here) ≡ is ms → members_nesting ms ≤ 100
+  copies_nest : (here : Surroundings) (j : Json) (ms : List Member) → answered p (copies j here) ≡ is ms
+      → members_nesting ms ≤ 100
   copies_nest here null ms e = nothing_nests ms e
   copies_nest here (bool b) ms e = nothing_nests ms e
   copies_nest here (int z) ms e = nothing_nests ms e
@@ -140,11 +157,14 @@ module _ (p : Look → Known Json) where
   copies_nest here (array js) ms e = rows_nest here js ms e
   copies_nest here (object fs) ms e = nothing_nests ms e
 
-  chosen_nests : (here : Surroundings) (b : Bool) (j : Json) (r : Looking (List Member)) (ms : List Member) → ((ms : List Member) → answered p r ≡ is ms → members_nesting ms ≤ 100)
+  chosen_nests : (here : Surroundings) (b : Bool) (j : Json) (r : Looking (List Member)) (ms : List Member)
+      → ((ms : List Member) → answered p r ≡ is ms → members_nesting ms ≤ 100)
       → answered p (if b then copies j here else r) ≡ is ms → members_nesting ms ≤ 100
   chosen_nests here true j r ms h e = copies_nest here j ms e
   chosen_nests here false j r ms h e = h ms e
 
-  pub given_nest : (here : Surroundings) (fs ms : List Member) → answered p (given_members (pairs fs) here) ≡ is ms → members_nesting ms ≤ 100
+  pub given_nest : (here : Surroundings) (fs ms : List Member) → answered p (given_members (pairs fs) here) ≡ is ms
+      → members_nesting ms ≤ 100
   given_nest here [] ms e = none_nest ms e
-  given_nest here (f ∷ fs) ms e = chosen_nests here (is_copy f.0) f.1 (given_members (pairs fs) here) ms (given_nest here fs) e
+  given_nest here (f ∷ fs) ms e = chosen_nests here (is_copy f.0) f.1 (given_members (pairs fs) here) ms
+      (given_nest here fs) e

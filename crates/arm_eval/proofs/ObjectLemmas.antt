@@ -1,9 +1,11 @@
 -- Arrays and objects of trees, part by part.
-use Rattle.std.proofs.Common.{◌≡◌, ℕ, zero, suc, List, [], ◌∷◌, ◌++◌, map, Bool, true, false, Option, Some, None, option_map, refl, sym, ap, ◌∙◌, subst, add-one}
+use Rattle.std.proofs.Common.{◌≡◌, ℕ, zero, suc, List, [], ◌∷◌, ◌++◌, map, Bool, true, false, Option, Some, None}
+use Rattle.std.proofs.Common.{option_map, refl, sym, ap, ◌∙◌, subst, add-one}
 use Rattle.std.proofs.lemmas.List.{append_assoc, append-nil}
 use Rattle.std.specs.Prelude.{if◌then◌else◌, ◌&&◌, option_and_then}
 use Rattle.std.specs.List.{range_with_len}
-use Rattle.arm_value.specs.Json.{Json, null, bool, int, text, array, object, Row, no_items, item, items, row, pairs, Member, put_each, put, pair_keys}
+use Rattle.arm_value.specs.Json.{Json, null, bool, int, text, array, object, Row, no_items, item, items, row, pairs}
+use Rattle.arm_value.specs.Json.{Member, put_each, put, pair_keys}
 use Rattle.arm_value.specs.View.{json, member}
 use Rattle.arm_value.specs.declared.value.Value.{Value}
 use Rattle.arm_value.specs.declared.value.Field.{Field}
@@ -13,12 +15,17 @@ use Rattle.arm_env.specs.Look.{Look, Looking, Surroundings}
 use Rattle.arm_env.specs.Part.{kept}
 use Rattle.arm_env.specs.Held.{capped}
 use Rattle.arm_env.specs.Look.{all}
-use Rattle.arm_env.specs.Answer.{Answer, is, is_none, needs, is_late, answered, next, given, outcome_answer, gathered, Stops}
+use Rattle.arm_env.specs.Answer.{Answer, is, is_none, needs, is_late, answered, next, given, outcome_answer, gathered}
+use Rattle.arm_env.specs.Answer.{Stops}
 use Rattle.arm_env.specs.declared.stop.Stop.{Stop}
 use Rattle.arm_env.specs.declared.stop.Stop.TheVariants as stop
-use Rattle.arm_eval.specs.Trees.{Copy, tree_value, row_values, is_copy, own_member, own_members, given_members, copies, row_copies, copied, copy_in, turns, counted, array_of, concat, joined, names_of, are_new, differ, object_by}
-use Rattle.arm_eval.specs.Words.{values_of, owns_of, copies_of, put_all, kept_array, kept_object, whole_object, trees_in, copy_tree}
-use Rattle.arm_env.proofs.Answers.{both_answers, answered-done, answered-continued, answered-both, answered-capped, stops}
+use Rattle.arm_eval.specs.Trees.{Copy, tree_value, row_values, is_copy, own_member, own_members, given_members}
+use Rattle.arm_eval.specs.Trees.{copies, row_copies, copied, copy_in, turns, counted, array_of, concat, joined}
+use Rattle.arm_eval.specs.Trees.{names_of, are_new, differ, object_by}
+use Rattle.arm_eval.specs.Words.{values_of, owns_of, copies_of, put_all, kept_array, kept_object, whole_object}
+use Rattle.arm_eval.specs.Words.{trees_in, copy_tree}
+use Rattle.arm_env.proofs.Answers.{both_answers, answered-done, answered-continued, answered-both, answered-capped}
+use Rattle.arm_env.proofs.Answers.{stops}
 use Rattle.arm_eval.proofs.TurnLemmas.{turn_at, given_in, array_given, array_stops}
 
 -- ---- lists of the code and rows
@@ -44,13 +51,17 @@ row-items no_items = refl
 row-items (item j js) = ap (item j) (row-items js)
 
 -- an array and an object of the code
-pub array_is : (here : Surroundings) (js : List Json) (vs : List Value) → map json vs ≡ js → tree_value (array (row js)) here ≡ array_of (values_of here vs)
+pub array_is : (here : Surroundings) (js : List Json) (vs : List Value) → map json vs ≡ js
+    → tree_value (array (row js)) here ≡ array_of (values_of here vs)
 array_is here js vs e = ap (λ js. array_of (row_values (row js) here)) (sym e) ∙ ap array_of (row_given here vs)
 
 pub object_is : (here : Surroundings) (ms : List Member) (fs : List Field) → map member fs ≡ ms
-    → tree_value (object (pairs ms)) here ≡ object_by (names_of (map member fs)) (owns_of here fs) (given_members (pairs (map member fs)) here)
+    → tree_value (object (pairs ms)) here ≡ object_by (names_of (map member fs)) (owns_of here fs)
+    (given_members (pairs (map member fs)) here)
 object_is here ms fs e =
-    ap (λ ms. tree_value (object (pairs ms)) here) (sym e) ∙ (λ i. object_by (keys_are (map member fs) i) (owns_given here fs i) (given_members (pairs (map member fs)) here))
+    ap (λ ms. tree_value (object (pairs ms)) here) (sym e)
+    ∙ (λ i. object_by (keys_are (map member fs) i) (owns_given here fs i)
+    (given_members (pairs (map member fs)) here))
 
 -- ---- an object's own members
 
@@ -70,20 +81,31 @@ abbrev one_member : List ℕ → Json → List Member
 one_member k v = (k, v) ∷ []
 
 module _ (p : Look → Known Json) where
-  pub own_copy : (k : List ℕ) (o : Looking Json) → is_copy k ≡ true → outcome_answer (answered p (own_member k o)) ≡ is (Some [])
-  own_copy k o e = ap (λ b. outcome_answer (answered p (if b then pure [] else continued o (λ v. pure (one_member k v))))) e ∙ ap outcome_answer (answered-done p (Some []))
+  pub own_copy : (k : List ℕ) (o : Looking Json) → is_copy k ≡ true
+      → outcome_answer (answered p (own_member k o)) ≡ is (Some [])
+  own_copy k o e =
+      ap (λ b. outcome_answer (answered p (if b then pure [] else continued o (λ v. pure (one_member k v))))) e
+      ∙ ap outcome_answer (answered-done p (Some []))
 
-  own_is : (k : List ℕ) (o : Looking Json) → is_copy k ≡ false → answered p (own_member k o) ≡ next (answered p o) (λ v. answered p (pure (one_member k v)))
-  own_is k o e = ap (λ b. answered p (if b then pure [] else continued o (λ v. pure (one_member k v)))) e ∙ answered-continued p o (λ v. pure (one_member k v))
+  own_is : (k : List ℕ) (o : Looking Json) → is_copy k ≡ false
+      → answered p (own_member k o) ≡ next (answered p o) (λ v. answered p (pure (one_member k v)))
+  own_is k o e = ap (λ b. answered p (if b then pure [] else continued o (λ v. pure (one_member k v)))) e
+      ∙ answered-continued p o (λ v. pure (one_member k v))
 
-  own_next : (k : List ℕ) (a : Option Json) → outcome_answer (next (given a) (λ v. answered p (pure (one_member k v)))) ≡ is (option_map (one_member k) a)
+  own_next : (k : List ℕ) (a : Option Json)
+      → outcome_answer (next (given a) (λ v. answered p (pure (one_member k v)))) ≡ is (option_map (one_member k) a)
   own_next k (Some v) = ap outcome_answer (answered-done p (Some (one_member k v)))
   own_next k None = refl
 
-  pub own_told : (k : List ℕ) (o : Looking Json) (a : Option Json) → is_copy k ≡ false → outcome_answer (answered p o) ≡ is a → outcome_answer (answered p (own_member k o)) ≡ is (option_map (one_member k) a)
-  own_told k o a e found = ap outcome_answer (own_is k o e ∙ ap (λ t. next t (λ v. answered p (pure (one_member k v)))) (given_in (answered p o) a found)) ∙ own_next k a
+  pub own_told : (k : List ℕ) (o : Looking Json) (a : Option Json) → is_copy k ≡ false
+      → outcome_answer (answered p o) ≡ is a
+      → outcome_answer (answered p (own_member k o)) ≡ is (option_map (one_member k) a)
+  own_told k o a e found =
+      ap outcome_answer (own_is k o e
+      ∙ ap (λ t. next t (λ v. answered p (pure (one_member k v)))) (given_in (answered p o) a found)) ∙ own_next k a
 
-  own_halts : (s : Stop) (k : List ℕ) (t : Answer Json) → Stops s (outcome_answer t) → Stops s (outcome_answer (next t (λ v. answered p (pure (one_member k v)))))
+  own_halts : (s : Stop) (k : List ℕ) (t : Answer Json) → Stops s (outcome_answer t)
+      → Stops s (outcome_answer (next t (λ v. answered p (pure (one_member k v)))))
   own_halts stop.NoValue k (is x) h = absurd cc
   own_halts stop.NoValue k is_none h = absurd cc
   own_halts stop.NoValue k (needs l) h = absurd cc
@@ -98,8 +120,10 @@ module _ (p : Look → Known Json) where
   own_halts stop.Late k is_late h = refl
   own_halts stop.OutOfMemory k t h = tt
 
-  pub own_stops : (s : Stop) (k : List ℕ) (o : Looking Json) → is_copy k ≡ false → Stops s (outcome_answer (answered p o)) → Stops s (outcome_answer (answered p (own_member k o)))
-  own_stops s k o e h = let P : Answer (List Member) → Type 0 = λ t. Stops s (outcome_answer t) in subst P (sym (own_is k o e)) (own_halts s k (answered p o) h)
+  pub own_stops : (s : Stop) (k : List ℕ) (o : Looking Json) → is_copy k ≡ false
+      → Stops s (outcome_answer (answered p o)) → Stops s (outcome_answer (answered p (own_member k o)))
+  own_stops s k o e h = let P : Answer (List Member) → Type 0 = λ t. Stops s (outcome_answer t) in
+      subst P (sym (own_is k o e)) (own_halts s k (answered p o) h)
 
 -- ---- the members that `copy` gives
 
@@ -107,18 +131,22 @@ abbrev by_copy : Surroundings → Option Json → Looking (List Member)
 by_copy here None = pure []
 by_copy here (Some j) = copies j here
 
-by_choice : (here : Surroundings) (b : Bool) (j : Json) (o : Option Json) → (if b then copies j here else by_copy here o) ≡ by_copy here (if b then Some j else o)
+by_choice : (here : Surroundings) (b : Bool) (j : Json) (o : Option Json)
+    → (if b then copies j here else by_copy here o) ≡ by_copy here (if b then Some j else o)
 by_choice here true j o = refl
 by_choice here false j o = refl
 
 given_by : (here : Surroundings) (ms : List Member) → given_members (pairs ms) here ≡ by_copy here (copy_tree ms)
 given_by here [] = refl
-given_by here (m ∷ ms) = ap (λ r. if is_copy m.0 then copies m.1 here else r) (given_by here ms) ∙ by_choice here (is_copy m.0) m.1 (copy_tree ms)
+given_by here (m ∷ ms) = ap (λ r. if is_copy m.0 then copies m.1 here else r) (given_by here ms)
+    ∙ by_choice here (is_copy m.0) m.1 (copy_tree ms)
 
-pub given_is : (here : Surroundings) (ms : List Member) (j : Json) → Some j ≡ copy_tree ms → given_members (pairs ms) here ≡ copies j here
+pub given_is : (here : Surroundings) (ms : List Member) (j : Json) → Some j ≡ copy_tree ms
+    → given_members (pairs ms) here ≡ copies j here
 given_is here ms j e = given_by here ms ∙ ap (by_copy here) (sym e)
 
-pub nothing_given : (p : Look → Known Json) (here : Surroundings) (ms : List Member) → None ≡ copy_tree ms → answered p (given_members (pairs ms) here) ≡ is []
+pub nothing_given : (p : Look → Known Json) (here : Surroundings) (ms : List Member) → None ≡ copy_tree ms
+    → answered p (given_members (pairs ms) here) ≡ is []
 nothing_given p here ms e = ap (answered p) (given_by here ms ∙ ap (by_copy here) (sym e)) ∙ answered-done p (Some [])
 
 abbrev by_trees : Surroundings → Option (List Json) → Looking (List Member)
@@ -133,10 +161,12 @@ copies_by here (text t) = refl
 copies_by here (array js) = ap (λ r. all (row_copies r here)) (sym (row-items js))
 copies_by here (object ms) = refl
 
-pub copies_are : (here : Surroundings) (j : Json) (vs : List Value) → Some (map json vs) ≡ trees_in j → copies j here ≡ all (copies_of here vs)
+pub copies_are : (here : Surroundings) (j : Json) (vs : List Value) → Some (map json vs) ≡ trees_in j
+    → copies j here ≡ all (copies_of here vs)
 copies_are here j vs e = copies_by here j ∙ ap (by_trees here) (sym e) ∙ ap all (copies_given here vs)
 
-pub no_copies : (p : Look → Known Json) (here : Surroundings) (j : Json) → None ≡ trees_in j → answered p (copies j here) ≡ is_none
+pub no_copies : (p : Look → Known Json) (here : Surroundings) (j : Json) → None ≡ trees_in j
+    → answered p (copies j here) ≡ is_none
 no_copies p here j e = ap (answered p) (copies_by here j ∙ ap (by_trees here) (sym e)) ∙ answered-done p None
 
 -- ---- the member that a loop gives
@@ -152,23 +182,27 @@ abbrev named : List ℕ → Json → Member
 named k v = (k, v)
 
 module _ (p : Look → Known Json) where
-  named_next : (k : List ℕ) (o : Option Json) → next (given o) (λ v. answered p (pure (named k v))) ≡ given (option_map (named k) o)
+  named_next : (k : List ℕ) (o : Option Json)
+      → next (given o) (λ v. answered p (pure (named k v))) ≡ given (option_map (named k) o)
   named_next k (Some v) = answered-done p (Some (named k v))
   named_next k None = refl
 
-  pub counted_given : (c : Copy) (here : Surroundings) (n : ℕ) (o : Option (List Json)) → outcome_answer (gathered (λ vs. vs) p (turns c here 0 n)) ≡ is o
+  pub counted_given : (c : Copy) (here : Surroundings) (n : ℕ) (o : Option (List Json))
+      → outcome_answer (gathered (λ vs. vs) p (turns c here 0 n)) ≡ is o
       → answered p (counted c here n) ≡ given (option_map (named c.name) (kept_array o))
   counted_given c here n o e =
       answered-continued p (array_of (turns c here 0 n)) (λ v. pure (named c.name v))
       ∙ ap (λ t. next t (λ v. answered p (pure (named c.name v)))) (array_given p (turns c here 0 n) o e)
       ∙ named_next c.name (kept_array o)
 
-  pub counted_stops : (s : Stop) (c : Copy) (here : Surroundings) (n : ℕ) → Stops s (outcome_answer (gathered (λ vs. vs) p (turns c here 0 n))) → Stops s (answered p (counted c here n))
+  pub counted_stops : (s : Stop) (c : Copy) (here : Surroundings) (n : ℕ)
+      → Stops s (outcome_answer (gathered (λ vs. vs) p (turns c here 0 n))) → Stops s (answered p (counted c here n))
   counted_stops s c here n h = stops s p (array_of (turns c here 0 n)) _ (array_stops p s (turns c here 0 n) h)
 
 -- ---- an object
 
-first_stops : {A B : Type 0} (s : Stop) (t : Answer A) (u : Answer B) → Stops s (outcome_answer t) → Stops s (both_answers t u)
+first_stops : {A B : Type 0} (s : Stop) (t : Answer A) (u : Answer B) → Stops s (outcome_answer t)
+    → Stops s (both_answers t u)
 first_stops stop.NoValue (is x) u h = absurd cc
 first_stops stop.NoValue is_none u h = absurd cc
 first_stops stop.NoValue (needs k) u h = absurd cc
@@ -210,7 +244,8 @@ module _ (p : Look → Known Json) (names : List (List ℕ)) where
   whole None gs = None
   whole (Some mss) gs = option_and_then kept (joined names (concat mss) gs)
 
-  all_of : (own : Option (List Member)) (t : Answer (List (List Member))) → outcome_answer (next t (λ mss. is (put_all mss))) ≡ is own
+  all_of : (own : Option (List Member)) (t : Answer (List (List Member)))
+      → outcome_answer (next t (λ mss. is (put_all mss))) ≡ is own
       → (o : Option (List (List Member))) × ((t ≡ given o) × (option_map put_all o ≡ own))
   all_of own (is mss) h = (Some mss, (refl, cc))
   all_of own is_none h = (None, (refl, cc))
@@ -221,30 +256,45 @@ module _ (p : Look → Known Json) (names : List (List ℕ)) where
   kept_done (Some j) = ap (λ t. next t (λ j. given (kept j))) (answered-done p (Some j))
   kept_done None = ap (λ t. next t (λ j. given (kept j))) (answered-done p None)
 
-  joined_next : (o : Option (List (List Member))) (gs : List Member) → next (next (both_answers (given o) (is gs)) (λ q. answered p (done (joined names (concat q.0) q.1)))) (λ j. given (kept j)) ≡ given (whole o gs)
+  joined_next : (o : Option (List (List Member))) (gs : List Member)
+      → next (next (both_answers (given o) (is gs)) (λ q. answered p (done (joined names (concat q.0) q.1))))
+      (λ j. given (kept j)) ≡ given (whole o gs)
   joined_next (Some mss) gs = kept_done (joined names (concat mss) gs)
   joined_next None gs = refl
 
-  if_kept : (b : Bool) (mss : List (List Member)) (gs : List Member) → option_and_then kept (if b then Some (object (pairs (put_each [] (concat mss ++ gs)))) else None) ≡ (if b then kept_object (put_all mss) gs else None)
+  if_kept : (b : Bool) (mss : List (List Member)) (gs : List Member)
+      → option_and_then kept (if b then Some (object (pairs (put_each [] (concat mss ++ gs)))) else None)
+      ≡ (if b then kept_object (put_all mss) gs else None)
   if_kept true mss gs = ap (λ ms. kept (object (pairs ms))) (put_each-append [] (concat mss) gs)
   if_kept false mss gs = refl
 
-  whole_is : (o : Option (List (List Member))) (gs : List Member) → whole o gs ≡ whole_object names (option_map put_all o) gs
+  whole_is : (o : Option (List (List Member))) (gs : List Member)
+      → whole o gs ≡ whole_object names (option_map put_all o) gs
   whole_is (Some mss) gs = if_kept (are_new names (names_of gs) && differ (names_of gs)) mss gs
   whole_is None gs = refl
 
-  object_answer : (os : List (Looking (List Member))) (r : Looking (List Member)) → answered p (object_by names os r) ≡ next (next (both_answers (answered p (all os)) (answered p r)) (λ q. answered p (done (joined names (concat q.0) q.1)))) (λ j. given (kept j))
+  object_answer : (os : List (Looking (List Member))) (r : Looking (List Member))
+      → answered p (object_by names os r)
+      ≡ next
+      (next (both_answers (answered p (all os)) (answered p r))
+      (λ q. answered p (done (joined names (concat q.0) q.1)))) (λ j. given (kept j))
   object_answer os r =
-      answered-capped p _ ∙ ap (λ t. next t (λ j. given (kept j))) (answered-continued p (both (all os) r) _ ∙ ap (λ t. next t (λ q. answered p (done (joined names (concat q.0) q.1)))) (answered-both p (all os) r))
+      answered-capped p _ ∙ ap (λ t. next t (λ j. given (kept j))) (answered-continued p (both (all os) r) _
+      ∙ ap (λ t. next t (λ q. answered p (done (joined names (concat q.0) q.1)))) (answered-both p (all os) r))
 
-  pub object_told : (os : List (Looking (List Member))) (r : Looking (List Member)) (own : Option (List Member)) (gs : List Member) → outcome_answer (gathered put_all p os) ≡ is own → answered p r ≡ is gs
+  pub object_told : (os : List (Looking (List Member))) (r : Looking (List Member)) (own : Option (List Member))
+      (gs : List Member) → outcome_answer (gathered put_all p os) ≡ is own → answered p r ≡ is gs
       → answered p (object_by names os r) ≡ given (whole_object names own gs)
   object_told os r own gs e found =
       let o = all_of own (answered p (all os)) e in
-      object_answer os r ∙ (λ i. next (next (both_answers (o.1.0 i) (found i)) (λ q. answered p (done (joined names (concat q.0) q.1)))) (λ j. given (kept j)))
+      object_answer os r
+      ∙ (λ i. next
+      (next (both_answers (o.1.0 i) (found i)) (λ q. answered p (done (joined names (concat q.0) q.1))))
+      (λ j. given (kept j)))
       ∙ joined_next o.0 gs ∙ ap given (whole_is o.0 gs ∙ ap (λ own. whole_object names own gs) o.1.1)
 
-  gathered_stops : (s : Stop) (t : Answer (List (List Member))) → Stops s (outcome_answer (next t (λ mss. is (put_all mss)))) → Stops s (outcome_answer t)
+  gathered_stops : (s : Stop) (t : Answer (List (List Member)))
+      → Stops s (outcome_answer (next t (λ mss. is (put_all mss)))) → Stops s (outcome_answer t)
   gathered_stops stop.NoValue (is x) h = absurd cc
   gathered_stops stop.NoValue is_none h = absurd cc
   gathered_stops stop.NoValue (needs k) h = absurd cc
@@ -259,16 +309,21 @@ module _ (p : Look → Known Json) (names : List (List ℕ)) where
   gathered_stops stop.Late is_late h = refl
   gathered_stops stop.OutOfMemory t h = tt
 
-  both_stop : (s : Stop) (os : List (Looking (List Member))) (r : Looking (List Member)) → Stops s (both_answers (answered p (all os)) (answered p r)) → Stops s (answered p (object_by names os r))
+  both_stop : (s : Stop) (os : List (Looking (List Member))) (r : Looking (List Member))
+      → Stops s (both_answers (answered p (all os)) (answered p r)) → Stops s (answered p (object_by names os r))
   unfolding capped
   both_stop s os r h =
       let P : Answer (List (List Member) × List Member) → Type 0 = Stops s in
-      stops s p (continued (both (all os) r) _) _ (stops s p (both (all os) r) _ (subst P (sym (answered-both p (all os) r)) h))
+      stops s p (continued (both (all os) r) _) _
+      (stops s p (both (all os) r) _ (subst P (sym (answered-both p (all os) r)) h))
 
-  pub own_stops_object : (s : Stop) (os : List (Looking (List Member))) (r : Looking (List Member)) → Stops s (outcome_answer (gathered put_all p os)) → Stops s (answered p (object_by names os r))
-  own_stops_object s os r h = both_stop s os r (first_stops s (answered p (all os)) (answered p r) (gathered_stops s (answered p (all os)) h))
+  pub own_stops_object : (s : Stop) (os : List (Looking (List Member))) (r : Looking (List Member))
+      → Stops s (outcome_answer (gathered put_all p os)) → Stops s (answered p (object_by names os r))
+  own_stops_object s os r h =
+      both_stop s os r (first_stops s (answered p (all os)) (answered p r) (gathered_stops s (answered p (all os)) h))
 
-  pub given_stops_object : (s : Stop) (os : List (Looking (List Member))) (r : Looking (List Member)) (own : Option (List Member)) → outcome_answer (gathered put_all p os) ≡ is own → Stops s (answered p r)
+  pub given_stops_object : (s : Stop) (os : List (Looking (List Member))) (r : Looking (List Member))
+      (own : Option (List Member)) → outcome_answer (gathered put_all p os) ≡ is own → Stops s (answered p r)
       → Stops s (answered p (object_by names os r))
   given_stops_object s os r own e h =
       let o = all_of own (answered p (all os)) e in

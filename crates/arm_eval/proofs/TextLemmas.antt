@@ -1,5 +1,6 @@
 -- Texts that are read as expressions.
-use Rattle.std.proofs.Common.{◌≡◌, ◌≢◌, ◌≤◌, ◌↔◌, ℕ, List, [], ◌∷◌, ◌++◌, length, Bool, true, false, ◌&&◌, nat_le, Option, Some, None, Ok, Err, refl, sym, ap, ◌∙◌, arith}
+use Rattle.std.proofs.Common.{◌≡◌, ◌≢◌, ◌≤◌, ◌↔◌, ℕ, List, [], ◌∷◌, ◌++◌, length, Bool, true, false, ◌&&◌, nat_le}
+use Rattle.std.proofs.Common.{Option, Some, None, Ok, Err, refl, sym, ap, ◌∙◌, arith}
 use Rattle.std.specs.Prelude.{if◌then◌else◌}
 use Rattle.std.proofs.lemmas.Bool.{eqb-true}
 use Rattle.std.proofs.lemmas.Bool.Decides.{nat_tests}
@@ -61,27 +62,32 @@ within n h = grind (arith, nat_tests)
 le_true : (n : ℕ) → n ≤ 24576 → nat_le n 24576 ≡ true
 le_true n h = grind (arith, nat_tests)
 
-read_by : (t : List ℕ) (e : Tree) (l b : Bool) → nat_le (length t) 24576 ≡ l → is_bracketed t ≡ b → (if l && b then flattened (kept_reading (inside t)) else None) ≡ Some e → IsRead t e
+read_by : (t : List ℕ) (e : Tree) (l b : Bool) → nat_le (length t) 24576 ≡ l → is_bracketed t ≡ b
+    → (if l && b then flattened (kept_reading (inside t)) else None) ≡ Some e → IsRead t e
 read_by t e true true h k r =
     let f = answered t (inside t) (Some (Some e)) (brackets t k) (flat (kept_reading (inside t)) e r) in
     (f.0, (within (length t) h, f.1))
 read_by t e true false h k r = absurd cc
 read_by t e false b h k r = absurd cc
 
-found_by : (t : List ℕ) (e : Tree) (o : Option (Option Tree)) → Found o t → Spells e t → nesting e ≤ 64 → flattened o ≡ Some e
+found_by : (t : List ℕ) (e : Tree) (o : Option (Option Tree)) → Found o t → Spells e t → nesting e ≤ 64
+    → flattened o ≡ Some e
 found_by t e None f s d = absurd (f e s)
 found_by t e (Some None) f s d = let same = ap nesting (spelled_once t f.0 e f.1 s) in absurd (omega (arith, f.2, same))
 found_by t e (Some (Some g)) f s d = ap Some (spelled_once t g e f.0 s)
 
-spelled_by : (t : List ℕ) (e : Tree) (b : Bool) → is_bracketed t ≡ b → Spells e t → nesting e ≤ 64 → (if true && b then flattened (kept_reading (inside t)) else None) ≡ Some e
-spelled_by t e true k s d = found_by t e (kept_reading (inside t)) (answered t (inside t) (kept_reading (inside t)) (brackets t k) refl) s d
+spelled_by : (t : List ℕ) (e : Tree) (b : Bool) → is_bracketed t ≡ b → Spells e t → nesting e ≤ 64
+    → (if true && b then flattened (kept_reading (inside t)) else None) ≡ Some e
+spelled_by t e true k s d =
+    found_by t e (kept_reading (inside t)) (answered t (inside t) (kept_reading (inside t)) (brackets t k) refl) s d
 spelled_by t e false k s d = absurd (unbracketed t (λ inner. never t inner k) e s)
 
 pub expression_read : (t : List ℕ) (e : Tree) → (expression_of t ≡ Some e) ↔ IsRead t e
 unfolding expression_of
 expression_read t e = (
   λ r. read_by t e (nat_le (length t) 24576) (is_bracketed t) refl refl r,
-  λ h. ap (λ l. if l && is_bracketed t then flattened (kept_reading (inside t)) else None) (le_true (length t) h.1.0) ∙ spelled_by t e (is_bracketed t) refl h.0 h.1.1,
+  λ h. ap (λ l. if l && is_bracketed t then flattened (kept_reading (inside t)) else None) (le_true (length t) h.1.0)
+      ∙ spelled_by t e (is_bracketed t) refl h.0 h.1.1,
 )
 
 -- no expression is read of it
@@ -99,5 +105,7 @@ read_is t e h = sym ((expression_read t (tree_of e)).1 (h.1, (h.0, h.2)))
 pub unread_is : (t : List ℕ) (f : ExprFault) → Reads 24576 64 t (Err f) → (f ≡ OutOfMemory → ⊥) → None ≡ expression_of t
 unread_is t TooLong h n = sym (unread t (λ e r. let l = r.1.0 in absurd (omega (arith, h, l))))
 unread_is t NotAnExpression h n = sym (unread t (λ e r. h.1 e r.0))
-unread_is t TooDeep h n = sym (unread t (λ e r. let same = ap nesting (spelled_once t h.1.0 e h.1.1 r.0) in let d = r.1.1 in absurd (omega (arith, h.1.2, same, d))))
+unread_is t TooDeep h n =
+    sym (unread t (λ e r. let same = ap nesting (spelled_once t h.1.0 e h.1.1 r.0) in let d = r.1.1 in
+    absurd (omega (arith, h.1.2, same, d))))
 unread_is t OutOfMemory h n = absurd (n refl)

@@ -1,5 +1,6 @@
 -- What loops gather turn by turn, where each turn gives a value or none.
-use Rattle.std.proofs.Common.{◌≡◌, ◌<◌, ◌≤◌, ◌+◌, ℕ, List, [], ◌∷◌, ◌++◌, map, take, length, get_or, true, false, Option, Some, None, option_map, refl, sym, ap, ◌∙◌, subst}
+use Rattle.std.proofs.Common.{◌≡◌, ◌<◌, ◌≤◌, ◌+◌, ℕ, List, [], ◌∷◌, ◌++◌, map, take, length, get_or, true, false}
+use Rattle.std.proofs.Common.{Option, Some, None, option_map, refl, sym, ap, ◌∙◌, subst}
 use Rattle.std.proofs.lemmas.List.{take_all}
 use Rattle.arm_value.specs.Json.{Json, array, row}
 use Rattle.reading.specs.Reading.{pure, continued, joined}
@@ -8,7 +9,8 @@ use Rattle.arm_env.specs.Look.{Look, Looking, Surroundings}
 use Rattle.arm_env.specs.Part.{kept}
 use Rattle.arm_env.specs.Held.{capped}
 use Rattle.arm_env.specs.Look.{all}
-use Rattle.arm_env.specs.Answer.{Answer, is, is_none, needs, is_late, answered, next, given, outcome_answer, gathered, Stops}
+use Rattle.arm_env.specs.Answer.{Answer, is, is_none, needs, is_late, answered, next, given, outcome_answer, gathered}
+use Rattle.arm_env.specs.Answer.{Stops}
 use Rattle.arm_env.specs.declared.stop.Stop.{Stop}
 use Rattle.arm_env.specs.declared.stop.Stop.TheVariants as stop
 use Rattle.arm_eval.specs.Trees.{Copy, within, array_of}
@@ -25,7 +27,8 @@ outcome_given (Some b) = refl
 outcome_given None = refl
 
 -- what stops a part without being want of a value stops the outcome of the whole
-stops_outcome : {A B : Type 0} (s : Stop) (a : Answer A) (t : Answer B) → Stops s (outcome_answer a) → Stops s t → Stops s (outcome_answer t)
+stops_outcome : {A B : Type 0} (s : Stop) (a : Answer A) (t : Answer B) → Stops s (outcome_answer a) → Stops s t
+    → Stops s (outcome_answer t)
 stops_outcome stop.NoValue (is x) t h e = absurd cc
 stops_outcome stop.NoValue is_none t h e = absurd cc
 stops_outcome stop.NoValue (needs k) t h e = absurd cc
@@ -58,8 +61,10 @@ given_in is_late o e = absurd cc
 
 module _ (A : Type 0) (p : Look → Known Json) (B : Type 0) (f : List A → B) (X : Type 0) (h : X → Looking A) where
   -- a turn
-  pub turned : (g : B → A → B) → ((xs : List A) (x : A) → f (xs ++ x ∷ []) ≡ g (f xs) x) → (xs : List X) (i : ℕ) (x : X) (o : Option B) (a : Option A)
-      → i < length xs → x ≡ get_or xs i x → gathered f p (map h (take i xs)) ≡ given o → outcome_answer (answered p (h x)) ≡ is a
+  pub turned : (g : B → A → B) → ((xs : List A) (x : A) → f (xs ++ x ∷ []) ≡ g (f xs) x)
+      → (xs : List X) (i : ℕ) (x : X) (o : Option B) (a : Option A)
+      → i < length xs → x ≡ get_or xs i x → gathered f p (map h (take i xs)) ≡ given o
+      → outcome_answer (answered p (h x)) ≡ is a
       → gathered f p (map h (take (i + 1) xs)) ≡ given (option_map (λ q. g q.0 q.1) (joined o a))
   turned g k xs i x (Some b) (Some a) l e s found = one_value A p B f X h g k xs i x true b a l e s found
   turned g k xs i x (Some b) None l e s found = one_none A p B f X h xs i x true b b l e s found
@@ -67,14 +72,19 @@ module _ (A : Type 0) (p : Look → Known Json) (B : Type 0) (f : List A → B) 
   turned g k xs i x None None l e s found = one_none A p B f X h xs i x false (f []) (f []) l e s found
 
   -- a turn that stops the whole
-  pub turn_stops : (s : Stop) (xs : List X) (i : ℕ) (x : X) (o : Option B) → i < length xs → x ≡ get_or xs i x → gathered f p (map h (take i xs)) ≡ given o
+  pub turn_stops : (s : Stop) (xs : List X) (i : ℕ) (x : X) (o : Option B) → i < length xs → x ≡ get_or xs i x
+      → gathered f p (map h (take i xs)) ≡ given o
       → Stops s (outcome_answer (answered p (h x))) → Stops s (outcome_answer (gathered f p (map h xs)))
-  turn_stops s xs i x (Some b) l e g found = stops_outcome s (answered p (h x)) _ found (one_stops A p B f X h s xs i x true b l e g found)
-  turn_stops s xs i x None l e g found = stops_outcome s (answered p (h x)) _ found (one_stops A p B f X h s xs i x false (f []) l e g found)
+  turn_stops s xs i x (Some b) l e g found =
+      stops_outcome s (answered p (h x)) _ found (one_stops A p B f X h s xs i x true b l e g found)
+  turn_stops s xs i x None l e g found =
+      stops_outcome s (answered p (h x)) _ found (one_stops A p B f X h s xs i x false (f []) l e g found)
 
   -- behind the last turn
-  pub all_turned : (xs : List X) (i : ℕ) (o : Option B) → length xs ≤ i → gathered f p (map h (take i xs)) ≡ given o → outcome_answer (gathered f p (map h xs)) ≡ is o
-  all_turned xs i o l e = ap (λ ys. outcome_answer (gathered f p (map h ys))) (sym (take_all i xs l)) ∙ ap outcome_answer e ∙ outcome_given o
+  pub all_turned : (xs : List X) (i : ℕ) (o : Option B) → length xs ≤ i → gathered f p (map h (take i xs)) ≡ given o
+      → outcome_answer (gathered f p (map h xs)) ≡ is o
+  all_turned xs i o l e = ap (λ ys. outcome_answer (gathered f p (map h ys))) (sym (take_all i xs l))
+      ∙ ap outcome_answer e ∙ outcome_given o
 
 -- what is gathered as it is
 itself : {A : Type 0} (t : Answer A) → next t (λ x. is x) ≡ t
@@ -84,23 +94,31 @@ itself (needs k) = refl
 itself is_late = refl
 
 module _ (p : Look → Known Json) where
-  pub all_given : {A : Type 0} (os : List (Looking A)) (o : Option (List A)) → outcome_answer (gathered (λ xs. xs) p os) ≡ is o → answered p (all os) ≡ given o
+  pub all_given : {A : Type 0} (os : List (Looking A)) (o : Option (List A))
+      → outcome_answer (gathered (λ xs. xs) p os) ≡ is o → answered p (all os) ≡ given o
   all_given os o e = sym (itself (answered p (all os))) ∙ given_in _ o e
 
-  pub all_stop : {A : Type 0} (s : Stop) (os : List (Looking A)) → Stops s (outcome_answer (gathered (λ xs. xs) p os)) → Stops s (answered p (all os))
-  all_stop {A} s os h = let P : Answer (List A) → Type 0 = Stops s in subst P (itself (answered p (all os))) (stops_in s _ h)
+  pub all_stop : {A : Type 0} (s : Stop) (os : List (Looking A)) → Stops s (outcome_answer (gathered (λ xs. xs) p os))
+      → Stops s (answered p (all os))
+  all_stop {A} s os h = let P : Answer (List A) → Type 0 = Stops s in
+      subst P (itself (answered p (all os))) (stops_in s _ h)
 
-  kept_next : (o : Option (List Json)) → next (next (given o) (λ vs. answered p (pure (array (row vs))))) (λ j. given (kept j)) ≡ given (kept_array o)
+  kept_next : (o : Option (List Json))
+      → next (next (given o) (λ vs. answered p (pure (array (row vs))))) (λ j. given (kept j)) ≡ given (kept_array o)
   kept_next (Some vs) = ap (λ t. next t (λ j. given (kept j))) (answered-done p (Some (array (row vs))))
   kept_next None = refl
 
   -- the array of what was gathered
-  pub array_given : (os : List (Looking Json)) (o : Option (List Json)) → outcome_answer (gathered (λ xs. xs) p os) ≡ is o → answered p (array_of os) ≡ given (kept_array o)
+  pub array_given : (os : List (Looking Json)) (o : Option (List Json))
+      → outcome_answer (gathered (λ xs. xs) p os) ≡ is o → answered p (array_of os) ≡ given (kept_array o)
   array_given os o e =
       answered-capped p (continued (all os) (λ vs. pure (array (row vs))))
-      ∙ ap (λ t. next t (λ j. given (kept j))) (answered-continued p (all os) (λ vs. pure (array (row vs))) ∙ ap (λ t. next t (λ vs. answered p (pure (array (row vs))))) (all_given os o e))
+      ∙ ap (λ t. next t (λ j. given (kept j))) (answered-continued p (all os) (λ vs. pure (array (row vs)))
+      ∙ ap (λ t. next t (λ vs. answered p (pure (array (row vs))))) (all_given os o e))
       ∙ kept_next o
 
-  pub array_stops : (s : Stop) (os : List (Looking Json)) → Stops s (outcome_answer (gathered (λ xs. xs) p os)) → Stops s (answered p (array_of os))
+  pub array_stops : (s : Stop) (os : List (Looking Json)) → Stops s (outcome_answer (gathered (λ xs. xs) p os))
+      → Stops s (answered p (array_of os))
   unfolding capped
-  array_stops s os h = stops s p (continued (all os) (λ vs. pure (array (row vs)))) _ (stops s p (all os) _ (all_stop s os h))
+  array_stops s os h =
+      stops s p (continued (all os) (λ vs. pure (array (row vs)))) _ (stops s p (all os) _ (all_stop s os h))

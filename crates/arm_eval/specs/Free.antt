@@ -18,4 +18,5 @@ text_cmp s t = slice_cmp nat_cmp s.now t.now
 
 -- the set has these names, in UTF-8, and no others
 abbrev pub AreNames : BTreeSet (Bor (List ℕ)) → List (List ℕ) → Type 0
-AreNames set names = (s : Bor (List ℕ)) → contains text_cmp set s ≡ list_any (λ n. bytes_eq s.now (encode_utf8_all n)) names
+AreNames set names = (s : Bor (List ℕ))
+    → contains text_cmp set s ≡ list_any (λ n. bytes_eq s.now (encode_utf8_all n)) names

@@ -1,5 +1,6 @@
 -- What a text of a template says (Microsoft Learn, "Template expressions").
-use Rattle.std.specs.Prelude.{ℕ, ◌==◌, ◌&&◌, nat_le, length, Bool, false, List, [], ◌∷◌, Option, Some, None, if◌then◌else◌}
+use Rattle.std.specs.Prelude.{ℕ, ◌==◌, ◌&&◌, nat_le, length, Bool, false, List, [], ◌∷◌, Option, Some, None}
+use Rattle.std.specs.Prelude.{if◌then◌else◌}
 use Rattle.arm_expr.specs.Tree.{Tree}
 use Rattle.arm_expr.specs.Stack.{kept_reading}
 
@@ -45,6 +46,7 @@ abbrev pub flattened : Option (Option Tree) → Option Tree
 flattened (Some (Some e)) = Some e
 flattened _ = None
 
--- the expression that a text of at most 24,576 characters spells, where it nests at most 64: the law `expression_read` says so by the grammar
+-- the expression that a text of at most 24,576 characters spells, where it nests at most 64: the law
+-- `expression_read` says so by the grammar
 unfoldable pub expression_of : List ℕ → Option Tree
 expression_of t = if nat_le (length t) 24576 && is_bracketed t then flattened (kept_reading (inside t)) else None

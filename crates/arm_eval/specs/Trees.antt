@@ -1,7 +1,10 @@
--- The value of a JSON tree with expressions and loops in it, and what is looked at for it (Microsoft Learn, "Property iteration in ARM templates").
-use Rattle.std.specs.Prelude.{ℕ, zero, suc, pos, nat_le, ◌==◌, ◌&&◌, not, bytes_eq, Bool, true, false, List, [], ◌∷◌, ◌++◌, length, Option, Some, None, option_and_then, codes, if◌then◌else◌}
+-- The value of a JSON tree with expressions and loops in it, and what is looked at for it (Microsoft Learn, "Property
+-- iteration in ARM templates").
+use Rattle.std.specs.Prelude.{ℕ, zero, suc, pos, nat_le, ◌==◌, ◌&&◌, not, bytes_eq, Bool, true, false, List, [], ◌∷◌}
+use Rattle.std.specs.Prelude.{◌++◌, length, Option, Some, None, option_and_then, codes, if◌then◌else◌}
 use Rattle.std.specs.List.{list_any}
-use Rattle.arm_value.specs.Json.{Json, null, bool, int, text, array, object, Row, no_items, item, Pairs, no_pairs, pair, row, Member, pair_keys}
+use Rattle.arm_value.specs.Json.{Json, null, bool, int, text, array, object, Row, no_items, item, Pairs, no_pairs}
+use Rattle.arm_value.specs.Json.{pair, row, Member, pair_keys}
 use Rattle.arm_value.specs.Look.{is_same_folded}
 use Rattle.function_numbers.specs.Kinds.{text_of}
 use Rattle.reading.specs.Reading.{done, pure, none, continued, both}
@@ -51,7 +54,8 @@ part_text (Some p) = text_of p.tree
 
 -- the loop of these members, whose name is a text
 abbrev pub copy_by : List Part → Option Copy
-copy_by ps = option_and_then (λ name. with_name name (part_named (codes "count") ps) (part_named (codes "input") ps)) (part_text (part_named (codes "name") ps))
+copy_by ps = option_and_then (λ name. with_name name (part_named (codes "count") ps) (part_named (codes "input") ps))
+    (part_text (part_named (codes "name") ps))
 
 -- the loop that an object of exactly a name, a count and an input is
 abbrev pub copy_of : List Part → Option Copy
@@ -108,7 +112,8 @@ names_of (m ∷ ms) = m.0 ∷ names_of ms
 
 -- the object of its own members and of those that loops give, whose names it does not have and which differ
 abbrev pub joined : List (List ℕ) → List Member → List Member → Option Json
-joined names own given = if are_new names (names_of given) && differ (names_of given) then Some (object_of (own ++ given)) else None
+joined names own given = if are_new names (names_of given) && differ (names_of given)
+    then Some (object_of (own ++ given)) else None
 
 abbrev pub concat : List (List Member) → List Member
 concat [] = []

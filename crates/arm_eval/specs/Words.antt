@@ -1,5 +1,6 @@
 -- What the code's words for texts and trees stand for.
-use Rattle.std.specs.Prelude.{◌<◌, ◌++◌, ℕ, List, [], ◌∷◌, map, Option, Some, None, option_map, option_and_then, ◌&&◌, if◌then◌else◌}
+use Rattle.std.specs.Prelude.{◌<◌, ◌++◌, ℕ, List, [], ◌∷◌, map, Option, Some, None, option_map, option_and_then, ◌&&◌}
+use Rattle.std.specs.Prelude.{if◌then◌else◌}
 use Rattle.std.specs.Str.{chars}
 use Rattle.arm_value.specs.Json.{Json, array, object, row, pairs, items, Member, put_each, nesting}
 use Rattle.arm_value.specs.View.{json}
@@ -8,7 +9,8 @@ use Rattle.arm_value.specs.declared.value.Field.{Field}
 use Rattle.reading.specs.Reading.{joined}
 use Rattle.arm_env.specs.Look.{Looking, Surroundings}
 use Rattle.arm_env.specs.Part.{kept}
-use Rattle.arm_eval.specs.Trees.{Part, Copy, tree_value, own_member, copied, copy_in, concat, names_of, are_new, differ, is_copy}
+use Rattle.arm_eval.specs.Trees.{Part, Copy, tree_value, own_member, copied, copy_in, concat, names_of, are_new}
+use Rattle.arm_eval.specs.Trees.{differ, is_copy}
 use Rattle.arm_eval.specs.declared.copying.Copying.{Copying}
 use Rattle.arm_eval.specs.declared.whole.Own.{Own}
 use Rattle.arm_eval.specs.declared.whole.Own.TheVariants as own
@@ -22,7 +24,8 @@ said_of said.Expression = text.expression
 
 -- the loop that the code's parts are
 abbrev pub copying_of : Copying → Copy
-copying_of c = record { name = c.name.now; count = tree_value (json c.count.now); input = tree_value (json c.input.now) }
+copying_of c =
+    record { name = c.name.now; count = tree_value (json c.count.now); input = tree_value (json c.input.now) }
 
 -- its count and its input nest less than this
 abbrev pub NestsBelow : ℕ → Copying → Type 0
@@ -66,7 +69,9 @@ abbrev pub kept_object : List Member → List Member → Option Json
 kept_object own given = kept (object (pairs (put_each own given)))
 
 abbrev pub whole_object : List (List ℕ) → Option (List Member) → List Member → Option Json
-whole_object names own given = option_and_then (λ own. if are_new names (names_of given) && differ (names_of given) then kept_object own given else None) own
+whole_object names own given =
+    option_and_then (λ own. if are_new names (names_of given) && differ (names_of given) then kept_object own given
+    else None) own
 
 -- the trees of an array
 abbrev pub trees_in : Json → Option (List Json)

@@ -17,13 +17,16 @@ names-Text s = subst HasNames (sym (tree_of-Text s)) tt
 pub names-Int : (z : ℤ) → HasNames (tree_of (e.Int z))
 names-Int z = subst HasNames (sym (tree_of-Int z)) tt
 
-pub names-Call : (s : List ℕ) (es : Vec Expr Global) → IsName s → HaveNames (trees (map tree_of es.items)) → HasNames (tree_of (e.Call s es))
+pub names-Call : (s : List ℕ) (es : Vec Expr Global) → IsName s → HaveNames (trees (map tree_of es.items))
+    → HasNames (tree_of (e.Call s es))
 names-Call s es n h = subst HasNames (sym (tree_of-Call s es)) (n, h)
 
-pub names-Member : (x : Box Expr Global) (s : List ℕ) → HasNames (tree_of x.value) → IsName s → HasNames (tree_of (e.Member x s))
+pub names-Member : (x : Box Expr Global) (s : List ℕ) → HasNames (tree_of x.value) → IsName s
+    → HasNames (tree_of (e.Member x s))
 names-Member x s h n = subst HasNames (sym (tree_of-Member x s)) (h, n)
 
-pub names-Index : (x y : Box Expr Global) → HasNames (tree_of x.value) → HasNames (tree_of y.value) → HasNames (tree_of (e.Index x y))
+pub names-Index : (x y : Box Expr Global) → HasNames (tree_of x.value) → HasNames (tree_of y.value)
+    → HasNames (tree_of (e.Index x y))
 names-Index x y h k = subst HasNames (sym (tree_of-Index x y)) (h, k)
 
 pub ruleset names = (names-Text, names-Int, names-Call, names-Member, names-Index)

@@ -1,5 +1,7 @@
 -- What is printed spells the expression, and how long it is.
-use Rattle.std.proofs.Common.{◌≡◌, ◌≢◌, ◌<◌, ◌≤◌, ◌+◌, ◌-◌, ◌*◌, ◌/◌, ◌%◌, ◌^◌, zero, suc, pos, negsuc, cond, length, length-append, get_or, drop, map, append-nil, append_assoc, lit<, arith, w64, ℕ, ℤ, Bool, true, false, eqb, nat_lt, nat_le, List, [], ◌∷◌, ◌++◌, refl, ap, sym, subst, ◌∙◌}
+use Rattle.std.proofs.Common.{◌≡◌, ◌≢◌, ◌<◌, ◌≤◌, ◌+◌, ◌-◌, ◌*◌, ◌/◌, ◌%◌, ◌^◌, zero, suc, pos, negsuc, cond, length}
+use Rattle.std.proofs.Common.{length-append, get_or, drop, map, append-nil, append_assoc, lit<, arith, w64, ℕ, ℤ}
+use Rattle.std.proofs.Common.{Bool, true, false, eqb, nat_lt, nat_le, List, [], ◌∷◌, ◌++◌, refl, ap, sym, subst, ◌∙◌}
 use Rattle.std.specs.Fmt.{signed_decimal, decimal}
 use Rattle.std.specs.Str.{chars, IsUtf8, IsAscii}
 use Rattle.std.proofs.lemmas.Str.{chars-append, chars-IsAscii}
@@ -11,8 +13,10 @@ use mir.Val.{SFits}
 use Rattle.arm_expr.specs.Tree.{Tree, text, int, call, member, index, Trees, none, more, trees}
 use Rattle.arm_expr.specs.declared.expr.Expr.{Expr}
 use Rattle.arm_expr.specs.View.{tree_of}
-use Rattle.arm_expr.specs.Grammar.{kind_of, is_digit, AreDigits, value_from, fits, signed, doubled, IsNumeral, ◌▹◌, blanks, mark, expression, arguments, further, Spells}
-use Rattle.arm_expr.specs.Print.{printed, printed_onto, arguments_onto, further_onto, HasNames, HaveNames, HasInts, HaveInts, IsWhole, size, arguments_size}
+use Rattle.arm_expr.specs.Grammar.{kind_of, is_digit, AreDigits, value_from, fits, signed, doubled, IsNumeral, ◌▹◌}
+use Rattle.arm_expr.specs.Grammar.{blanks, mark, expression, arguments, further, Spells}
+use Rattle.arm_expr.specs.Print.{printed, printed_onto, arguments_onto, further_onto, HasNames, HaveNames, HasInts}
+use Rattle.arm_expr.specs.Print.{HaveInts, IsWhole, size, arguments_size}
 use Rattle.arm_expr.proofs.LexerLemmas.{cons_at}
 use Rattle.arm_expr.proofs.LexingSound.{AreDigits-push}
 use Rattle.arm_expr.proofs.ViewLemmas.{tree_of-Text, tree_of-Int, tree_of-Call, tree_of-Member, tree_of-Index}
@@ -43,7 +47,14 @@ value_from-push n [] d = refl
 value_from-push n (x ∷ ds) d = value_from-push (10 * n + (x - 48)) ds d
 
 one_digit : (n : ℕ) → n < 10 → IsDecimal n ((48 + n) ∷ [])
-one_digit n h = record { first = 48 + n; rest = []; digits_are = refl; are_digits = (digit_kind n h, tt); value = omega arith }
+one_digit n h = record {
+  first = 48 + n;
+  rest = [];
+  digits_are = refl;
+  are_digits = (digit_kind n h, tt);
+  value =
+      omega arith;
+}
 
 last_digit : (n : ℕ) → n % 10 < 10
 last_digit n = omega arith
@@ -125,19 +136,25 @@ mutual
           (
             printed_onto i end,
             refl,
-            (printed_onto i end, no_blank (printed_onto i end), (end, expression_printed i end n.1 z.1, (end, no_blank end, refl))),
+            (
+              printed_onto i end,
+              no_blank (printed_onto i end),
+              (end, expression_printed i end n.1 z.1, (end, no_blank end, refl)),
+            ),
           ),
         ),
       )
 
-  arguments_printed : (es : Trees) (k : List ℕ) → HaveNames es → HaveInts es → (arguments es ▹ mark 41) (arguments_onto es k) k
+  arguments_printed : (es : Trees) (k : List ℕ) → HaveNames es → HaveInts es
+      → (arguments es ▹ mark 41) (arguments_onto es k) k
   arguments_printed none k n z = (41 ∷ k, no_blank (41 ∷ k), refl)
   arguments_printed (more e es) k n z =
       let y = further_printed es k n.1 z.1 in
       let back : List ℕ = further_onto es k in
       (y.0, (printed_onto e back, no_blank (printed_onto e back), (back, expression_printed e back n.0 z.0, y.1)), y.2)
 
-  further_printed : (es : Trees) (k : List ℕ) → HaveNames es → HaveInts es → (further es ▹ mark 41) (further_onto es k) k
+  further_printed : (es : Trees) (k : List ℕ) → HaveNames es → HaveInts es
+      → (further es ▹ mark 41) (further_onto es k) k
   further_printed none k n z = (41 ∷ k, no_blank (41 ∷ k), refl)
   further_printed (more e es) k n z =
       let y = further_printed es k n.1 z.1 in
@@ -155,8 +172,15 @@ mutual
 -- what is printed spells the expression
 pub printed_spells : (e : Tree) → HasNames e → HasInts e → Spells e (printed e)
 printed_spells e n z =
-    let end : List ℕ = 93 ∷ [] in
-    (printed_onto e end, refl, (printed_onto e end, no_blank (printed_onto e end), (end, expression_printed e end n z, (end, no_blank end, refl))))
+    let end : List ℕ = 93 ∷ [] in (
+      printed_onto e end,
+      refl,
+      (
+        printed_onto e end,
+        no_blank (printed_onto e end),
+        (end, expression_printed e end n z, (end, no_blank end, refl)),
+      ),
+    )
 
 -- how many characters are printed
 mutual
@@ -165,7 +189,8 @@ mutual
   length-printed (int z) k = length-append (signed_decimal z) k
   length-printed (call name es) k = omega (arith, length-append name (40 ∷ arguments_onto es k), length-arguments es k)
   length-printed (member e name) k = omega (arith, length-printed e (46 ∷ (name ++ k)), length-append name k)
-  length-printed (index e i) k = omega (arith, length-printed e (91 ∷ printed_onto i (93 ∷ k)), length-printed i (93 ∷ k))
+  length-printed (index e i) k =
+      omega (arith, length-printed e (91 ∷ printed_onto i (93 ∷ k)), length-printed i (93 ∷ k))
 
   length-arguments : (es : Trees) (k : List ℕ) → length (arguments_onto es k) ≡ arguments_size 0 es + length k
   length-arguments none k = omega arith
@@ -183,12 +208,14 @@ one_at_least n (more e es) = omega (arith, one_at_least 2 es)
 abbrev pub size_from : ℕ → ℕ → List Expr → ℕ
 size_from n i xs = arguments_size n (trees (map tree_of (drop i xs)))
 
-pub next_argument : (n i : ℕ) (xs : List Expr) (x : Expr) → i < length xs → x ≡ get_or xs i x → size_from n i xs ≡ n + size (tree_of x) + size_from 2 (i + 1) xs
+pub next_argument : (n i : ℕ) (xs : List Expr) (x : Expr) → i < length xs → x ≡ get_or xs i x
+    → size_from n i xs ≡ n + size (tree_of x) + size_from 2 (i + 1) xs
 next_argument n i xs x below at =
     at_drop_more (λ ys. arguments_size n (trees (map tree_of ys))) xs i x below
     ∙ ap (λ y. n + size (tree_of y) + size_from 2 (i + 1) xs) (sym at)
 
-pub whole_text : (start opened written ended : List ℕ) (f : List ℕ → List ℕ) → start ≡ [] → opened ≡ start ++ 91 ∷ [] → ((k : List ℕ) → written ++ k ≡ opened ++ f k) → ended ≡ written ++ 93 ∷ [] → ended ≡ 91 ∷ f (93 ∷ [])
+pub whole_text : (start opened written ended : List ℕ) (f : List ℕ → List ℕ) → start ≡ [] → opened ≡ start ++ 91 ∷ []
+    → ((k : List ℕ) → written ++ k ≡ opened ++ f k) → ended ≡ written ++ 93 ∷ [] → ended ≡ 91 ∷ f (93 ∷ [])
 whole_text start opened written ended f a b c d =
     d ∙ c (93 ∷ []) ∙ ap (λ x. x ++ f (93 ∷ [])) (b ∙ ap (λ x. x ++ 91 ∷ []) a)
 
@@ -199,10 +226,13 @@ pub ruleset print_views = (tree_of-Text, tree_of-Int, tree_of-Call, tree_of-Memb
 
 -- a character and those behind it
 doubled-cons : (c : ℕ) (cs : List ℕ) → doubled (c ∷ cs) ≡ doubled (c ∷ []) ++ doubled cs
-doubled-cons c cs = elim (eqb c 39) as (λ b. cond b (39 ∷ 39 ∷ doubled cs) (c ∷ doubled cs) ≡ cond b (39 ∷ 39 ∷ []) (c ∷ []) ++ doubled cs) [ true ↦ refl | false ↦ refl ]
+doubled-cons c cs =
+    elim (eqb c 39) as (λ b. cond b (39 ∷ 39 ∷ doubled cs) (c ∷ doubled cs) ≡ cond b (39 ∷ 39 ∷ []) (c ∷ [])
+    ++ doubled cs) [ true ↦ refl | false ↦ refl ]
 
 -- a turn of the loop that writes a text within quotes
-pub doubles_turn : (o p base all : List ℕ) (n m c : ℕ) → (n < length all) × (c ≡ get_or all n c) → m ≡ n + 1 → p ≡ o ++ doubled (c ∷ []) → o ++ doubled (drop n all) ≡ base → p ++ doubled (drop m all) ≡ base
+pub doubles_turn : (o p base all : List ℕ) (n m c : ℕ) → (n < length all) × (c ≡ get_or all n c) → m ≡ n + 1
+    → p ≡ o ++ doubled (c ∷ []) → o ++ doubled (drop n all) ≡ base → p ++ doubled (drop m all) ≡ base
 doubles_turn o p base all n m c t m_is p_is inv =
     ap (λ x. x ++ doubled (drop m all)) p_is
     ∙ ap (λ k. (o ++ doubled (c ∷ [])) ++ doubled (drop k all)) m_is
@@ -211,23 +241,30 @@ doubles_turn o p base all n m c t m_is p_is inv =
     ∙ inv
 
 pub doubles_end : (o base all : List ℕ) (n : ℕ) → n ≡ length all → o ++ doubled (drop n all) ≡ base → o ≡ base
-doubles_end o base all n n_is inv = sym (append-nil o) ∙ ap (λ x. o ++ x) (sym (at_drop_all doubled all n (omega arith))) ∙ inv
+doubles_end o base all n n_is inv = sym (append-nil o)
+    ∙ ap (λ x. o ++ x) (sym (at_drop_all doubled all n (omega arith))) ∙ inv
 
 -- one more character that was counted
-pub counts_one : (all : List ℕ) (n c : ℕ) → (n < length all) × (c ≡ get_or all n c) → length (doubled (drop n all)) ≡ cond (eqb c 39) 2 1 + length (doubled (drop (n + 1) all))
+pub counts_one : (all : List ℕ) (n c : ℕ) → (n < length all) × (c ≡ get_or all n c)
+    → length (doubled (drop n all)) ≡ cond (eqb c 39) 2 1 + length (doubled (drop (n + 1) all))
 counts_one all n c t = ap (λ xs. length (doubled xs)) (cons_at all n c t) ∙ by (eqb c 39)
   where
-    by : (b : Bool) → length (cond b (39 ∷ 39 ∷ doubled (drop (n + 1) all)) (c ∷ doubled (drop (n + 1) all))) ≡ cond b 2 1 + length (doubled (drop (n + 1) all))
+    by : (b : Bool) → length (cond b (39 ∷ 39 ∷ doubled (drop (n + 1) all)) (c ∷ doubled (drop (n + 1) all)))
+        ≡ cond b 2 1 + length (doubled (drop (n + 1) all))
     by true = omega arith
     by false = omega arith
 
-pub counts_turn : (all : List ℕ) (n m c left rest room whole : ℕ) → (n < length all) × (c ≡ get_or all n c) → m ≡ n + 1 → cond (eqb c 39) 2 1 ≤ left → rest ≡ left - cond (eqb c 39) 2 1 → left + whole ≡ room + length (doubled (drop n all)) → rest + whole ≡ room + length (doubled (drop m all))
+pub counts_turn : (all : List ℕ) (n m c left rest room whole : ℕ) → (n < length all) × (c ≡ get_or all n c)
+    → m ≡ n + 1 → cond (eqb c 39) 2 1 ≤ left → rest ≡ left - cond (eqb c 39) 2 1
+    → left + whole ≡ room + length (doubled (drop n all)) → rest + whole ≡ room + length (doubled (drop m all))
 counts_turn all n m c left rest room whole t m_is fits rest_is inv =
     let one = counts_one all n c t in
-    let next : length (doubled (drop m all)) ≡ length (doubled (drop (n + 1) all)) = ap (λ k. length (doubled (drop k all))) m_is in
+    let next : length (doubled (drop m all)) ≡ length (doubled (drop (n + 1) all)) =
+    ap (λ k. length (doubled (drop k all))) m_is in
     omega (arith, one, next)
 
-pub counts_end : (all : List ℕ) (n left room : ℕ) → n ≡ length all → left + length (doubled all) ≡ room + length (doubled (drop n all)) → left + length (doubled all) ≡ room
+pub counts_end : (all : List ℕ) (n left room : ℕ) → n ≡ length all
+    → left + length (doubled all) ≡ room + length (doubled (drop n all)) → left + length (doubled all) ≡ room
 counts_end all n left room n_is inv = omega (arith, at_drop_all (λ xs. length (doubled xs)) all n (omega arith))
 
 minus_ascii : (bs : List ℕ) → IsAscii bs → (i : ℕ) → get_or (45 ∷ bs) i 0 < 128
@@ -242,7 +279,8 @@ pub whole_is : (z : ℤ) → SFits w64 z → IsWhole z
 whole_is (pos n) f = omega (arith, ints, f)
 whole_is (negsuc n) f = omega (arith, ints, f)
 
-pub int_put : (new old : List ℕ) (z y : ℤ) → IsUtf8 old → SFits w64 z → y ≡ z → new ≡ old ++ signed_decimal y → chars new ≡ chars old ++ signed_decimal z
+pub int_put : (new old : List ℕ) (z y : ℤ) → IsUtf8 old → SFits w64 z → y ≡ z → new ≡ old ++ signed_decimal y
+    → chars new ≡ chars old ++ signed_decimal z
 int_put new old z y u f y_is h =
     ap chars (h ∙ ap (λ x. old ++ signed_decimal x) y_is)
     ∙ chars-append old (signed_decimal z) u

@@ -1,5 +1,7 @@
 -- Reading a text as the grammar spells it.
-use Rattle.std.proofs.Common.{◌≡◌, ℕ, List, [], ◌∷◌, ◌++◌, Option, Some, None, option_map, option_and_then, cond, refl, ap, sym, ◌∙◌, subst, ◌<◌, ◌≤◌, ◌≢◌, ◌↔◌, ◌⊎◌, inl, inr, IsTrue, Bool, true, false, Result, Ok, Err, length, arith, nat_le}
+use Rattle.std.proofs.Common.{◌≡◌, ℕ, List, [], ◌∷◌, ◌++◌, Option, Some, None, option_map, option_and_then, cond}
+use Rattle.std.proofs.Common.{refl, ap, sym, ◌∙◌, subst, ◌<◌, ◌≤◌, ◌≢◌, ◌↔◌, ◌⊎◌, inl, inr, IsTrue, Bool, true, false}
+use Rattle.std.proofs.Common.{Result, Ok, Err, length, arith, nat_le}
 use Rattle.std.proofs.lemmas.Bool.Decides.{nat_tests}
 use Rattle.arm_expr.specs.declared.expr.Expr.{Expr}
 use Rattle.arm_expr.specs.declared.fault.ExprFault.{ExprFault}
@@ -51,7 +53,9 @@ bracketed e t s =
       cut = record { front = bs.0; is = bs.2 ∙ ap (λ x. bs.0 ++ x) last.2; lexed = lex-blank bs.0 bs.1 };
       ends = blank_ends bs.0 bs.1;
     } in
-    let c = cut_blanks s.0 s.2.0 (93 ∷ []) (Some (spelled e [])) s.2.1 (cut_expression e s.2.0 s.2.2.0 (93 ∷ []) (Some []) s.2.2.1 behind) in
+    let c =
+    cut_blanks s.0 s.2.0 (93 ∷ []) (Some (spelled e [])) s.2.1
+    (cut_expression e s.2.0 s.2.2.0 (93 ∷ []) (Some []) s.2.2.1 behind) in
     record { inner = c.front; is = s.1 ∙ ap (λ x. 91 ∷ x) c.is; lexed = c.lexed }
 
 inner_same : (t a b : List ℕ) → t ≡ in_brackets a → t ≡ in_brackets b → a ≡ b
@@ -64,7 +68,8 @@ lexed_inside e inner s =
     ap (lex between) (inner_same (in_brackets inner) inner b.inner refl b.is) ∙ b.lexed
 
 -- what is read is spelled
-read_spells : (e : Tree) (inner : List ℕ) (ts : List Token) → lex between inner ≡ Some ts → parsed Tree (List Tree) as_tree ts ≡ Some e → Spells e (in_brackets inner)
+read_spells : (e : Tree) (inner : List ℕ) (ts : List Token) → lex between inner ≡ Some ts
+    → parsed Tree (List Tree) as_tree ts ≡ Some e → Spells e (in_brackets inner)
 read_spells e inner ts h p =
     let w = subst (λ x. Writes x inner) (parsed_is_spelled ts e p) (lexed_is_written inner ts h) in
     let x = spelt_whole e inner (93 ∷ []) w in
@@ -75,9 +80,11 @@ pub spelled_once : (t : List ℕ) (e f : Tree) → Spells e t → Spells f t →
 spelled_once t e f s r =
     let b = bracketed e t s in
     let c = bracketed f t r in
-    let same : Some (spelled e []) ≡ Some (spelled f []) = sym b.lexed ∙ ap (lex between) (inner_same t b.inner c.inner b.is c.is) ∙ c.lexed in
+    let same : Some (spelled e []) ≡ Some (spelled f []) = sym b.lexed
+    ∙ ap (lex between) (inner_same t b.inner c.inner b.is c.is) ∙ c.lexed in
     let tokens : spelled e [] ≡ spelled f [] = cc in
-    let trees : Some e ≡ Some f = sym (spelled_is_parsed e) ∙ ap (parsed Tree (List Tree) as_tree) tokens ∙ spelled_is_parsed f in
+    let trees : Some e ≡ Some f = sym (spelled_is_parsed e) ∙ ap (parsed Tree (List Tree) as_tree) tokens
+    ∙ spelled_is_parsed f in
     cc
 
 -- what the answer of the bounded reader says of the text
@@ -86,7 +93,8 @@ Found None t = (e : Tree) → Spells e t → ⊥
 Found (Some None) t = (e : Tree) × Spells e t × (64 < nesting e)
 Found (Some (Some e)) t = Spells e t × (nesting e ≤ 64)
 
-found_parsed : (inner : List ℕ) (ts : List Token) (p : Option Tree) → lex between inner ≡ Some ts → parsed Tree (List Tree) as_tree ts ≡ p → Found (option_map (kept 64) p) (in_brackets inner)
+found_parsed : (inner : List ℕ) (ts : List Token) (p : Option Tree) → lex between inner ≡ Some ts
+    → parsed Tree (List Tree) as_tree ts ≡ p → Found (option_map (kept 64) p) (in_brackets inner)
 found_parsed inner ts None h p = λ e s.
     let same : Some ts ≡ Some (spelled e []) = sym h ∙ lexed_inside e inner s in
     let tokens : ts ≡ spelled e [] = cc in
@@ -96,16 +104,19 @@ found_parsed inner ts (Some e) h p =
     let s = read_spells e inner ts h p in
     by_le (nesting e) 64 (λ b. Found (Some (cond b (Some e) None)) (in_brackets inner)) (λ y. (s, y)) (λ n. (e, s, n))
 
-found_lexed : (inner : List ℕ) (o : Option (List Token)) → lex between inner ≡ o → Found (option_and_then kept_parsed o) (in_brackets inner)
+found_lexed : (inner : List ℕ) (o : Option (List Token)) → lex between inner ≡ o
+    → Found (option_and_then kept_parsed o) (in_brackets inner)
 found_lexed inner None h = λ e s. let some : None ≡ Some (spelled e []) = sym h ∙ lexed_inside e inner s in cc
 found_lexed inner (Some ts) h =
-    subst (λ x. Found x (in_brackets inner)) (sym (parsed_kept 64 ts)) (found_parsed inner ts (parsed Tree (List Tree) as_tree ts) h refl)
+    subst (λ x. Found x (in_brackets inner)) (sym (parsed_kept 64 ts))
+    (found_parsed inner ts (parsed Tree (List Tree) as_tree ts) h refl)
 
 pub found : (inner : List ℕ) → Found (kept_reading inner) (in_brackets inner)
 found inner = found_lexed inner (lex between inner) refl
 
 -- what the bounded reader's answer says of the text between whose brackets it read
-pub answered : (t inner : List ℕ) (o : Option (Option Tree)) → t ≡ in_brackets inner → kept_reading inner ≡ o → Found o t
+pub answered : (t inner : List ℕ) (o : Option (Option Tree)) → t ≡ in_brackets inner → kept_reading inner ≡ o
+    → Found o t
 answered t inner o is h = subst (Found o) (sym is) (subst (λ x. Found x (in_brackets inner)) h (found inner))
 
 pub unbracketed : (t : List ℕ) → ((inner : List ℕ) → t ≢ in_brackets inner) → (e : Tree) → Spells e t → ⊥
@@ -119,7 +130,8 @@ short b n limit h is = by (cases_lt limit n)
     by (inr y) = y
 
 -- an answer to a text that spells the expression within the limits is the expression
-pub read_as : (t : List ℕ) (r : Result Expr ExprFault) (e : Tree) (long deep : ℕ) → Reads long deep t r → Spells e t → length t ≤ long → nesting e ≤ deep → IsReadAs e r
+pub read_as : (t : List ℕ) (r : Result Expr ExprFault) (e : Tree) (long deep : ℕ) → Reads long deep t r → Spells e t
+    → length t ≤ long → nesting e ≤ deep → IsReadAs e r
 read_as t (Ok f) e long deep h s l d = spelled_once t (tree_of f) e h.1 s
 read_as t (Err TooLong) e long deep h s l d = absurd (omega arith)
 read_as t (Err NotAnExpression) e long deep h s l d = h.1 e s
@@ -146,7 +158,8 @@ mutual
 
   names_in_further : (es : Trees) (t k : List ℕ) → further es t k → HaveNames es
   names_in_further none t k h = tt
-  names_in_further (more e es) t k h = (names_in e h.2.2.0 h.2.2.2.0 h.2.2.2.1, names_in_further es h.2.2.2.0 k h.2.2.2.2)
+  names_in_further (more e es) t k h =
+      (names_in e h.2.2.0 h.2.2.2.0 h.2.2.2.1, names_in_further es h.2.2.2.0 k h.2.2.2.2)
 
 pub spelled_has_names : (t : List ℕ) (e : Tree) → Spells e t → HasNames e
 spelled_has_names t e s = names_in e s.2.0 s.2.2.0 s.2.2.1

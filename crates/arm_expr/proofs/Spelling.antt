@@ -1,7 +1,8 @@
 -- A text whose tokens are those of an expression spells it, whatever stands behind the text.
 use Rattle.std.proofs.Common.{◌≡◌, ℕ, List, [], ◌∷◌, ◌++◌, refl, ap, ◌∙◌, append_assoc}
 use Rattle.arm_expr.specs.Tree.{Tree, text, int, call, member, index, Trees, none, more}
-use Rattle.arm_expr.specs.Tokens.{Token, a_text, an_int, a_name, open_paren, close_paren, open_bracket, close_bracket, comma, dot}
+use Rattle.arm_expr.specs.Tokens.{Token, a_text, an_int, a_name, open_paren, close_paren, open_bracket, close_bracket}
+use Rattle.arm_expr.specs.Tokens.{comma, dot}
 use Rattle.arm_expr.specs.Grammar.{doubled, ◌▹◌, blanks, mark, expression, arguments, further}
 use Rattle.arm_expr.proofs.Words.{First, Writes, spelled, arguments_spelled, further_spelled}
 
@@ -12,9 +13,14 @@ record Spelt (form : List ℕ → List ℕ → Type 0) (ts : List Token) (text b
   writes : Writes ts rest
 
 -- the blanks before a token
-first_blanks : (t : Token) (rest chars back : List ℕ) (f : First t rest chars) → blanks (chars ++ back) (f.word ++ (rest ++ back))
-first_blanks t rest chars back f =
-    (f.blanks, f.are_blank, ap (λ x. x ++ back) f.chars_are ∙ append_assoc f.blanks (f.word ++ rest) back ∙ ap (λ x. f.blanks ++ x) (append_assoc f.word rest back))
+first_blanks : (t : Token) (rest chars back : List ℕ) (f : First t rest chars)
+    → blanks (chars ++ back) (f.word ++ (rest ++ back))
+first_blanks t rest chars back f = (
+  f.blanks,
+  f.are_blank,
+  ap (λ x. x ++ back) f.chars_are ∙ append_assoc f.blanks (f.word ++ rest) back
+      ∙ ap (λ x. f.blanks ++ x) (append_assoc f.word rest back),
+)
 
 string_is : (s word k : List ℕ) → word ≡ 39 ∷ (doubled s ++ 39 ∷ []) → word ++ k ≡ 39 ∷ (doubled s ++ 39 ∷ k)
 string_is s word k h = ap (λ x. x ++ k) h ∙ ap (λ x. 39 ∷ x) (append_assoc (doubled s) (39 ∷ []) k)
@@ -23,13 +29,28 @@ mark_is : (c : ℕ) (word k : List ℕ) → word ≡ c ∷ [] → mark c (word +
 mark_is c word k h = ap (λ x. x ++ k) h
 
 mutual
-  spelt : (e : Tree) (ts : List Token) (chars back : List ℕ) → Writes (spelled e ts) chars → Spelt (blanks ▹ expression e) ts chars back
+  spelt : (e : Tree) (ts : List Token) (chars back : List ℕ) → Writes (spelled e ts) chars
+      → Spelt (blanks ▹ expression e) ts chars back
   spelt (text s) ts chars back w =
       let f = w.1 in
-      record { rest = w.0; spells = (f.word ++ (w.0 ++ back), first_blanks (a_text s) w.0 chars back f, string_is s f.word (w.0 ++ back) f.is_word); writes = w.2 }
+      record {
+        rest = w.0;
+        spells = (
+          f.word ++ (w.0 ++ back),
+          first_blanks (a_text s) w.0 chars back f,
+          string_is s f.word (w.0 ++ back) f.is_word,
+        );
+        writes = w.2;
+      }
   spelt (int z) ts chars back w =
       let f = w.1 in
-      record { rest = w.0; spells = (f.word ++ (w.0 ++ back), first_blanks (an_int z) w.0 chars back f, (f.word, f.is_word, refl)); writes = w.2 }
+      record {
+        rest = w.0;
+        spells =
+            (f.word ++ (w.0 ++ back), first_blanks (an_int z) w.0 chars back f, (f.word, f.is_word, refl));
+        writes =
+            w.2;
+      }
   spelt (call name es) ts chars back w =
       let f = w.1 in
       let o = w.2 in
@@ -110,7 +131,11 @@ mutual
                   (
                     y.rest ++ back,
                     y.spells.2,
-                    (q.word ++ (n.0 ++ back), first_blanks close_bracket n.0 y.rest back q, mark_is 93 q.word (n.0 ++ back) q.is_word),
+                    (
+                      q.word ++ (n.0 ++ back),
+                      first_blanks close_bracket n.0 y.rest back q,
+                      mark_is 93 q.word (n.0 ++ back) q.is_word,
+                    ),
                   ),
                 ),
               ),
@@ -120,10 +145,19 @@ mutual
         writes = n.2;
       }
 
-  spelt_arguments : (es : Trees) (ts : List Token) (chars back : List ℕ) → Writes (arguments_spelled es ts) chars → Spelt (arguments es ▹ mark 41) ts chars back
+  spelt_arguments : (es : Trees) (ts : List Token) (chars back : List ℕ) → Writes (arguments_spelled es ts) chars
+      → Spelt (arguments es ▹ mark 41) ts chars back
   spelt_arguments none ts chars back w =
       let f = w.1 in
-      record { rest = w.0; spells = (f.word ++ (w.0 ++ back), first_blanks close_paren w.0 chars back f, mark_is 41 f.word (w.0 ++ back) f.is_word); writes = w.2 }
+      record {
+        rest = w.0;
+        spells = (
+          f.word ++ (w.0 ++ back),
+          first_blanks close_paren w.0 chars back f,
+          mark_is 41 f.word (w.0 ++ back) f.is_word,
+        );
+        writes = w.2;
+      }
   spelt_arguments (more e es) ts chars back w =
       let x = spelt e (further_spelled es ts) chars back w in
       let y = spelt_further es ts x.rest back x.writes in
@@ -133,10 +167,19 @@ mutual
         writes = y.writes;
       }
 
-  spelt_further : (es : Trees) (ts : List Token) (chars back : List ℕ) → Writes (further_spelled es ts) chars → Spelt (further es ▹ mark 41) ts chars back
+  spelt_further : (es : Trees) (ts : List Token) (chars back : List ℕ) → Writes (further_spelled es ts) chars
+      → Spelt (further es ▹ mark 41) ts chars back
   spelt_further none ts chars back w =
       let f = w.1 in
-      record { rest = w.0; spells = (f.word ++ (w.0 ++ back), first_blanks close_paren w.0 chars back f, mark_is 41 f.word (w.0 ++ back) f.is_word); writes = w.2 }
+      record {
+        rest = w.0;
+        spells = (
+          f.word ++ (w.0 ++ back),
+          first_blanks close_paren w.0 chars back f,
+          mark_is 41 f.word (w.0 ++ back) f.is_word,
+        );
+        writes = w.2;
+      }
   spelt_further (more e es) ts chars back w =
       let p = w.1 in
       let x = spelt e (further_spelled es ts) w.0 back w.2 in
@@ -160,7 +203,8 @@ mutual
       }
 
 -- all of a text, before what stands behind it
-pub spelt_whole : (e : Tree) (chars back : List ℕ) → Writes (spelled e []) chars → (blanks ▹ expression e ▹ blanks) (chars ++ back) back
+pub spelt_whole : (e : Tree) (chars back : List ℕ) → Writes (spelled e []) chars
+    → (blanks ▹ expression e ▹ blanks) (chars ++ back) back
 spelt_whole e chars back w =
     let x = spelt e [] chars back w in
     (x.spells.0, x.spells.1, (x.rest ++ back, x.spells.2, (x.rest, x.writes, refl)))

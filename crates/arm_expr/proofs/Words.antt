@@ -1,7 +1,8 @@
 -- Between characters and expressions: the words of tokens, and the tokens of an expression.
 use Rattle.std.proofs.Common.{◌≡◌, ℕ, List, [], ◌∷◌, ◌++◌}
 use Rattle.arm_expr.specs.Tree.{Tree, text, int, call, member, index, Trees, none, more}
-use Rattle.arm_expr.specs.Tokens.{Token, a_text, an_int, a_name, open_paren, close_paren, open_bracket, close_bracket, comma, dot}
+use Rattle.arm_expr.specs.Tokens.{Token, a_text, an_int, a_name, open_paren, close_paren, open_bracket, close_bracket}
+use Rattle.arm_expr.specs.Tokens.{comma, dot}
 use Rattle.arm_expr.specs.Grammar.{doubled, IsName, IsNumeral, AreBlank}
 
 -- the tokens of an expression, before those that follow it

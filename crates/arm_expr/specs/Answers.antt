@@ -7,7 +7,8 @@ use Rattle.arm_expr.specs.Tree.{Tree, nesting}
 use Rattle.arm_expr.specs.Grammar.{Spells}
 use Rattle.arm_expr.specs.View.{tree_of}
 
--- the answer to a text, where at most `long` characters and a nesting of at most `deep` are allowed: no two of the conditions hold of one text
+-- the answer to a text, where at most `long` characters and a nesting of at most `deep` are allowed: no two of the
+-- conditions hold of one text
 abbrev pub Reads : ℕ → ℕ → List ℕ → Result Expr ExprFault → Type 0
 Reads long deep t (Ok e) = (length t ≤ long) × Spells (tree_of e) t × (nesting (tree_of e) ≤ deep)
 Reads long deep t (Err TooLong) = long < length t

@@ -1,9 +1,11 @@
 -- How a text spells an expression. Texts are lists of characters.
-use Rattle.std.specs.Prelude.{◌≡◌, ℕ, zero, suc, ◌+◌, ◌-◌, ◌*◌, ◌^◌, ℤ, pos, negsuc, Bool, true, false, nat_lt, nat_le, ◌==◌, ◌||◌, List, [], ◌∷◌, ◌++◌, if◌then◌else◌}
+use Rattle.std.specs.Prelude.{◌≡◌, ℕ, zero, suc, ◌+◌, ◌-◌, ◌*◌, ◌^◌, ℤ, pos, negsuc, Bool, true, false, nat_lt}
+use Rattle.std.specs.Prelude.{nat_le, ◌==◌, ◌||◌, List, [], ◌∷◌, ◌++◌, if◌then◌else◌}
 use Rattle.std.specs.Char.{is_ascii_alphabetic, is_ascii_digit}
 use Rattle.arm_expr.specs.Tree.{Tree, text, int, call, member, index, Trees, none, more}
 
--- what a character can be outside quotes: a letter is an ASCII letter or `_`, a blank is a space, a tab, a carriage return or a line feed
+-- what a character can be outside quotes: a letter is an ASCII letter or `_`, a blank is a space, a tab, a carriage
+-- return or a line feed
 pub data Kind : Type 0 where
   letter : Kind
   digit : Kind

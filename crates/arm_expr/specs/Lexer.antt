@@ -1,7 +1,10 @@
 -- The tokens of a text, one character after another.
-use Rattle.std.specs.Prelude.{ℕ, Bool, true, false, ◌==◌, List, [], ◌∷◌, ◌++◌, Option, Some, None, option_map, option_and_then, if◌then◌else◌}
-use Rattle.arm_expr.specs.Tokens.{Token, a_text, an_int, a_name, open_paren, close_paren, open_bracket, close_bracket, comma, dot}
-use Rattle.arm_expr.specs.Grammar.{Kind, letter, digit, blank, sign, kind_of, goes_on_name, is_digit, value_from, fits, signed}
+use Rattle.std.specs.Prelude.{ℕ, Bool, true, false, ◌==◌, List, [], ◌∷◌, ◌++◌, Option, Some, None, option_map}
+use Rattle.std.specs.Prelude.{option_and_then, if◌then◌else◌}
+use Rattle.arm_expr.specs.Tokens.{Token, a_text, an_int, a_name, open_paren, close_paren, open_bracket, close_bracket}
+use Rattle.arm_expr.specs.Tokens.{comma, dot}
+use Rattle.arm_expr.specs.Grammar.{Kind, letter, digit, blank, sign, kind_of, goes_on_name, is_digit, value_from}
+use Rattle.arm_expr.specs.Grammar.{fits, signed}
 
 -- the front of a token
 pub data Pending : Type 0 where
@@ -58,7 +61,8 @@ number negative ds = let n = value_from 0 ds in if fits negative n then Some (an
 
 abbrev pub turn : Pending → ℕ → Turn
 turn between c = start c
-turn (naming w) c = if goes_on_name (kind_of c) then Some ([], naming (w ++ c ∷ [])) else after_token (a_name w) (start c)
+turn (naming w) c = if goes_on_name (kind_of c) then Some ([], naming (w ++ c ∷ []))
+    else after_token (a_name w) (start c)
 turn signing c = if is_digit (kind_of c) then Some ([], counting true (c ∷ [])) else None
 turn (counting negative ds) c =
     if is_digit (kind_of c) then Some ([], counting negative (ds ++ c ∷ []))

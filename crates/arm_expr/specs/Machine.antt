@@ -1,7 +1,9 @@
 -- Reading, one token after another, with the open calls and brackets on a stack, whatever is made of what is read.
-use Rattle.std.specs.Prelude.{ℕ, ℤ, nat_le, List, [], ◌∷◌, ◌++◌, Option, Some, None, option_map, option_and_then, if◌then◌else◌}
+use Rattle.std.specs.Prelude.{ℕ, ℤ, nat_le, List, [], ◌∷◌, ◌++◌, Option, Some, None, option_map, option_and_then}
+use Rattle.std.specs.Prelude.{if◌then◌else◌}
 use Rattle.arm_expr.specs.Tree.{Tree, text, int, call, member, index, trees, nesting, deepest}
-use Rattle.arm_expr.specs.Tokens.{Token, a_text, an_int, a_name, open_paren, close_paren, open_bracket, close_bracket, comma, dot}
+use Rattle.arm_expr.specs.Tokens.{Token, a_text, an_int, a_name, open_paren, close_paren, open_bracket, close_bracket}
+use Rattle.arm_expr.specs.Tokens.{comma, dot}
 
 -- what is made of each form of expression (A), and of the arguments of a call so far (B)
 pub record Makes (A B : Type 0) : Type 0 where

@@ -10,7 +10,9 @@ use Rattle.arm_expr.specs.declared.parser.State.TheVariants as state
 use Rattle.arm_expr.specs.Tree.{Tree}
 use Rattle.arm_expr.specs.Tokens.{Token}
 use Rattle.arm_expr.specs.Lexer.{lex, between}
-use Rattle.arm_expr.specs.Machine.{Frame, calling, indexing, State, wanted, named, opened, done, dotted, closed, separated, indexed, begun, first_begun, gone_on, step, run, finished, parsed, as_kept}
+use Rattle.arm_expr.specs.Machine.{Frame, calling, indexing, State, wanted, named, opened, done, dotted, closed}
+use Rattle.arm_expr.specs.Machine.{separated, indexed, begun, first_begun, gone_on, step, run, finished, parsed}
+use Rattle.arm_expr.specs.Machine.{as_kept}
 use Rattle.arm_expr.specs.View.{tree_of}
 
 abbrev pub kept_of : Option Expr → Option Tree

@@ -11,7 +11,8 @@ abbrev pub refusal_by : Option (ℕ × Option ℕ × Option Plain) → ℕ → O
 refusal_by (Some (least, most, Some f)) count = if admits least most count then None else Some WrongCount
 refusal_by _ count = Some UnknownFunction
 
--- why the function of this name is not called with so many arguments: none has the name, or one whose value does not follow from its arguments alone; or they are too few or too many
+-- why the function of this name is not called with so many arguments: none has the name, or one whose value does not
+-- follow from its arguments alone; or they are too few or too many
 abbrev pub refusal : List ℕ → ℕ → Option FunctionFault
 refusal name count = refusal_by (row_of name) count
 

@@ -1,16 +1,25 @@
--- The template functions: their names, how many arguments each takes, and which have a value that follows from their arguments alone (Microsoft Learn: ARM template functions).
+-- The template functions: their names, how many arguments each takes, and which have a value that follows from their
+-- arguments alone (Microsoft Learn: ARM template functions).
 use Rattle.std.specs.Prelude.{ℕ, codes, List, [], ◌∷◌, Option, Some, None, option_map, if◌then◌else◌}
 use Rattle.arm_value.specs.Look.{is_same_folded}
 use Rattle.arm_functions.specs.declared.plain.Plain.{Plain}
 use Rattle.arm_functions.specs.declared.plain.Plain.TheVariants.{Numbers, Logic, Texts, Lists, Prints, Names}
-use Rattle.arm_functions.specs.declared.plain.OnNumbers.TheVariants.{Add, Sub, Mul, Div, Remainder, Min, Max, ToInt, Range}
-use Rattle.arm_functions.specs.declared.plain.OnTruth.TheVariants.{Not, AlwaysTrue, AlwaysFalse, AlwaysNull, ToBool, Equals, Less, LessOrEquals, Greater, GreaterOrEquals}
-use Rattle.arm_functions.specs.declared.plain.OnTexts.TheVariants.{ToLower, ToUpper, Trim, Substring, Replace, Split, StartsWith, EndsWith, IndexOf, LastIndexOf, Contains}
-use Rattle.arm_functions.specs.declared.plain.OnLists.TheVariants.{Size, Empty, ToArray, CreateArray, First, Last, Skip, Take, Union, Intersection, Flatten, CreateObject, ObjectItems, ObjectKeys, TryGet}
+use Rattle.arm_functions.specs.declared.plain.OnNumbers.TheVariants.{Add, Sub, Mul, Div, Remainder, Min, Max, ToInt}
+use Rattle.arm_functions.specs.declared.plain.OnNumbers.TheVariants.{Range}
+use Rattle.arm_functions.specs.declared.plain.OnTruth.TheVariants.{Not, AlwaysTrue, AlwaysFalse, AlwaysNull, ToBool}
+use Rattle.arm_functions.specs.declared.plain.OnTruth.TheVariants.{Equals, Less, LessOrEquals, Greater}
+use Rattle.arm_functions.specs.declared.plain.OnTruth.TheVariants.{GreaterOrEquals}
+use Rattle.arm_functions.specs.declared.plain.OnTexts.TheVariants.{ToLower, ToUpper, Trim, Substring, Replace, Split}
+use Rattle.arm_functions.specs.declared.plain.OnTexts.TheVariants.{StartsWith, EndsWith, IndexOf, LastIndexOf}
+use Rattle.arm_functions.specs.declared.plain.OnTexts.TheVariants.{Contains}
+use Rattle.arm_functions.specs.declared.plain.OnLists.TheVariants.{Size, Empty, ToArray, CreateArray, First, Last}
+use Rattle.arm_functions.specs.declared.plain.OnLists.TheVariants.{Skip, Take, Union, Intersection, Flatten}
+use Rattle.arm_functions.specs.declared.plain.OnLists.TheVariants.{CreateObject, ObjectItems, ObjectKeys, TryGet}
 use Rattle.arm_functions.specs.declared.plain.Naming.TheVariants.{ToBase64, FromBase64, UniqueString, Guid}
 use Rattle.arm_functions.specs.declared.plain.Printing.TheVariants.{Concat, Join, PadLeft, ToText, Format, ReadJson}
 
--- a name, the least and the most number of arguments (no most where there is none), and the function where its value follows from its arguments alone
+-- a name, the least and the most number of arguments (no most where there is none), and the function where its value
+-- follows from its arguments alone
 abbrev pub Row : Type 0
 Row = List ℕ × ℕ × Option ℕ × Option Plain
 

@@ -23,10 +23,17 @@ use Rattle.arm_functions.specs.declared.plain.OnLists.{OnLists}
 use Rattle.arm_functions.specs.declared.plain.Printing.{Printing}
 use Rattle.arm_functions.specs.declared.plain.Naming.{Naming}
 use Rattle.arm_functions.specs.declared.plain.Plain.TheVariants.{Numbers, Logic, Texts, Lists, Prints, Names}
-use Rattle.arm_functions.specs.declared.plain.OnNumbers.TheVariants.{Add, Sub, Mul, Div, Remainder, Min, Max, ToInt, Range}
-use Rattle.arm_functions.specs.declared.plain.OnTruth.TheVariants.{Not, AlwaysTrue, AlwaysFalse, AlwaysNull, ToBool, Equals, Less, LessOrEquals, Greater, GreaterOrEquals}
-use Rattle.arm_functions.specs.declared.plain.OnTexts.TheVariants.{ToLower, ToUpper, Trim, Substring, Replace, Split, StartsWith, EndsWith, IndexOf, LastIndexOf, Contains}
-use Rattle.arm_functions.specs.declared.plain.OnLists.TheVariants.{Size, Empty, ToArray, CreateArray, First, Last, Skip, Take, Union, Intersection, Flatten, CreateObject, ObjectItems, ObjectKeys, TryGet}
+use Rattle.arm_functions.specs.declared.plain.OnNumbers.TheVariants.{Add, Sub, Mul, Div, Remainder, Min, Max, ToInt}
+use Rattle.arm_functions.specs.declared.plain.OnNumbers.TheVariants.{Range}
+use Rattle.arm_functions.specs.declared.plain.OnTruth.TheVariants.{Not, AlwaysTrue, AlwaysFalse, AlwaysNull, ToBool}
+use Rattle.arm_functions.specs.declared.plain.OnTruth.TheVariants.{Equals, Less, LessOrEquals, Greater}
+use Rattle.arm_functions.specs.declared.plain.OnTruth.TheVariants.{GreaterOrEquals}
+use Rattle.arm_functions.specs.declared.plain.OnTexts.TheVariants.{ToLower, ToUpper, Trim, Substring, Replace, Split}
+use Rattle.arm_functions.specs.declared.plain.OnTexts.TheVariants.{StartsWith, EndsWith, IndexOf, LastIndexOf}
+use Rattle.arm_functions.specs.declared.plain.OnTexts.TheVariants.{Contains}
+use Rattle.arm_functions.specs.declared.plain.OnLists.TheVariants.{Size, Empty, ToArray, CreateArray, First, Last}
+use Rattle.arm_functions.specs.declared.plain.OnLists.TheVariants.{Skip, Take, Union, Intersection, Flatten}
+use Rattle.arm_functions.specs.declared.plain.OnLists.TheVariants.{CreateObject, ObjectItems, ObjectKeys, TryGet}
 use Rattle.arm_functions.specs.declared.plain.Naming.TheVariants.{ToBase64, FromBase64, UniqueString, Guid}
 use Rattle.arm_functions.specs.declared.plain.Printing.TheVariants.{Concat, Join, PadLeft, ToText, Format, ReadJson}
 use Rattle.arm_functions.specs.Table.{row_of}
@@ -118,7 +125,8 @@ abbrev pub admits : ℕ → Option ℕ → ℕ → Bool
 admits least None count = nat_le least count
 admits least (Some most) count = nat_le least count && nat_le count most
 
--- the value that the function of this name gives of these arguments: none where it has none of them, where they are too few or too many, and where the table has no such function
+-- the value that the function of this name gives of these arguments: none where it has none of them, where they are
+-- too few or too many, and where the table has no such function
 abbrev pub value_by : Option (ℕ × Option ℕ × Option Plain) → List Json → Option Json
 value_by (Some (least, most, Some f)) args = if admits least most (length args) then value_of f args else None
 value_by _ args = None

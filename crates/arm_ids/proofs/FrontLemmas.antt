@@ -1,5 +1,6 @@
 -- Lists of segments of which one begins with the other.
-use Rattle.std.proofs.Common.{◌≡◌, ◌<◌, ◌≤◌, ◌-◌, ℕ, length, Bool, true, false, ◌&&◌, List, [], ◌∷◌, ◌++◌, bytes_eq, refl, sym, ap, ap₂, ◌∙◌, arith, true≢false, append-nil}
+use Rattle.std.proofs.Common.{◌≡◌, ◌<◌, ◌≤◌, ◌-◌, ℕ, length, Bool, true, false, ◌&&◌, List, [], ◌∷◌, ◌++◌, bytes_eq}
+use Rattle.std.proofs.Common.{refl, sym, ap, ap₂, ◌∙◌, arith, true≢false, append-nil}
 use Rattle.std.proofs.lemmas.List.{length-append, nil_from_length}
 use Rattle.std.proofs.lemmas.Slice.Eq.{bytes_eq-Decides}
 use Rattle.arm_ids.specs.Segments.{is_front}
@@ -61,26 +62,51 @@ begun i j e =
 
 pub begun_back : (i j : ResourceId) → Begins i j → begins i j ≡ true
 begun_back i j h =
-    and_true _ _ (ap (bytes_eq i.subscription) (sym h.subscription) ∙ same_text i.subscription) (and_true _ _ (ap (bytes_eq i.group) (sym h.group) ∙ same_text i.group) (and_true _ _ h.types h.names))
+    and_true _ _ (ap (bytes_eq i.subscription) (sym h.subscription) ∙ same_text i.subscription)
+    (and_true _ _ (ap (bytes_eq i.group) (sym h.group) ∙ same_text i.group) (and_true _ _ h.types h.names))
 
 pub names_longer : (i j : ResourceId) → begins i j ≡ true → length i.names ≤ length j.names
-names_longer i j e = let h = front_rest i.names j.names (begun i j e).names in omega (arith, ap length h.1, length-append i.names h.0)
+names_longer i j e = let h = front_rest i.names j.names (begun i j e).names in
+    omega (arith, ap length h.1, length-append i.names h.0)
 
 one_of : (xs : List (List ℕ)) → length xs ≡ 1 → (x : List ℕ) × (xs ≡ x ∷ [])
 one_of [] e = absurd (omega (arith, e))
 one_of (x ∷ xs) e = (x, ap (λ r. x ∷ r) (nil_from_length xs (omega (arith, e))))
 
 -- a key that begins another which has one name more is its parent
-pub parent_from : (k child : ResourceId) → IsKey k → IsKey child → begins k child ≡ true → length child.names - length k.names ≡ 1 → IsParent k child
+pub parent_from : (k child : ResourceId) → IsKey k → IsKey child → begins k child ≡ true
+    → length child.names - length k.names ≡ 1 → IsParent k child
 parent_from k child is_key is_child e l =
     let h = begun k child e in
     let types = front_rest k.types child.types h.types in
     let names = front_rest k.names child.names h.names in
-    let kind = one_of types.0 (omega (arith, ap length types.1, length-append k.types types.0, ap length names.1, length-append k.names names.0, is_key.is_id.paired, is_child.is_id.paired, l)) in
-    let name = one_of names.0 (omega (arith, ap length names.1, length-append k.names names.0, l)) in
-    (kind.0, (name.0, λ j. record { subscription = sym h.subscription j; group = sym h.group j; types = (types.1 ∙ ap (λ r. k.types ++ r) kind.1) j; names = (names.1 ∙ ap (λ r. k.names ++ r) name.1) j }))
+    let kind =
+    one_of types.0 (omega (
+      arith,
+      ap length types.1,
+      length-append k.types types.0,
+      ap length names.1,
+      length-append k.names names.0,
+      is_key.is_id.paired,
+      is_child.is_id.paired,
+      l,
+    )) in
+    let name = one_of names.0 (omega (arith, ap length names.1, length-append k.names names.0, l)) in (
+      kind.0,
+      (
+        name.0,
+        λ j. record {
+          subscription = sym h.subscription j;
+          group = sym h.group j;
+          types =
+              (types.1 ∙ ap (λ r. k.types ++ r) kind.1) j;
+          names = (names.1 ∙ ap (λ r. k.names ++ r) name.1) j;
+        },
+      ),
+    )
 
-pub parent_begins : (k child : ResourceId) → IsParent k child → (begins k child ≡ true) × (length child.names - length k.names ≡ 1)
+pub parent_begins : (k child : ResourceId) → IsParent k child → (begins k child ≡ true)
+    × (length child.names - length k.names ≡ 1)
 parent_begins k child (kind, more) =
     let name = more.0 in
     let e = more.1 in (

@@ -1,5 +1,6 @@
 -- Cutting a text at its slashes, joining segments again, and folding both.
-use Rattle.std.proofs.Common.{◌≡◌, ◌<◌, ℕ, zero, suc, length, get_or, Bool, true, false, ◌||◌, List, [], ◌∷◌, ◌++◌, map, refl, sym, ap, ap₂, ◌∙◌, arith, append-nil, true≢false}
+use Rattle.std.proofs.Common.{◌≡◌, ◌<◌, ℕ, zero, suc, length, get_or, Bool, true, false, ◌||◌, List, [], ◌∷◌, ◌++◌}
+use Rattle.std.proofs.Common.{map, refl, sym, ap, ap₂, ◌∙◌, arith, append-nil, true≢false}
 use Rattle.std.specs.List.{onto_first, list_any}
 use Rattle.std.specs.Char.{to_ascii_lowercase}
 use Rattle.std.proofs.lemmas.Bool.Decides.{nat_tests}
@@ -27,7 +28,8 @@ nor true b e f = e
 pub none_in_front : {A : Type 0} (p : A → Bool) (x : A) (xs : List A) → list_any p (x ∷ xs) ≡ false → p x ≡ false
 none_in_front p x xs e = or_left (p x) (list_any p xs) e
 
-pub none_behind : {A : Type 0} (p : A → Bool) (x : A) (xs : List A) → list_any p (x ∷ xs) ≡ false → list_any p xs ≡ false
+pub none_behind : {A : Type 0} (p : A → Bool) (x : A) (xs : List A) → list_any p (x ∷ xs) ≡ false
+    → list_any p xs ≡ false
 none_behind p x xs e = or_right (p x) (list_any p xs) e
 
 not_at : (s : List ℕ) → has_slash s ≡ false → (k : ℕ) → k < length s → get_or s k 0 ≡ 47 → ⊥
@@ -39,14 +41,19 @@ not_at (c ∷ cs) e (suc k) l h = not_at cs (none_behind is_slash c cs e) k (ome
 pub segments-slashed : (ss : List (List ℕ)) → list_any has_slash ss ≡ false → segments (slashed ss) ≡ [] ∷ ss
 segments-slashed [] e = refl
 segments-slashed (s ∷ ss) e =
-    slice_split-cons_yes is_slash 47 (s ++ slashed ss) refl ∙ ap (λ r. [] ∷ r) (onto_segments s (slashed ss) [] ss (not_at s (none_in_front has_slash s ss e)) (segments-slashed ss (none_behind has_slash s ss e)) ∙ ap (λ t. t ∷ ss) (append-nil s))
+    slice_split-cons_yes is_slash 47 (s ++ slashed ss) refl
+    ∙ ap (λ r. [] ∷ r) (onto_segments s (slashed ss) [] ss (not_at s (none_in_front has_slash s ss e))
+    (segments-slashed ss (none_behind has_slash s ss e)) ∙ ap (λ t. t ∷ ss) (append-nil s))
 
-onto_cut : (x : ℕ) (ps : List (List ℕ)) → is_slash x ≡ false → list_any has_slash ps ≡ false → list_any has_slash (onto_first x ps) ≡ false
+onto_cut : (x : ℕ) (ps : List (List ℕ)) → is_slash x ≡ false → list_any has_slash ps ≡ false
+    → list_any has_slash (onto_first x ps) ≡ false
 onto_cut x [] e h = nor (has_slash (x ∷ [])) false (nor (is_slash x) false e refl) refl
 onto_cut x (p ∷ ps) e h =
-    nor (has_slash (x ∷ p)) (list_any has_slash ps) (nor (is_slash x) (has_slash p) e (none_in_front has_slash p ps h)) (none_behind has_slash p ps h)
+    nor (has_slash (x ∷ p)) (list_any has_slash ps)
+    (nor (is_slash x) (has_slash p) e (none_in_front has_slash p ps h)) (none_behind has_slash p ps h)
 
-cut_at : (x : ℕ) (xs : List ℕ) (b : Bool) → is_slash x ≡ b → list_any has_slash (segments xs) ≡ false → list_any has_slash (segments (x ∷ xs)) ≡ false
+cut_at : (x : ℕ) (xs : List ℕ) (b : Bool) → is_slash x ≡ b → list_any has_slash (segments xs) ≡ false
+    → list_any has_slash (segments (x ∷ xs)) ≡ false
 cut_at x xs true e h = ap (list_any has_slash) (slice_split-cons_yes is_slash x xs e) ∙ h
 cut_at x xs false e h = ap (list_any has_slash) (slice_split-cons_no is_slash x xs e) ∙ onto_cut x (segments xs) e h
 
@@ -55,12 +62,15 @@ pub segments_cut : (t : List ℕ) → list_any has_slash (segments t) ≡ false
 segments_cut [] = refl
 segments_cut (x ∷ xs) = cut_at x xs (is_slash x) refl (segments_cut xs)
 
-slashed_onto : (x : ℕ) (xs : List ℕ) (ps : List (List ℕ)) → slashed ps ≡ 47 ∷ xs → slashed (onto_first x ps) ≡ 47 ∷ x ∷ xs
+slashed_onto : (x : ℕ) (xs : List ℕ) (ps : List (List ℕ)) → slashed ps ≡ 47 ∷ xs
+    → slashed (onto_first x ps) ≡ 47 ∷ x ∷ xs
 slashed_onto x xs [] e = cc
 slashed_onto x xs (p ∷ ps) e = let rest : p ++ slashed ps ≡ xs = cc in ap (λ r. 47 ∷ x ∷ r) rest
 
-joined_at : (x : ℕ) (xs : List ℕ) (b : Bool) → is_slash x ≡ b → slashed (segments xs) ≡ 47 ∷ xs → slashed (segments (x ∷ xs)) ≡ 47 ∷ x ∷ xs
-joined_at x xs true e h = ap slashed (slice_split-cons_yes is_slash x xs e) ∙ ap (λ r. 47 ∷ r) h ∙ ap (λ c. 47 ∷ c ∷ xs) (sym (slash_is x e))
+joined_at : (x : ℕ) (xs : List ℕ) (b : Bool) → is_slash x ≡ b → slashed (segments xs) ≡ 47 ∷ xs
+    → slashed (segments (x ∷ xs)) ≡ 47 ∷ x ∷ xs
+joined_at x xs true e h = ap slashed (slice_split-cons_yes is_slash x xs e) ∙ ap (λ r. 47 ∷ r) h
+    ∙ ap (λ c. 47 ∷ c ∷ xs) (sym (slash_is x e))
 joined_at x xs false e h = ap slashed (slice_split-cons_no is_slash x xs e) ∙ slashed_onto x xs (segments xs) h
 
 -- a text is its segments, joined
@@ -86,11 +96,15 @@ fold_onto : (x : ℕ) (ps : List (List ℕ)) → map fold (onto_first x ps) ≡ 
 fold_onto x [] = refl
 fold_onto x (p ∷ ps) = refl
 
-fold_at : (x : ℕ) (xs : List ℕ) (b : Bool) → is_slash x ≡ b → segments (fold xs) ≡ map fold (segments xs) → segments (fold (x ∷ xs)) ≡ map fold (segments (x ∷ xs))
+fold_at : (x : ℕ) (xs : List ℕ) (b : Bool) → is_slash x ≡ b → segments (fold xs) ≡ map fold (segments xs)
+    → segments (fold (x ∷ xs)) ≡ map fold (segments (x ∷ xs))
 fold_at x xs true e h =
-    slice_split-cons_yes is_slash (to_ascii_lowercase x) (fold xs) (is_slash-lower x ∙ e) ∙ ap (λ r. [] ∷ r) h ∙ ap (map fold) (sym (slice_split-cons_yes is_slash x xs e))
+    slice_split-cons_yes is_slash (to_ascii_lowercase x) (fold xs) (is_slash-lower x ∙ e) ∙ ap (λ r. [] ∷ r) h
+    ∙ ap (map fold) (sym (slice_split-cons_yes is_slash x xs e))
 fold_at x xs false e h =
-    slice_split-cons_no is_slash (to_ascii_lowercase x) (fold xs) (is_slash-lower x ∙ e) ∙ ap (onto_first (to_ascii_lowercase x)) h ∙ sym (fold_onto x (segments xs)) ∙ ap (map fold) (sym (slice_split-cons_no is_slash x xs e))
+    slice_split-cons_no is_slash (to_ascii_lowercase x) (fold xs) (is_slash-lower x ∙ e)
+    ∙ ap (onto_first (to_ascii_lowercase x)) h ∙ sym (fold_onto x (segments xs))
+    ∙ ap (map fold) (sym (slice_split-cons_no is_slash x xs e))
 
 -- folding changes no slash
 pub segments-fold : (t : List ℕ) → segments (fold t) ≡ map fold (segments t)
@@ -99,7 +113,8 @@ segments-fold (x ∷ xs) = fold_at x xs (is_slash x) refl (segments-fold xs)
 
 pub fold-slashed : (ss : List (List ℕ)) → fold (slashed ss) ≡ slashed (map fold ss)
 fold-slashed [] = refl
-fold-slashed (s ∷ ss) = ap (λ r. 47 ∷ r) (map-append to_ascii_lowercase s (slashed ss) ∙ ap (λ r. fold s ++ r) (fold-slashed ss))
+fold-slashed (s ∷ ss) =
+    ap (λ r. 47 ∷ r) (map-append to_ascii_lowercase s (slashed ss) ∙ ap (λ r. fold s ++ r) (fold-slashed ss))
 
 pub has_slash-fold : (s : List ℕ) → has_slash (fold s) ≡ has_slash s
 has_slash-fold [] = refl
@@ -121,10 +136,12 @@ less : (a b : ℕ) → suc a ≡ suc b → a ≡ b
 less a b e = omega arith
 
 -- what stands by turns is taken apart and put together
-pub by_turns-apart : (ps : List (List ℕ)) → length (firsts ps) ≡ length (seconds ps) → by_turns (firsts ps) (seconds ps) ≡ ps
+pub by_turns-apart : (ps : List (List ℕ)) → length (firsts ps) ≡ length (seconds ps)
+    → by_turns (firsts ps) (seconds ps) ≡ ps
 by_turns-apart [] e = refl
 by_turns-apart (x ∷ []) e = absurd (omega (arith, e))
-by_turns-apart (x ∷ y ∷ ps) e = ap (λ r. x ∷ y ∷ r) (by_turns-apart ps (less (length (firsts ps)) (length (seconds ps)) e))
+by_turns-apart (x ∷ y ∷ ps) e =
+    ap (λ r. x ∷ y ∷ r) (by_turns-apart ps (less (length (firsts ps)) (length (seconds ps)) e))
 
 pub firsts-by_turns : (xs ys : List (List ℕ)) → length xs ≡ length ys → firsts (by_turns xs ys) ≡ xs
 firsts-by_turns [] [] e = refl
@@ -138,11 +155,13 @@ seconds-by_turns [] (y ∷ ys) e = absurd (omega (arith, e))
 seconds-by_turns (x ∷ xs) [] e = absurd (omega (arith, e))
 seconds-by_turns (x ∷ xs) (y ∷ ys) e = ap (λ r. y ∷ r) (seconds-by_turns xs ys (less (length xs) (length ys) e))
 
-pub none_in_turns : (p : List ℕ → Bool) (xs ys : List (List ℕ)) → list_any p xs ≡ false → list_any p ys ≡ false → list_any p (by_turns xs ys) ≡ false
+pub none_in_turns : (p : List ℕ → Bool) (xs ys : List (List ℕ)) → list_any p xs ≡ false → list_any p ys ≡ false
+    → list_any p (by_turns xs ys) ≡ false
 none_in_turns p [] ys e f = refl
 none_in_turns p (x ∷ xs) [] e f = refl
 none_in_turns p (x ∷ xs) (y ∷ ys) e f =
-    nor (p x) _ (none_in_front p x xs e) (nor (p y) _ (none_in_front p y ys f) (none_in_turns p xs ys (none_behind p x xs e) (none_behind p y ys f)))
+    nor (p x) _ (none_in_front p x xs e)
+    (nor (p y) _ (none_in_front p y ys f) (none_in_turns p xs ys (none_behind p x xs e) (none_behind p y ys f)))
 
 pub map-by_turns : (xs ys : List (List ℕ)) → map fold (by_turns xs ys) ≡ by_turns (map fold xs) (map fold ys)
 map-by_turns [] ys = refl

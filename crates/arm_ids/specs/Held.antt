@@ -1,5 +1,6 @@
 -- The resources that a store holds: at most one of each key.
-use Rattle.std.specs.Prelude.{◌≡◌, ℕ, ◌<◌, ◌≤◌, List, [], ◌∷◌, map, length, take, drop, slice_index_or, bytes_eq, encode_utf8_all, Option, Some, None, Result, Ok, Err, if◌then◌else◌, refl}
+use Rattle.std.specs.Prelude.{◌≡◌, ℕ, ◌<◌, ◌≤◌, List, [], ◌∷◌, map, length, take, drop, slice_index_or, bytes_eq}
+use Rattle.std.specs.Prelude.{encode_utf8_all, Option, Some, None, Result, Ok, Err, if◌then◌else◌, refl}
 use Rattle.std.specs.declared.cmp.Ordering.{Ordering}
 use Rattle.std.specs.declared.cmp.Ordering.TheVariants.{Less}
 use Rattle.std.specs.Ordering.{nat_cmp, match_ordering}
@@ -21,7 +22,11 @@ pub record HeldResource : Type 0 where
 -- resources are stored as their parts
 abbrev pub held_code : Coded (List HeldResource)
 held_code =
-    coded_list (code_by (List ℕ × (List ℕ × (Json × Json))) (coded× (coded_list coded_ℕ) (coded× (coded_list coded_ℕ) (coded× json_code json_code))) (λ r. (r.id, (r.api, (r.body, r.state)))) (λ p. record { id = p.0; api = p.1.0; body = p.1.1.0; state = p.1.1.1 }) (λ _. refl))
+    coded_list
+    (code_by (List ℕ × (List ℕ × (Json × Json)))
+    (coded× (coded_list coded_ℕ) (coded× (coded_list coded_ℕ) (coded× json_code json_code)))
+    (λ r. (r.id, (r.api, (r.body, r.state))))
+    (λ p. record { id = p.0; api = p.1.0; body = p.1.1.0; state = p.1.1.1 }) (λ _. refl))
 
 -- the id by which a resource is held: its own, in small ASCII letters
 abbrev pub held_by : HeldResource → List ℕ

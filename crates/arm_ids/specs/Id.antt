@@ -1,5 +1,6 @@
 -- What a resource id is, by the parts that it names (Microsoft Learn, "Resource ID format").
-use Rattle.std.specs.Prelude.{◌≡◌, ◌≢◌, ℕ, suc, ◌==◌, ◌<◌, nat_lt, ◌&&◌, not, Bool, true, false, List, [], ◌∷◌, ◌++◌, map, length, Option, Some, None, chars, codes, if◌then◌else◌}
+use Rattle.std.specs.Prelude.{◌≡◌, ◌≢◌, ℕ, suc, ◌==◌, ◌<◌, nat_lt, ◌&&◌, not, Bool, true, false, List, [], ◌∷◌, ◌++◌}
+use Rattle.std.specs.Prelude.{map, length, Option, Some, None, chars, codes, if◌then◌else◌}
 use Rattle.std.specs.List.{list_any}
 use Rattle.arm_value.specs.Look.{fold, is_same_folded}
 use Rattle.arm_ids.specs.Segments.{segments, slashed, is_empty, has_slash, firsts, seconds, by_turns}
@@ -20,7 +21,13 @@ resource_at place kind name = resource place.subscription place.group (chars kin
 -- the id in small ASCII letters
 abbrev pub folded : ResourceId → ResourceId
 folded i =
-    record { subscription = fold i.subscription; group = fold i.group; types = map fold i.types; names = map fold i.names }
+    record {
+      subscription = fold i.subscription;
+      group = fold i.group;
+      types = map fold i.types;
+      names =
+          map fold i.names;
+    }
 
 -- what stands behind `providers`: the provider's name, then a type and a name by turns
 abbrev pub path : List (List ℕ) → List (List ℕ) → List (List ℕ)
@@ -73,7 +80,8 @@ pub record IsPlain (i : ResourceId) : Type 0 where
 -- whether these are the fixed words of an id, in letters of any case
 abbrev pub are_words : List ℕ → List ℕ → List ℕ → Bool
 are_words a b c =
-    is_same_folded a (codes "subscriptions") && (is_same_folded b (codes "resourceGroups") && is_same_folded c (codes "providers"))
+    is_same_folded a (codes "subscriptions")
+    && (is_same_folded b (codes "resourceGroups") && is_same_folded c (codes "providers"))
 
 -- the id, where it is whole
 abbrev pub if_whole : Bool → ResourceId → Option ResourceId
@@ -82,7 +90,8 @@ if_whole words i = if words && is_whole i then Some i else None
 -- the id whose text has these segments
 abbrev pub reading_of : List (List ℕ) → Option ResourceId
 reading_of ([] ∷ a ∷ subscription ∷ b ∷ group ∷ c ∷ provider ∷ rest) =
-    if_whole (are_words a b c) (record { subscription = subscription; group = group; types = provider ∷ firsts rest; names = seconds rest })
+    if_whole (are_words a b c)
+    (record { subscription = subscription; group = group; types = provider ∷ firsts rest; names = seconds rest })
 reading_of _ = None
 
 -- the id that a text is, with its letters as they stand there

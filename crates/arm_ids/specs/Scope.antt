@@ -6,7 +6,8 @@ use Rattle.arm_ids.specs.declared.id.ResourceId.{ResourceId}
 use Rattle.arm_ids.specs.declared.scope.Scope.{Scope}
 use Rattle.arm_ids.specs.declared.scope.Scope.TheVariants.{Subscription, Group, Resource}
 
--- the segments by which a key is told from others: subscription, group, then the provider's name, and a type and a name by turns
+-- the segments by which a key is told from others: subscription, group, then the provider's name, and a type and a
+-- name by turns
 abbrev pub key_segments : ResourceId → List (List ℕ)
 key_segments key = key.subscription ∷ key.group ∷ path key.types key.names
 

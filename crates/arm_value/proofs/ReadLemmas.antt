@@ -1,5 +1,6 @@
 -- What is read of bytes, by what `serde_json` answers.
-use Rattle.std.proofs.Common.{◌≡◌, ◌≤◌, ◌<◌, ℕ, Bool, true, false, nat_le, List, Option, Some, None, IsUtf8, refl, sym, ap, ◌∙◌, arith}
+use Rattle.std.proofs.Common.{◌≡◌, ◌≤◌, ◌<◌, ℕ, Bool, true, false, nat_le, List, Option, Some, None, IsUtf8, refl}
+use Rattle.std.proofs.Common.{sym, ap, ◌∙◌, arith}
 use Rattle.std.specs.Prelude.{IsSomeAnd}
 use Rattle.std.specs.Str.{is_utf8}
 use Rattle.std.proofs.lemmas.Str.{is_utf8-from_IsUtf8, IsUtf8-from_is_utf8}
@@ -29,5 +30,6 @@ is_inside n h = grind (arith, nat_tests)
 pub some_and : (o : Option Data) (d : Data) (P : Data → Type 0) → o ≡ Some d → P d → IsSomeAnd o P
 some_and o d P e p = rw e p
 
-pub gives : (o : Option Data) (d : Data) (j : Json) → o ≡ Some d → data_of j ≡ d → depth d ≤ 120 → not_whole d ≡ None → Gives o j
+pub gives : (o : Option Data) (d : Data) (j : Json) → o ≡ Some d → data_of j ≡ d → depth d ≤ 120 → not_whole d ≡ None
+    → Gives o j
 gives o d j e same n w = (e ∙ ap Some (sym same), rw same n, rw same w)

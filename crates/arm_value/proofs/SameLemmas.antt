@@ -1,9 +1,11 @@
 -- Trees that are the same are equal.
-use Rattle.std.proofs.Common.{◌≡◌, suc, length, Bool, true, false, true≢false, ◌&&◌, List, [], ◌∷◌, ◌↔◌, map, refl, sym, ap, ap₂, ◌∙◌}
+use Rattle.std.proofs.Common.{◌≡◌, suc, length, Bool, true, false, true≢false, ◌&&◌, List, [], ◌∷◌, ◌↔◌, map, refl}
+use Rattle.std.proofs.Common.{sym, ap, ap₂, ◌∙◌}
 use Rattle.std.proofs.lemmas.List.{length-map}
 use Rattle.std.proofs.lemmas.Slice.Eq.{bytes_eq-Decides}
 use Rattle.std.proofs.lemmas.Bool.Decides.{Decides-int_eq}
-use Rattle.arm_value.specs.Json.{Json, null, bool, int, text, array, object, Row, no_items, item, Pairs, no_pairs, pair, Member, row, pairs, items, members}
+use Rattle.arm_value.specs.Json.{Json, null, bool, int, text, array, object, Row, no_items, item, Pairs, no_pairs}
+use Rattle.arm_value.specs.Json.{pair, Member, row, pairs, items, members}
 use Rattle.arm_value.specs.View.{json, member}
 use Rattle.arm_value.specs.Same.{is_same, is_same_row, is_same_pairs}
 use Rattle.arm_value.specs.declared.value.Value.{Value}
@@ -16,8 +18,11 @@ rows_differ [] (k ∷ ks) h = refl
 rows_differ (j ∷ js) [] h = refl
 rows_differ (j ∷ js) (k ∷ ks) h = and_false _ _ (rows_differ js ks (λ e. h (ap suc e)))
 
-pub items_differ : (vs ws : List Value) (js ks : List Json) → map json vs ≡ js → map json ws ≡ ks → (length vs ≡ length ws → ⊥) → false ≡ is_same_row (row js) (row ks)
-items_differ vs ws js ks a b h = sym (rows_differ js ks (λ e. h (sym (length-map vs json) ∙ ap length a ∙ e ∙ sym (ap length b) ∙ length-map ws json)))
+pub items_differ : (vs ws : List Value) (js ks : List Json) → map json vs ≡ js → map json ws ≡ ks
+    → (length vs ≡ length ws → ⊥) → false ≡ is_same_row (row js) (row ks)
+items_differ vs ws js ks a b h =
+    sym (rows_differ js ks
+    (λ e. h (sym (length-map vs json) ∙ ap length a ∙ e ∙ sym (ap length b) ∙ length-map ws json)))
 
 pairs_differ : (ms ns : List Member) → (length ms ≡ length ns → ⊥) → is_same_pairs (pairs ms) (pairs ns) ≡ false
 pairs_differ [] [] h = absurd (h refl)
@@ -25,8 +30,11 @@ pairs_differ [] (k ∷ ks) h = refl
 pairs_differ (j ∷ js) [] h = refl
 pairs_differ (j ∷ js) (k ∷ ks) h = and_false _ _ (and_false _ _ (pairs_differ js ks (λ e. h (ap suc e))))
 
-pub fields_differ : (vs ws : List Field) (js ks : List Member) → map member vs ≡ js → map member ws ≡ ks → (length vs ≡ length ws → ⊥) → false ≡ is_same_pairs (pairs js) (pairs ks)
-fields_differ vs ws js ks a b h = sym (pairs_differ js ks (λ e. h (sym (length-map vs member) ∙ ap length a ∙ e ∙ sym (ap length b) ∙ length-map ws member)))
+pub fields_differ : (vs ws : List Field) (js ks : List Member) → map member vs ≡ js → map member ws ≡ ks
+    → (length vs ≡ length ws → ⊥) → false ≡ is_same_pairs (pairs js) (pairs ks)
+fields_differ vs ws js ks a b h =
+    sym (pairs_differ js ks (λ e. h (sym (length-map vs member) ∙ ap length a ∙ e ∙ sym (ap length b)
+    ∙ length-map ws member)))
 
 bools : (a b : Bool) → is_same (bool a) (bool b) ≡ true → a ≡ b
 bools true true e = refl
@@ -84,7 +92,9 @@ mutual
 
   is_same_pairs-itself : (ms : Pairs) → is_same_pairs ms ms ≡ true
   is_same_pairs-itself no_pairs = refl
-  is_same_pairs-itself (pair s j ms) = ap₂ (λ a b. a && b) ((bytes_eq-Decides s s).1 refl) (ap₂ (λ a b. a && b) (is_same-itself j) (is_same_pairs-itself ms))
+  is_same_pairs-itself (pair s j ms) =
+      ap₂ (λ a b. a && b) ((bytes_eq-Decides s s).1 refl)
+      (ap₂ (λ a b. a && b) (is_same-itself j) (is_same_pairs-itself ms))
 
 -- a test that says whether trees are the same says whether they are equal
 pub decides_equal : (r : Bool) (j k : Json) → r ≡ is_same j k → (r ≡ true) ↔ (j ≡ k)
@@ -97,7 +107,16 @@ pairs_are_one : (ms ns : List Member) → pairs ms ≡ pairs ns → ms ≡ ns
 pairs_are_one ms ns e = sym (members-pairs ms) ∙ ap members e ∙ members-pairs ns
 
 pub decides_equal_items : (r : Bool) (js ks : List Json) → r ≡ is_same_row (row js) (row ks) → (r ≡ true) ↔ (js ≡ ks)
-decides_equal_items r js ks e = (λ t. rows_are_one js ks (rows_equal (row js) (row ks) (sym e ∙ t)), λ s. e ∙ ap (λ ls. is_same_row (row js) (row ls)) (sym s) ∙ is_same_row-itself (row js))
+decides_equal_items r js ks e = (
+  λ t. rows_are_one js ks (rows_equal (row js) (row ks) (sym e ∙ t)),
+  λ s. e
+      ∙ ap (λ ls. is_same_row (row js) (row ls)) (sym s) ∙ is_same_row-itself (row js),
+)
 
-pub decides_equal_members : (r : Bool) (ms ns : List Member) → r ≡ is_same_pairs (pairs ms) (pairs ns) → (r ≡ true) ↔ (ms ≡ ns)
-decides_equal_members r ms ns e = (λ t. pairs_are_one ms ns (pairs_equal (pairs ms) (pairs ns) (sym e ∙ t)), λ s. e ∙ ap (λ ls. is_same_pairs (pairs ms) (pairs ls)) (sym s) ∙ is_same_pairs-itself (pairs ms))
+pub decides_equal_members : (r : Bool) (ms ns : List Member) → r ≡ is_same_pairs (pairs ms) (pairs ns) → (r ≡ true)
+    ↔ (ms ≡ ns)
+decides_equal_members r ms ns e = (
+  λ t. pairs_are_one ms ns (pairs_equal (pairs ms) (pairs ns) (sym e ∙ t)),
+  λ s. e
+      ∙ ap (λ ls. is_same_pairs (pairs ms) (pairs ls)) (sym s) ∙ is_same_pairs-itself (pairs ms),
+)

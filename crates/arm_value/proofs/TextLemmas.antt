@@ -1,5 +1,6 @@
 -- Texts as characters and as bytes.
-use Rattle.std.proofs.Common.{◌≡◌, ◌≤◌, ◌<◌, ℕ, suc, length, get_or, Bool, true, false, nat_lt, List, [], ◌∷◌, ◌++◌, chars, IsUtf8, bytes_eq, refl, sym, ap, ◌∙◌, arith, append-nil, ◌⊎◌, inl, inr}
+use Rattle.std.proofs.Common.{◌≡◌, ◌≤◌, ◌<◌, ℕ, suc, length, get_or, Bool, true, false, nat_lt, List, [], ◌∷◌, ◌++◌}
+use Rattle.std.proofs.Common.{chars, IsUtf8, bytes_eq, refl, sym, ap, ◌∙◌, arith, append-nil, ◌⊎◌, inl, inr}
 use lib.Utf8.{encode, encodes}
 use Rattle.std.specs.Char.{to_ascii_lowercase}
 use Rattle.std.proofs.lemmas.Str.{encodes-chars, encodes_same, encode_ascii, inside_one}
@@ -19,7 +20,8 @@ chars_same a b u v e = sym (encodes-chars a u) ∙ ap encodes e ∙ encodes-char
 -- two texts are equal where their characters are
 pub bytes_eq-chars : (a b : List ℕ) → IsUtf8 a → IsUtf8 b → bytes_eq a b ≡ bytes_eq (chars a) (chars b)
 bytes_eq-chars a b u v =
-    both_ways _ _ (λ e. (bytes_eq-Decides (chars a) (chars b)).1 (ap chars ((bytes_eq-Decides a b).0 e))) (λ e. (bytes_eq-Decides a b).1 (chars_same a b u v ((bytes_eq-Decides (chars a) (chars b)).0 e)))
+    both_ways _ _ (λ e. (bytes_eq-Decides (chars a) (chars b)).1 (ap chars ((bytes_eq-Decides a b).0 e)))
+    (λ e. (bytes_eq-Decides a b).1 (chars_same a b u v ((bytes_eq-Decides (chars a) (chars b)).0 e)))
 
 lower_high : (c : ℕ) → 128 ≤ c → to_ascii_lowercase c ≡ c
 lower_high c h = grind (arith, nat_tests)
@@ -35,7 +37,9 @@ above : (a b : ℕ) → (a < b → ⊥) → b ≤ a
 above a b h = omega (arith, h)
 
 high_bytes : (c : ℕ) → 128 ≤ c → (k : ℕ) → k < length (encode c) → 128 ≤ get_or (encode c) k 0
-high_bytes c h k l = above _ _ (λ low. let same : c ≡ get_or (encode c) k 0 = inside_one c [] (encode c) k (sym (append-nil (encode c))) l low in omega arith)
+high_bytes c h k l =
+    above _ _ (λ low. let same : c ≡ get_or (encode c) k 0 =
+    inside_one c [] (encode c) k (sym (append-nil (encode c))) l low in omega arith)
 
 fold-encode_by : (c : ℕ) → (c < 128) ⊎ (128 ≤ c) → fold (encode c) ≡ encode (to_ascii_lowercase c)
 fold-encode_by c (inl low) = ap fold (encode_ascii c low) ∙ sym (encode_ascii (to_ascii_lowercase c) (lower_low c low))
@@ -67,5 +71,8 @@ pub folded_from_chars : (a b : List ℕ) → IsUtf8 a → IsUtf8 b → fold (cha
 folded_from_chars a b u v e = fold-chars a u ∙ ap encodes e ∙ sym (fold-chars b v)
 
 -- a test that decides whether two texts are equal folded
-pub is_folded : (r : Bool) (a b : List ℕ) → (r ≡ true → fold a ≡ fold b) → (fold a ≡ fold b → r ≡ true) → r ≡ is_same_folded a b
-is_folded r a b f g = both_ways _ _ (λ e. (bytes_eq-Decides (fold a) (fold b)).1 (f e)) (λ e. g ((bytes_eq-Decides (fold a) (fold b)).0 e))
+pub is_folded : (r : Bool) (a b : List ℕ) → (r ≡ true → fold a ≡ fold b) → (fold a ≡ fold b → r ≡ true)
+    → r ≡ is_same_folded a b
+is_folded r a b f g =
+    both_ways _ _ (λ e. (bytes_eq-Decides (fold a) (fold b)).1 (f e))
+    (λ e. g ((bytes_eq-Decides (fold a) (fold b)).0 e))

@@ -31,10 +31,12 @@ pub members_fall : (fs : List Field) → most deep-Field fs ≤ suc (members_nes
 members_fall [] = omega arith
 members_fall (f ∷ fs) = omega (arith, field_falls f, members_fall fs)
 
-pub held_items_fall : (o : Option (Vec Value Global)) → max (weighed-Items-items.weight Value deep-Value o) 0 ≤ suc (items_nesting (map json (held o)))
+pub held_items_fall : (o : Option (Vec Value Global))
+    → max (weighed-Items-items.weight Value deep-Value o) 0 ≤ suc (items_nesting (map json (held o)))
 held_items_fall None = omega arith
 held_items_fall (Some v) = omega (arith, items_fall v.items)
 
-pub held_members_fall : (o : Option (Vec Field Global)) → max (weighed-Fields-fields.weight Field deep-Field o) 0 ≤ suc (members_nesting (map member (held o)))
+pub held_members_fall : (o : Option (Vec Field Global))
+    → max (weighed-Fields-fields.weight Field deep-Field o) 0 ≤ suc (members_nesting (map member (held o)))
 held_members_fall None = omega arith
 held_members_fall (Some v) = omega (arith, members_fall v.items)

@@ -4,7 +4,8 @@ use Rattle.std.specs.Coded.{Coded, code_by, coded_ℕ, coded_list, coded×}
 use base.Stored.{Gv, gnil, gnum, gcons}
 use denote.Struct.Codes.{itself}
 use mathlib.Core.Path.{ap}
-use Rattle.arm_value.specs.Json.{Json, null, bool, int, text, array, object, Row, no_items, item, Pairs, no_pairs, pair, Member}
+use Rattle.arm_value.specs.Json.{Json, null, bool, int, text, array, object, Row, no_items, item, Pairs, no_pairs}
+use Rattle.arm_value.specs.Json.{pair, Member}
 
 abbrev from_text : List ℕ → Gv
 from_text [] = gnil
@@ -51,7 +52,8 @@ abbrev mutual
   to_json (gnum n) = bool (n == 1)
   to_json (gcons tag rest) =
       cond (to_number tag == 0) (int (pos (to_number rest))) (cond (to_number tag == 1) (int (negsuc (to_number rest)))
-      (cond (to_number tag == 2) (text (to_text rest)) (cond (to_number tag == 3) (array (to_row rest)) (object (to_pairs rest)))))
+      (cond (to_number tag == 2) (text (to_text rest))
+      (cond (to_number tag == 3) (array (to_row rest)) (object (to_pairs rest)))))
 
   pub to_row : Gv → Row
   to_row gnil = no_items
@@ -82,7 +84,8 @@ mutual
 
   to_pairs-from_pairs : (ms : Pairs) → to_pairs (from_pairs ms) ≡ ms
   to_pairs-from_pairs no_pairs = refl
-  to_pairs-from_pairs (pair k j ms) = λ i. pair (to_text-from_text k i) (to_json-from_json j i) (to_pairs-from_pairs ms i)
+  to_pairs-from_pairs (pair k j ms) =
+      λ i. pair (to_text-from_text k i) (to_json-from_json j i) (to_pairs-from_pairs ms i)
 
 abbrev pub json_code : Coded Json
 json_code = code_by Gv itself from_json to_json to_json-from_json

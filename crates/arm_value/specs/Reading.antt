@@ -1,5 +1,6 @@
 -- Which tree bytes spell, by what `serde_json` reads of them.
-use Rattle.std.specs.Prelude.{ℕ, suc, List, [], ◌++◌, Option, Some, None, is_some, option_map, if◌then◌else◌, encode_utf8_all, chars, decimal}
+use Rattle.std.specs.Prelude.{ℕ, suc, List, [], ◌++◌, Option, Some, None, is_some, option_map, if◌then◌else◌}
+use Rattle.std.specs.Prelude.{encode_utf8_all, chars, decimal}
 use Rattle.std.specs.Str.{is_utf8}
 use Rattle.serde_json.specs.Data as d
 use Rattle.serde_json.specs.Read.{read}
@@ -53,4 +54,5 @@ abbrev mutual
 
   pub members_not_whole : d.Members → Option (List ℕ)
   members_not_whole d.no_members = None
-  members_not_whole (d.member k x ms) = or_else (option_map (below (token (chars k))) (not_whole x)) (members_not_whole ms)
+  members_not_whole (d.member k x ms) =
+      or_else (option_map (below (token (chars k))) (not_whole x)) (members_not_whole ms)

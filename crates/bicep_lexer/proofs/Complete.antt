@@ -1,5 +1,8 @@
 -- What a source spells is its reading.
-use Rattle.std.proofs.Common.{◌≡◌, ◌≢◌, ℕ, suc, ◌+◌, ◌^◌, ◌<◌, ◌≤◌, Bool, true, false, cond, not, ◌&&◌, eqb, nat_lt, nat_le, ◌==◌, List, [], ◌∷◌, ◌++◌, length, take, drop, Option, Some, None, Result, Ok, Err, option_map, is_some, refl, ap, sym, subst, ◌∙◌, append_assoc, arith, ◌⊎◌, inl, inr, length-append, append-nil}
+use Rattle.std.proofs.Common.{◌≡◌, ◌≢◌, ℕ, suc, ◌+◌, ◌^◌, ◌<◌, ◌≤◌, Bool, true, false, cond, not, ◌&&◌, eqb, nat_lt}
+use Rattle.std.proofs.Common.{nat_le, ◌==◌, List, [], ◌∷◌, ◌++◌, length, take, drop, Option, Some, None, Result, Ok}
+use Rattle.std.proofs.Common.{Err, option_map, is_some, refl, ap, sym, subst, ◌∙◌, append_assoc, arith, ◌⊎◌, inl, inr}
+use Rattle.std.proofs.Common.{length-append, append-nil}
 use Rattle.std.specs.Char.{is_ascii_digit}
 use Rattle.std.specs.List.{prefix_len, take_while}
 use Rattle.std.proofs.lemmas.Bool.{eqb-true}
@@ -21,15 +24,24 @@ use Rattle.bicep_lexer.specs.declared.texts.PieceEnd.TheVariants as ends
 use Rattle.bicep_lexer.specs.Bytes.{is_letter, is_name_byte, is_blank, begins_with, name_length, digits_of, number_from}
 use Rattle.bicep_lexer.specs.Escapes.{is_escape}
 use Rattle.bicep_lexer.specs.Marks.{double_mark, single_mark}
-use Rattle.bicep_lexer.specs.Skipped.{newline_length, line_length, closes_comment, comment_length, behind_comment, is_directive}
+use Rattle.bicep_lexer.specs.Skipped.{newline_length, line_length, closes_comment, comment_length, behind_comment}
+use Rattle.bicep_lexer.specs.Skipped.{is_directive}
 use Rattle.bicep_lexer.specs.Texts.{piece_end, further, is_hole, is_break, quotes, verbatim_length}
-use Rattle.bicep_lexer.specs.Fronts.{unfinished, innermost, word, number_front, piece, verbatim, text_front, closed, close_front, opens_comment, commented, comment_front, newline_front, directive_front, single, double, mark_front, front_of}
+use Rattle.bicep_lexer.specs.Fronts.{unfinished, innermost, word, number_front, piece, verbatim, text_front, closed}
+use Rattle.bicep_lexer.specs.Fronts.{close_front, opens_comment, commented, comment_front, newline_front}
+use Rattle.bicep_lexer.specs.Fronts.{directive_front, single, double, mark_front, front_of}
 use Rattle.bicep_lexer.specs.Reading.{Outcome, Standing, turned, before, ended_by, reading_from, reading}
-use Rattle.bicep_lexer.specs.Grammar.{Throughout, begins, IsRun, ends_line, IsLine, IsInside, three_quotes, IsLineEnd, makes_double, IsWord, name, number, newline, text, left, middle, right, verbatim as verbatim_word, open_brace, close_brace, lone_brace, double as double_word, single as single_word, IsSkipped, blank, line_comment, comment, directive, folded, Part, skip, token, bytes_of, tokens_of, behind_token, InARow, StandsBefore, NoneIsOpen, Spells, AreSlices}
+use Rattle.bicep_lexer.specs.Grammar.{Throughout, begins, IsRun, ends_line, IsLine, IsInside, three_quotes, IsLineEnd}
+use Rattle.bicep_lexer.specs.Grammar.{makes_double, IsWord, name, number, newline, text, left, middle, right}
+use Rattle.bicep_lexer.specs.Grammar.{verbatim as verbatim_word, open_brace, close_brace, lone_brace}
+use Rattle.bicep_lexer.specs.Grammar.{double as double_word, single as single_word, IsSkipped, blank, line_comment}
+use Rattle.bicep_lexer.specs.Grammar.{comment, directive, folded, Part, skip, token, bytes_of, tokens_of}
+use Rattle.bicep_lexer.specs.Grammar.{behind_token, InARow, StandsBefore, NoneIsOpen, Spells, AreSlices}
 use Rattle.bicep_lexer.specs.Progress.{behind, OnFront}
 use Rattle.bicep_lexer.proofs.Spans.{front_span}
 use Rattle.std.proofs.lemmas.List.{drop-drop}
-use Rattle.bicep_lexer.specs.Faults.{BeginsPiece, BeginsNothing, IsFault, open_at_end, bad_number, bad_escape, open_at_line, open_at_file, open_verbatim, open_comment, bad_character, Refuses}
+use Rattle.bicep_lexer.specs.Faults.{BeginsPiece, BeginsNothing, IsFault, open_at_end, bad_number, bad_escape}
+use Rattle.bicep_lexer.specs.Faults.{open_at_line, open_at_file, open_verbatim, open_comment, bad_character, Refuses}
 use Rattle.bicep_lexer.proofs.Ends.{if_else}
 use Rattle.bicep_lexer.proofs.Steps.{by_front, read_front, reading-skip}
 
@@ -43,7 +55,8 @@ pub not_equal : (a b : ℕ) → a ≢ b → eqb a b ≡ false
 not_equal a b h = grind (arith, nat_tests)
 
 -- a run is as long as the longest front
-run_is : (test : ℕ → Bool) (w rest : List ℕ) → Throughout (begins test) true w rest → begins test rest ≡ false → take_while test (w ++ rest) ≡ w
+run_is : (test : ℕ → Bool) (w rest : List ℕ) → Throughout (begins test) true w rest → begins test rest ≡ false
+    → take_while test (w ++ rest) ≡ w
 run_is test [] [] h stop = refl
 run_is test [] (c ∷ rest) h stop = ap (λ n. take n (c ∷ rest)) (passed (test c) (1 + prefix_len test rest) 0 stop)
 run_is test (b ∷ w) rest h stop =
@@ -66,7 +79,8 @@ further-suc n ends.File = refl
 further-suc n (ends.BadEscape m) = let e : 1 + (n + m) ≡ suc n + m = omega arith in ap (λ k. ends.BadEscape k) e
 
 -- a piece ends where what is inside it ends
-inside_ends : (escaped : Bool) (w tail : List ℕ) (e : PieceEnd) → IsInside escaped w tail → piece_end false tail ≡ e → piece_end escaped (w ++ tail) ≡ further (length w) e
+inside_ends : (escaped : Bool) (w tail : List ℕ) (e : PieceEnd) → IsInside escaped w tail → piece_end false tail ≡ e
+    → piece_end escaped (w ++ tail) ≡ further (length w) e
 inside_ends escaped [] tail e h is = ap (λ x. piece_end x tail) h ∙ is ∙ sym (further-zero e)
 inside_ends true (b ∷ w) tail e h is = ap (further 1) (inside_ends false w tail e h is) ∙ further-suc (length w) e
 inside_ends false (b ∷ w) tail e h is =
@@ -74,34 +88,42 @@ inside_ends false (b ∷ w) tail e h is =
     passed (eqb b 39) (ends.Quote 1) _ (not_equal b 39 h.0)
     ∙ passed (is_hole b bs) (ends.Hole 2) _ h.1
     ∙ passed (is_break b) ends.Line _ h.2
-    ∙ (elim (eqb b 92) as (λ t. eqb b 92 ≡ t → IsInside t w tail → cond t (cond (is_escape bs) (further 1 (piece_end true bs)) (ends.BadEscape 0)) (further 1 (piece_end false bs)) ≡ further 1 (piece_end t bs)) [
+    ∙ (elim (eqb b 92) as (λ t. eqb b 92 ≡ t → IsInside t w tail
+    → cond t (cond (is_escape bs) (further 1 (piece_end true bs)) (ends.BadEscape 0))
+    (further 1 (piece_end false bs)) ≡ further 1 (piece_end t bs)) [
       | true ↦ λ y i. taken (is_escape bs) (further 1 (piece_end true bs)) (ends.BadEscape 0) (h.3 (eqb-true b 92 y))
       | false ↦ λ y i. refl
     ] refl h.4)
     ∙ ap (further 1) (inside_ends (eqb b 92) w tail e h.4 is)
     ∙ further-suc (length w) e
 
-line_is : (w rest : List ℕ) → Throughout ends_line false w rest → (rest ≡ []) ⊎ (ends_line rest ≡ true) → line_length (w ++ rest) ≡ length w
+line_is : (w rest : List ℕ) → Throughout ends_line false w rest → (rest ≡ []) ⊎ (ends_line rest ≡ true)
+    → line_length (w ++ rest) ≡ length w
 line_is [] [] h stop = refl
 line_is [] (c ∷ rest) h (inl e) = absurd cc
-line_is [] (c ∷ rest) h (inr e) = passed (eqb (newline_length (c ∷ rest)) 0) (suc (line_length rest)) 0 (not_true (eqb (newline_length (c ∷ rest)) 0) e)
+line_is [] (c ∷ rest) h (inr e) =
+    passed (eqb (newline_length (c ∷ rest)) 0) (suc (line_length rest)) 0
+    (not_true (eqb (newline_length (c ∷ rest)) 0) e)
   where
     not_true : (b : Bool) → not b ≡ true → b ≡ false
     not_true true h = absurd cc
     not_true false h = refl
 line_is (b ∷ w) rest h stop =
-    taken (eqb (newline_length (b ∷ (w ++ rest))) 0) (suc (line_length (w ++ rest))) 0 (not_false (eqb (newline_length (b ∷ (w ++ rest))) 0) h.0)
+    taken (eqb (newline_length (b ∷ (w ++ rest))) 0) (suc (line_length (w ++ rest))) 0
+    (not_false (eqb (newline_length (b ∷ (w ++ rest))) 0) h.0)
     ∙ ap suc (line_is w rest h.1 stop)
   where
     not_false : (b : Bool) → not b ≡ false → b ≡ true
     not_false true h = refl
     not_false false h = absurd cc
 
-comment_is : (w rest : List ℕ) → Throughout closes_comment false w (42 ∷ 47 ∷ rest) → comment_length (w ++ 42 ∷ 47 ∷ rest) ≡ Some (length w + 2)
+comment_is : (w rest : List ℕ) → Throughout closes_comment false w (42 ∷ 47 ∷ rest)
+    → comment_length (w ++ 42 ∷ 47 ∷ rest) ≡ Some (length w + 2)
 comment_is [] rest h = refl
 comment_is (b ∷ w) rest h =
     let e : suc (length w + 2) ≡ suc (length w) + 2 = omega arith in
-    passed (closes_comment (b ∷ (w ++ 42 ∷ 47 ∷ rest))) (Some 2) (option_map suc (comment_length (w ++ 42 ∷ 47 ∷ rest))) h.0
+    passed (closes_comment (b ∷ (w ++ 42 ∷ 47 ∷ rest))) (Some 2)
+    (option_map suc (comment_length (w ++ 42 ∷ 47 ∷ rest))) h.0
     ∙ ap (option_map suc) (comment_is w rest h.1)
     ∙ ap (λ n. Some n) e
 
@@ -109,14 +131,17 @@ no_quotes : nat_le 3 (quotes 5 []) ≡ true → ⊥
 unfolding quotes
 no_quotes e = cc
 
-verbatim_is : (w tail : List ℕ) → Throughout three_quotes false w tail → nat_le 3 (quotes 5 tail) ≡ true → verbatim_length (w ++ tail) ≡ Some (length w + quotes 5 tail)
+verbatim_is : (w tail : List ℕ) → Throughout three_quotes false w tail → nat_le 3 (quotes 5 tail) ≡ true
+    → verbatim_length (w ++ tail) ≡ Some (length w + quotes 5 tail)
 verbatim_is [] [] h some = absurd (no_quotes some)
 verbatim_is [] (b ∷ bs) h some =
     let e : quotes 5 (b ∷ bs) ≡ 0 + quotes 5 (b ∷ bs) = omega arith in
-    taken (nat_le 3 (quotes 5 (b ∷ bs))) (Some (quotes 5 (b ∷ bs))) (option_map suc (verbatim_length bs)) some ∙ ap (λ n. Some n) e
+    taken (nat_le 3 (quotes 5 (b ∷ bs))) (Some (quotes 5 (b ∷ bs))) (option_map suc (verbatim_length bs)) some
+    ∙ ap (λ n. Some n) e
 verbatim_is (b ∷ w) tail h some =
     let e : suc (length w + quotes 5 tail) ≡ suc (length w) + quotes 5 tail = omega arith in
-    passed (nat_le 3 (quotes 5 (b ∷ (w ++ tail)))) (Some (quotes 5 (b ∷ (w ++ tail)))) (option_map suc (verbatim_length (w ++ tail))) h.0
+    passed (nat_le 3 (quotes 5 (b ∷ (w ++ tail)))) (Some (quotes 5 (b ∷ (w ++ tail))))
+    (option_map suc (verbatim_length (w ++ tail))) h.0
     ∙ ap (option_map suc) (verbatim_is w tail h.1 some)
     ∙ ap (λ n. Some n) e
 
@@ -125,10 +150,12 @@ pub data TokenFront (kind : TokenKind) (n : ℕ) (t : Turn) (o : Result Front Le
   newline_is : kind ≡ k.Newline → t ≡ turn.Stays → o ≡ Ok (front.Newline n) → TokenFront kind n t o
   word_is : behind_token kind ≡ line.Within → o ≡ Ok (front.Word kind n t) → TokenFront kind n t o
 
-word_as : (kind kind' : TokenKind) (n n' : ℕ) (t t' : Turn) (o : Result Front LexFault) → kind ≡ kind' → n ≡ n' → t ≡ t' → behind_token kind' ≡ line.Within → o ≡ Ok (front.Word kind' n' t') → TokenFront kind n t o
+word_as : (kind kind' : TokenKind) (n n' : ℕ) (t t' : Turn) (o : Result Front LexFault) → kind ≡ kind' → n ≡ n'
+    → t ≡ t' → behind_token kind' ≡ line.Within → o ≡ Ok (front.Word kind' n' t') → TokenFront kind n t o
 word_as kind kind' n n' t t' o ks ns ts within h =
     word_is (ap behind_token ks ∙ within)
-    (h ∙ sym (ap (λ x. Ok (front.Word x n t)) ks ∙ ap (λ x. Ok (front.Word kind' x t)) ns ∙ ap (λ x. Ok (front.Word kind' n' x)) ts))
+    (h ∙ sym (ap (λ x. Ok (front.Word x n t)) ks ∙ ap (λ x. Ok (front.Word kind' x t)) ns
+    ∙ ap (λ x. Ok (front.Word kind' n' x)) ts))
 
 letter_no_blank : (b : ℕ) → is_letter b ≡ true → is_blank b ≡ false
 letter_no_blank b h = grind (arith, nat_tests)
@@ -139,21 +166,26 @@ digit_no_blank b h = grind (arith, nat_tests)
 digit_no_letter : (b : ℕ) → is_ascii_digit b ≡ true → is_letter b ≡ false
 digit_no_letter b h = grind (arith, nat_tests)
 
-name_front : (at : ℕ) (os : List Open) (l : Line) (b : ℕ) (bs rest : List ℕ) → is_letter b ≡ true → IsRun is_name_byte (b ∷ bs) rest → front_of at os l (b ∷ (bs ++ rest)) ≡ Ok (front.Word k.Name (length (b ∷ bs)) turn.Stays)
+name_front : (at : ℕ) (os : List Open) (l : Line) (b : ℕ) (bs rest : List ℕ) → is_letter b ≡ true
+    → IsRun is_name_byte (b ∷ bs) rest
+    → front_of at os l (b ∷ (bs ++ rest)) ≡ Ok (front.Word k.Name (length (b ∷ bs)) turn.Stays)
 unfolding front_of name_length
 name_front at os l b bs rest letter run =
     passed (is_blank b) _ _ (letter_no_blank b letter)
     ∙ taken (is_letter b) _ _ letter
     ∙ ap (λ xs. word k.Name (length xs)) (run_is is_name_byte (b ∷ bs) rest run.0 run.1)
 
-number_is_front : (at : ℕ) (w bytes : List ℕ) → digits_of bytes ≡ w → number_from 0 w < 2 ^ 63 → number_front at bytes ≡ Ok (front.Word k.Number (length w) turn.Stays)
+number_is_front : (at : ℕ) (w bytes : List ℕ) → digits_of bytes ≡ w → number_from 0 w < 2 ^ 63
+    → number_front at bytes ≡ Ok (front.Word k.Number (length w) turn.Stays)
 unfolding number_front
 number_is_front at w bytes is small =
     let lt : nat_lt (number_from 0 w) (2 ^ 63) ≡ true = grind (arith, nat_tests) in
     ap (λ ds. cond (nat_lt (number_from 0 ds) (2 ^ 63)) (word k.Number (length ds)) (Err (fault.BadNumber at))) is
     ∙ taken (nat_lt (number_from 0 w) (2 ^ 63)) _ _ lt
 
-digits_front : (at : ℕ) (os : List Open) (l : Line) (b : ℕ) (bs rest : List ℕ) → IsRun is_ascii_digit (b ∷ bs) rest → number_from 0 (b ∷ bs) < 2 ^ 63 → front_of at os l (b ∷ (bs ++ rest)) ≡ Ok (front.Word k.Number (length (b ∷ bs)) turn.Stays)
+digits_front : (at : ℕ) (os : List Open) (l : Line) (b : ℕ) (bs rest : List ℕ) → IsRun is_ascii_digit (b ∷ bs) rest
+    → number_from 0 (b ∷ bs) < 2 ^ 63
+    → front_of at os l (b ∷ (bs ++ rest)) ≡ Ok (front.Word k.Number (length (b ∷ bs)) turn.Stays)
 unfolding front_of
 digits_front at os l b bs rest run small =
     passed (is_blank b) _ _ (digit_no_blank b run.0.0)
@@ -161,19 +193,25 @@ digits_front at os l b bs rest run small =
     ∙ taken (is_ascii_digit b) _ _ run.0.0
     ∙ number_is_front at (b ∷ bs) (b ∷ (bs ++ rest)) (run_is is_ascii_digit (b ∷ bs) rest run.0 run.1) small
 
-quote_front : (at : ℕ) (os : List Open) (l : Line) (bs : List ℕ) → front_of at os l (39 ∷ bs) ≡ text_front at os (39 ∷ bs)
+quote_front : (at : ℕ) (os : List Open) (l : Line) (bs : List ℕ)
+    → front_of at os l (39 ∷ bs) ≡ text_front at os (39 ∷ bs)
 unfolding front_of
 quote_front at os l bs = refl
 
-close_is_front : (at : ℕ) (os : List Open) (l : Line) (bs : List ℕ) → front_of at os l (125 ∷ bs) ≡ closed at os (innermost os) (125 ∷ bs)
+close_is_front : (at : ℕ) (os : List Open) (l : Line) (bs : List ℕ)
+    → front_of at os l (125 ∷ bs) ≡ closed at os (innermost os) (125 ∷ bs)
 unfolding front_of close_front
 close_is_front at os l bs = refl
 
 -- a piece with what is inside and its end
-inside_piece : (quote at : ℕ) (os : List Open) (last other : TokenKind × Turn) (w tail : List ℕ) (e : PieceEnd) → IsInside false w tail → piece_end false tail ≡ e → piece quote at os last other (piece_end false (w ++ tail)) ≡ piece quote at os last other (further (length w) e)
+inside_piece : (quote at : ℕ) (os : List Open) (last other : TokenKind × Turn) (w tail : List ℕ) (e : PieceEnd)
+    → IsInside false w tail → piece_end false tail ≡ e
+    → piece quote at os last other (piece_end false (w ++ tail)) ≡ piece quote at os last other (further (length w) e)
 inside_piece quote at os last other w tail e h is = ap (piece quote at os last other) (inside_ends false w tail e h is)
 
-text_is_front : (at : ℕ) (os : List Open) (bs : List ℕ) → quotes 3 (39 ∷ bs) == 3 ≡ false → text_front at os (39 ∷ bs) ≡ piece at at os (k.Text, turn.Stays) (k.LeftPiece, turn.Opens (opened.Text at)) (piece_end false bs)
+text_is_front : (at : ℕ) (os : List Open) (bs : List ℕ) → quotes 3 (39 ∷ bs) == 3 ≡ false
+    → text_front at os (39 ∷ bs) ≡ piece at at os (k.Text, turn.Stays) (k.LeftPiece, turn.Opens (opened.Text at))
+    (piece_end false bs)
 unfolding text_front
 text_is_front at os bs h = passed (eqb (quotes 3 (39 ∷ bs)) 3) _ _ h
 
@@ -181,49 +219,76 @@ text_is_front at os bs h = passed (eqb (quotes 3 (39 ∷ bs)) 3) _ _ h
 along : (w ends rest : List ℕ) → (w ++ ends) ++ rest ≡ w ++ (ends ++ rest)
 along w ends rest = append_assoc w ends rest
 
-whole_front : (at : ℕ) (os : List Open) (l : Line) (w rest : List ℕ) → IsInside false w (39 ∷ rest) → quotes 3 (39 ∷ ((w ++ 39 ∷ []) ++ rest)) == 3 ≡ false → front_of at os l (39 ∷ ((w ++ 39 ∷ []) ++ rest)) ≡ Ok (front.Word k.Text (length w + 1 + 1) turn.Stays)
+whole_front : (at : ℕ) (os : List Open) (l : Line) (w rest : List ℕ) → IsInside false w (39 ∷ rest)
+    → quotes 3 (39 ∷ ((w ++ 39 ∷ []) ++ rest)) == 3 ≡ false
+    → front_of at os l (39 ∷ ((w ++ 39 ∷ []) ++ rest)) ≡ Ok (front.Word k.Text (length w + 1 + 1) turn.Stays)
 whole_front at os l w rest inside short =
     quote_front at os l ((w ++ 39 ∷ []) ++ rest)
     ∙ text_is_front at os ((w ++ 39 ∷ []) ++ rest) short
-    ∙ ap (λ xs. piece at at os (k.Text, turn.Stays) (k.LeftPiece, turn.Opens (opened.Text at)) (piece_end false xs)) (along w (39 ∷ []) rest)
-    ∙ inside_piece at at os (k.Text, turn.Stays) (k.LeftPiece, turn.Opens (opened.Text at)) w (39 ∷ rest) (ends.Quote 1) inside refl
+    ∙ ap (λ xs. piece at at os (k.Text, turn.Stays) (k.LeftPiece, turn.Opens (opened.Text at)) (piece_end false xs))
+    (along w (39 ∷ []) rest)
+    ∙ inside_piece at at os (k.Text, turn.Stays) (k.LeftPiece, turn.Opens (opened.Text at)) w (39 ∷ rest)
+    (ends.Quote 1) inside refl
 
-left_front : (at : ℕ) (os : List Open) (l : Line) (w rest : List ℕ) → IsInside false w (36 ∷ 123 ∷ rest) → quotes 3 (39 ∷ ((w ++ 36 ∷ 123 ∷ []) ++ rest)) == 3 ≡ false → front_of at os l (39 ∷ ((w ++ 36 ∷ 123 ∷ []) ++ rest)) ≡ Ok (front.Word k.LeftPiece (length w + 2 + 1) (turn.Opens (opened.Text at)))
+left_front : (at : ℕ) (os : List Open) (l : Line) (w rest : List ℕ) → IsInside false w (36 ∷ 123 ∷ rest)
+    → quotes 3 (39 ∷ ((w ++ 36 ∷ 123 ∷ []) ++ rest)) == 3 ≡ false
+    → front_of at os l (39 ∷ ((w ++ 36 ∷ 123 ∷ []) ++ rest))
+    ≡ Ok (front.Word k.LeftPiece (length w + 2 + 1) (turn.Opens (opened.Text at)))
 left_front at os l w rest inside short =
     quote_front at os l ((w ++ 36 ∷ 123 ∷ []) ++ rest)
     ∙ text_is_front at os ((w ++ 36 ∷ 123 ∷ []) ++ rest) short
-    ∙ ap (λ xs. piece at at os (k.Text, turn.Stays) (k.LeftPiece, turn.Opens (opened.Text at)) (piece_end false xs)) (along w (36 ∷ 123 ∷ []) rest)
-    ∙ inside_piece at at os (k.Text, turn.Stays) (k.LeftPiece, turn.Opens (opened.Text at)) w (36 ∷ 123 ∷ rest) (ends.Hole 2) inside refl
+    ∙ ap (λ xs. piece at at os (k.Text, turn.Stays) (k.LeftPiece, turn.Opens (opened.Text at)) (piece_end false xs))
+    (along w (36 ∷ 123 ∷ []) rest)
+    ∙ inside_piece at at os (k.Text, turn.Stays) (k.LeftPiece, turn.Opens (opened.Text at)) w (36 ∷ 123 ∷ rest)
+    (ends.Hole 2) inside refl
 
-right_front : (at quote : ℕ) (os : List Open) (l : Line) (w rest : List ℕ) → innermost os ≡ Some (opened.Text quote) → IsInside false w (39 ∷ rest) → front_of at os l (125 ∷ ((w ++ 39 ∷ []) ++ rest)) ≡ Ok (front.Word k.RightPiece (length w + 1 + 1) turn.Closes)
+right_front : (at quote : ℕ) (os : List Open) (l : Line) (w rest : List ℕ) → innermost os ≡ Some (opened.Text quote)
+    → IsInside false w (39 ∷ rest)
+    → front_of at os l (125 ∷ ((w ++ 39 ∷ []) ++ rest)) ≡ Ok (front.Word k.RightPiece (length w + 1 + 1) turn.Closes)
 right_front at quote os l w rest top inside =
     close_is_front at os l ((w ++ 39 ∷ []) ++ rest)
     ∙ ap (λ o. closed at os o (125 ∷ ((w ++ 39 ∷ []) ++ rest))) top
-    ∙ ap (λ xs. piece quote at os (k.RightPiece, turn.Closes) (k.MiddlePiece, turn.Stays) (piece_end false xs)) (along w (39 ∷ []) rest)
-    ∙ inside_piece quote at os (k.RightPiece, turn.Closes) (k.MiddlePiece, turn.Stays) w (39 ∷ rest) (ends.Quote 1) inside refl
+    ∙ ap (λ xs. piece quote at os (k.RightPiece, turn.Closes) (k.MiddlePiece, turn.Stays) (piece_end false xs))
+    (along w (39 ∷ []) rest)
+    ∙ inside_piece quote at os (k.RightPiece, turn.Closes) (k.MiddlePiece, turn.Stays) w (39 ∷ rest)
+    (ends.Quote 1) inside refl
 
-middle_front : (at quote : ℕ) (os : List Open) (l : Line) (w rest : List ℕ) → innermost os ≡ Some (opened.Text quote) → IsInside false w (36 ∷ 123 ∷ rest) → front_of at os l (125 ∷ ((w ++ 36 ∷ 123 ∷ []) ++ rest)) ≡ Ok (front.Word k.MiddlePiece (length w + 2 + 1) turn.Stays)
+middle_front : (at quote : ℕ) (os : List Open) (l : Line) (w rest : List ℕ) → innermost os ≡ Some (opened.Text quote)
+    → IsInside false w (36 ∷ 123 ∷ rest)
+    → front_of at os l (125 ∷ ((w ++ 36 ∷ 123 ∷ []) ++ rest))
+    ≡ Ok (front.Word k.MiddlePiece (length w + 2 + 1) turn.Stays)
 middle_front at quote os l w rest top inside =
     close_is_front at os l ((w ++ 36 ∷ 123 ∷ []) ++ rest)
     ∙ ap (λ o. closed at os o (125 ∷ ((w ++ 36 ∷ 123 ∷ []) ++ rest))) top
-    ∙ ap (λ xs. piece quote at os (k.RightPiece, turn.Closes) (k.MiddlePiece, turn.Stays) (piece_end false xs)) (along w (36 ∷ 123 ∷ []) rest)
-    ∙ inside_piece quote at os (k.RightPiece, turn.Closes) (k.MiddlePiece, turn.Stays) w (36 ∷ 123 ∷ rest) (ends.Hole 2) inside refl
+    ∙ ap (λ xs. piece quote at os (k.RightPiece, turn.Closes) (k.MiddlePiece, turn.Stays) (piece_end false xs))
+    (along w (36 ∷ 123 ∷ []) rest)
+    ∙ inside_piece quote at os (k.RightPiece, turn.Closes) (k.MiddlePiece, turn.Stays) w (36 ∷ 123 ∷ rest)
+    (ends.Hole 2) inside refl
 
-verbatim_is_front : (at : ℕ) (os : List Open) (bs : List ℕ) (n : ℕ) → verbatim_length bs ≡ Some n → text_front at os (39 ∷ 39 ∷ 39 ∷ bs) ≡ Ok (front.Word k.VerbatimText (n + 3) turn.Stays)
+verbatim_is_front : (at : ℕ) (os : List Open) (bs : List ℕ) (n : ℕ) → verbatim_length bs ≡ Some n
+    → text_front at os (39 ∷ 39 ∷ 39 ∷ bs) ≡ Ok (front.Word k.VerbatimText (n + 3) turn.Stays)
 unfolding text_front quotes
 verbatim_is_front at os bs n h = ap (verbatim at os) h
 
-verbatim_front : (at : ℕ) (os : List Open) (l : Line) (w closing rest : List ℕ) → Throughout three_quotes false w (closing ++ rest) → length closing ≡ quotes 5 (closing ++ rest) → 3 ≤ length closing → front_of at os l (39 ∷ 39 ∷ 39 ∷ ((w ++ closing) ++ rest)) ≡ Ok (front.Word k.VerbatimText (length w + length closing + 3) turn.Stays)
+verbatim_front : (at : ℕ) (os : List Open) (l : Line) (w closing rest : List ℕ)
+    → Throughout three_quotes false w (closing ++ rest) → length closing ≡ quotes 5 (closing ++ rest)
+    → 3 ≤ length closing
+    → front_of at os l (39 ∷ 39 ∷ 39 ∷ ((w ++ closing) ++ rest))
+    ≡ Ok (front.Word k.VerbatimText (length w + length closing + 3) turn.Stays)
 verbatim_front at os l w closing rest inside is some =
     let three : nat_le 3 (quotes 5 (closing ++ rest)) ≡ true = grind (arith, nat_tests) in
     quote_front at os l (39 ∷ 39 ∷ ((w ++ closing) ++ rest))
-    ∙ verbatim_is_front at os ((w ++ closing) ++ rest) (length w + quotes 5 (closing ++ rest)) (ap verbatim_length (along w closing rest) ∙ verbatim_is w (closing ++ rest) inside three)
+    ∙ verbatim_is_front at os ((w ++ closing) ++ rest) (length w + quotes 5 (closing ++ rest))
+    (ap verbatim_length (along w closing rest) ∙ verbatim_is w (closing ++ rest) inside three)
     ∙ ap (λ n. Ok (front.Word k.VerbatimText (length w + n + 3) turn.Stays)) (sym is)
 
-newline_is_front : (at : ℕ) (os : List Open) (l : Line) (rest : List ℕ) (w : List ℕ) → IsLineEnd w → front_of at os l (w ++ rest) ≡ newline_front l (length w)
+newline_is_front : (at : ℕ) (os : List Open) (l : Line) (rest : List ℕ) (w : List ℕ) → IsLineEnd w
+    → front_of at os l (w ++ rest) ≡ newline_front l (length w)
 unfolding front_of
-newline_is_front at os l rest w (inl e) = ap (λ x. front_of at os l (x ++ rest)) e ∙ sym (ap (λ x. newline_front l (length x)) e)
-newline_is_front at os l rest w (inr e) = ap (λ x. front_of at os l (x ++ rest)) e ∙ sym (ap (λ x. newline_front l (length x)) e)
+newline_is_front at os l rest w (inl e) = ap (λ x. front_of at os l (x ++ rest)) e
+    ∙ sym (ap (λ x. newline_front l (length x)) e)
+newline_is_front at os l rest w (inr e) = ap (λ x. front_of at os l (x ++ rest)) e
+    ∙ sym (ap (λ x. newline_front l (length x)) e)
 
 newline_first : (l : Line) (n : ℕ) → l ≢ line.Folded → newline_front l n ≡ Ok (front.Newline n)
 newline_first line.Folded n h = absurd (h refl)
@@ -232,7 +297,8 @@ newline_first line.Within n h = refl
 
 -- a byte that begins no other word, and nothing that is skipped
 abbrev pub NoOther : ℕ → Type 0
-NoOther b = (is_blank b ≡ false) × (is_letter b ≡ false) × (is_ascii_digit b ≡ false) × (eqb b 39 ≡ false) × (eqb b 10 ≡ false) × (eqb b 13 ≡ false) × (eqb b 35 ≡ false) × (eqb b 123 ≡ false) × (eqb b 125 ≡ false)
+NoOther b = (is_blank b ≡ false) × (is_letter b ≡ false) × (is_ascii_digit b ≡ false) × (eqb b 39 ≡ false)
+    × (eqb b 10 ≡ false) × (eqb b 13 ≡ false) × (eqb b 35 ≡ false) × (eqb b 123 ≡ false) × (eqb b 125 ≡ false)
 
 abbrev pub SingleFacts : Option TokenKind → ℕ → Type 0
 SingleFacts None b = Unit {0}
@@ -275,29 +341,46 @@ single_facts b =
     if_else P (eqb b 42) _ _ (λ y. (other_as b 42 y (refl, refl, refl, refl, refl, refl, refl, refl, refl), refl)) (λ n.
     if_else P (eqb b 47) _ _ (λ y. (other_as b 47 y (refl, refl, refl, refl, refl, refl, refl, refl, refl), refl)) (λ n.
     if_else P (eqb b 37) _ _ (λ y. (other_as b 37 y (refl, refl, refl, refl, refl, refl, refl, refl, refl), refl)) (λ n.
-    if_else P (eqb b 33) _ _ (λ y. (other_as b 33 y (refl, refl, refl, refl, refl, refl, refl, refl, refl), refl)) (λ n. tt))))))))))))))))))
+    if_else P (eqb b 33) _ _ (λ y. (other_as b 33 y (refl, refl, refl, refl, refl, refl, refl, refl, refl), refl))
+    (λ n. tt))))))))))))))))))
 
 pub double_facts : (a b : ℕ) → DoubleFacts (double_mark a b) a
 unfolding double_mark
 double_facts a b =
     let P : Option TokenKind → Type 0 = λ o. DoubleFacts o a in
-    if_else P (eqb a 61 && eqb b 61) _ _ (λ y. let d = double_as a b 61 61 y (refl, refl, refl, refl, refl, refl, refl, refl, refl) refl in (d.0, d.1, refl)) (λ n.
-    if_else P (eqb a 61 && eqb b 126) _ _ (λ y. let d = double_as a b 61 126 y (refl, refl, refl, refl, refl, refl, refl, refl, refl) refl in (d.0, d.1, refl)) (λ n.
-    if_else P (eqb a 33 && eqb b 61) _ _ (λ y. let d = double_as a b 33 61 y (refl, refl, refl, refl, refl, refl, refl, refl, refl) refl in (d.0, d.1, refl)) (λ n.
-    if_else P (eqb a 33 && eqb b 126) _ _ (λ y. let d = double_as a b 33 126 y (refl, refl, refl, refl, refl, refl, refl, refl, refl) refl in (d.0, d.1, refl)) (λ n.
-    if_else P (eqb a 60 && eqb b 61) _ _ (λ y. let d = double_as a b 60 61 y (refl, refl, refl, refl, refl, refl, refl, refl, refl) refl in (d.0, d.1, refl)) (λ n.
-    if_else P (eqb a 62 && eqb b 61) _ _ (λ y. let d = double_as a b 62 61 y (refl, refl, refl, refl, refl, refl, refl, refl, refl) refl in (d.0, d.1, refl)) (λ n.
-    if_else P (eqb a 38 && eqb b 38) _ _ (λ y. let d = double_as a b 38 38 y (refl, refl, refl, refl, refl, refl, refl, refl, refl) refl in (d.0, d.1, refl)) (λ n.
-    if_else P (eqb a 124 && eqb b 124) _ _ (λ y. let d = double_as a b 124 124 y (refl, refl, refl, refl, refl, refl, refl, refl, refl) refl in (d.0, d.1, refl)) (λ n.
-    if_else P (eqb a 63 && eqb b 63) _ _ (λ y. let d = double_as a b 63 63 y (refl, refl, refl, refl, refl, refl, refl, refl, refl) refl in (d.0, d.1, refl)) (λ n.
-    if_else P (eqb a 46 && eqb b 63) _ _ (λ y. let d = double_as a b 46 63 y (refl, refl, refl, refl, refl, refl, refl, refl, refl) refl in (d.0, d.1, refl)) (λ n.
-    if_else P (eqb a 91 && eqb b 63) _ _ (λ y. let d = double_as a b 91 63 y (refl, refl, refl, refl, refl, refl, refl, refl, refl) refl in (d.0, d.1, refl)) (λ n.
-    if_else P (eqb a 58 && eqb b 58) _ _ (λ y. let d = double_as a b 58 58 y (refl, refl, refl, refl, refl, refl, refl, refl, refl) refl in (d.0, d.1, refl)) (λ n. tt))))))))))))
+    if_else P (eqb a 61 && eqb b 61) _ _ (λ y. let d =
+    double_as a b 61 61 y (refl, refl, refl, refl, refl, refl, refl, refl, refl) refl in (d.0, d.1, refl)) (λ n.
+    if_else P (eqb a 61 && eqb b 126) _ _ (λ y. let d =
+    double_as a b 61 126 y (refl, refl, refl, refl, refl, refl, refl, refl, refl) refl in (d.0, d.1, refl)) (λ n.
+    if_else P (eqb a 33 && eqb b 61) _ _ (λ y. let d =
+    double_as a b 33 61 y (refl, refl, refl, refl, refl, refl, refl, refl, refl) refl in (d.0, d.1, refl)) (λ n.
+    if_else P (eqb a 33 && eqb b 126) _ _ (λ y. let d =
+    double_as a b 33 126 y (refl, refl, refl, refl, refl, refl, refl, refl, refl) refl in (d.0, d.1, refl)) (λ n.
+    if_else P (eqb a 60 && eqb b 61) _ _ (λ y. let d =
+    double_as a b 60 61 y (refl, refl, refl, refl, refl, refl, refl, refl, refl) refl in (d.0, d.1, refl)) (λ n.
+    if_else P (eqb a 62 && eqb b 61) _ _ (λ y. let d =
+    double_as a b 62 61 y (refl, refl, refl, refl, refl, refl, refl, refl, refl) refl in (d.0, d.1, refl)) (λ n.
+    if_else P (eqb a 38 && eqb b 38) _ _ (λ y. let d =
+    double_as a b 38 38 y (refl, refl, refl, refl, refl, refl, refl, refl, refl) refl in (d.0, d.1, refl)) (λ n.
+    if_else P (eqb a 124 && eqb b 124) _ _ (λ y. let d =
+    double_as a b 124 124 y (refl, refl, refl, refl, refl, refl, refl, refl, refl) refl in (d.0, d.1, refl)) (λ n.
+    if_else P (eqb a 63 && eqb b 63) _ _ (λ y. let d =
+    double_as a b 63 63 y (refl, refl, refl, refl, refl, refl, refl, refl, refl) refl in (d.0, d.1, refl)) (λ n.
+    if_else P (eqb a 46 && eqb b 63) _ _ (λ y. let d =
+    double_as a b 46 63 y (refl, refl, refl, refl, refl, refl, refl, refl, refl) refl in (d.0, d.1, refl)) (λ n.
+    if_else P (eqb a 91 && eqb b 63) _ _ (λ y. let d =
+    double_as a b 91 63 y (refl, refl, refl, refl, refl, refl, refl, refl, refl) refl in (d.0, d.1, refl)) (λ n.
+    if_else P (eqb a 58 && eqb b 58) _ _ (λ y. let d =
+    double_as a b 58 58 y (refl, refl, refl, refl, refl, refl, refl, refl, refl) refl in (d.0, d.1, refl))
+    (λ n. tt))))))))))))
 
 no_line_end : (b : ℕ) (bs : List ℕ) → eqb b 10 ≡ false → eqb b 13 ≡ false → newline_length (b ∷ bs) ≡ 0
-no_line_end b bs lf cr = passed (eqb b 10) 1 _ lf ∙ passed (eqb b 13 && begins_with 10 bs) 2 0 (ap (λ t. t && begins_with 10 bs) cr)
+no_line_end b bs lf cr = passed (eqb b 10) 1 _ lf
+    ∙ passed (eqb b 13 && begins_with 10 bs) 2 0 (ap (λ t. t && begins_with 10 bs) cr)
 
-marks_front : (at : ℕ) (os : List Open) (l : Line) (b : ℕ) (bs : List ℕ) → NoOther b → opens_comment 47 (b ∷ bs) ≡ false → opens_comment 42 (b ∷ bs) ≡ false → front_of at os l (b ∷ bs) ≡ mark_front at (b ∷ bs)
+marks_front : (at : ℕ) (os : List Open) (l : Line) (b : ℕ) (bs : List ℕ) → NoOther b
+    → opens_comment 47 (b ∷ bs) ≡ false → opens_comment 42 (b ∷ bs) ≡ false
+    → front_of at os l (b ∷ bs) ≡ mark_front at (b ∷ bs)
 unfolding front_of
 marks_front at os l b bs h slashes star =
     passed (is_blank b) _ _ h.0
@@ -315,12 +398,15 @@ none_is : {A : Type 0} (o : Option A) → is_some o ≡ false → o ≡ None
 none_is None h = refl
 none_is (Some x) h = absurd cc
 
-single_mark_front : (at b : ℕ) (rest : List ℕ) → makes_double b rest ≡ false → mark_front at (b ∷ rest) ≡ single at (single_mark b)
+single_mark_front : (at b : ℕ) (rest : List ℕ) → makes_double b rest ≡ false
+    → mark_front at (b ∷ rest) ≡ single at (single_mark b)
 unfolding mark_front
 single_mark_front at b [] h = refl
 single_mark_front at b (c ∷ rest) h = ap (double at b) (none_is (double_mark b c) h)
 
-single_front : (at : ℕ) (os : List Open) (l : Line) (b : ℕ) (rest : List ℕ) (kind : TokenKind) → single_mark b ≡ Some kind → makes_double b rest ≡ false → opens_comment 47 (b ∷ rest) ≡ false → opens_comment 42 (b ∷ rest) ≡ false → front_of at os l (b ∷ rest) ≡ Ok (front.Word kind 1 turn.Stays)
+single_front : (at : ℕ) (os : List Open) (l : Line) (b : ℕ) (rest : List ℕ) (kind : TokenKind)
+    → single_mark b ≡ Some kind → makes_double b rest ≡ false → opens_comment 47 (b ∷ rest) ≡ false
+    → opens_comment 42 (b ∷ rest) ≡ false → front_of at os l (b ∷ rest) ≡ Ok (front.Word kind 1 turn.Stays)
 single_front at os l b rest kind is alone slashes star =
     let facts : SingleFacts (Some kind) b = subst (λ o. SingleFacts o b) is (single_facts b) in
     marks_front at os l b rest facts.0 slashes star ∙ single_mark_front at b rest alone ∙ ap (single at) is
@@ -329,56 +415,78 @@ double_mark_front : (at a b : ℕ) (rest : List ℕ) → mark_front at (a ∷ b 
 unfolding mark_front
 double_mark_front at a b rest = refl
 
-double_front : (at : ℕ) (os : List Open) (l : Line) (a b : ℕ) (rest : List ℕ) (kind : TokenKind) → double_mark a b ≡ Some kind → front_of at os l (a ∷ b ∷ rest) ≡ Ok (front.Word kind 2 turn.Stays)
+double_front : (at : ℕ) (os : List Open) (l : Line) (a b : ℕ) (rest : List ℕ) (kind : TokenKind)
+    → double_mark a b ≡ Some kind → front_of at os l (a ∷ b ∷ rest) ≡ Ok (front.Word kind 2 turn.Stays)
 double_front at os l a b rest kind is =
     let facts : DoubleFacts (Some kind) a = subst (λ o. DoubleFacts o a) is (double_facts a b) in
-    marks_front at os l a (b ∷ rest) facts.0 (ap (λ t. t && begins_with 47 (b ∷ rest)) facts.1) (ap (λ t. t && begins_with 42 (b ∷ rest)) facts.1)
+    marks_front at os l a (b ∷ rest) facts.0 (ap (λ t. t && begins_with 47 (b ∷ rest)) facts.1)
+    (ap (λ t. t && begins_with 42 (b ∷ rest)) facts.1)
     ∙ double_mark_front at a b rest
     ∙ ap (double at a) is
 
-open_front : (at : ℕ) (os : List Open) (l : Line) (rest : List ℕ) → front_of at os l (123 ∷ rest) ≡ Ok (front.Word k.OpenBrace 1 (turn.Opens opened.Brace))
+open_front : (at : ℕ) (os : List Open) (l : Line) (rest : List ℕ)
+    → front_of at os l (123 ∷ rest) ≡ Ok (front.Word k.OpenBrace 1 (turn.Opens opened.Brace))
 unfolding front_of
 open_front at os l rest = refl
 
 -- what stands at the front, where a word does
-word_front : (os : List Open) (l : Line) (at : ℕ) (kind : TokenKind) (w rest : List ℕ) (t : Turn) → IsWord os l at kind w rest t → TokenFront kind (length w) t (front_of at os l (w ++ rest))
+word_front : (os : List Open) (l : Line) (at : ℕ) (kind : TokenKind) (w rest : List ℕ) (t : Turn)
+    → IsWord os l at kind w rest t → TokenFront kind (length w) t (front_of at os l (w ++ rest))
 word_front os l at kind w rest t (name ks ts b bs ws letter run) =
-    word_as kind k.Name (length w) (length (b ∷ bs)) t turn.Stays (front_of at os l (w ++ rest)) ks (ap length ws) ts refl
-    (ap (λ x. front_of at os l (x ++ rest)) ws ∙ name_front at os l b bs rest letter (subst (λ x. IsRun is_name_byte x rest) ws run))
+    word_as kind k.Name (length w) (length (b ∷ bs)) t turn.Stays (front_of at os l (w ++ rest)) ks (ap length ws) ts
+    refl
+    (ap (λ x. front_of at os l (x ++ rest)) ws
+    ∙ name_front at os l b bs rest letter (subst (λ x. IsRun is_name_byte x rest) ws run))
 word_front os l at kind w rest t (number ks ts b bs ws run small) =
-    word_as kind k.Number (length w) (length (b ∷ bs)) t turn.Stays (front_of at os l (w ++ rest)) ks (ap length ws) ts refl
-    (ap (λ x. front_of at os l (x ++ rest)) ws ∙ digits_front at os l b bs rest (subst (λ x. IsRun is_ascii_digit x rest) ws run) (subst (λ x. number_from 0 x < 2 ^ 63) ws small))
+    word_as kind k.Number (length w) (length (b ∷ bs)) t turn.Stays (front_of at os l (w ++ rest)) ks
+    (ap length ws) ts refl
+    (ap (λ x. front_of at os l (x ++ rest)) ws
+    ∙ digits_front at os l b bs rest (subst (λ x. IsRun is_ascii_digit x rest) ws run)
+    (subst (λ x. number_from 0 x < 2 ^ 63) ws small))
 word_front os l at kind w rest t (newline ks ts first is) =
     newline_is ks ts (newline_is_front at os l rest w is ∙ newline_first l (length w) first)
 word_front os l at kind w rest t (text ks ts inside ws is short) =
     let n : suc (length (inside ++ 39 ∷ [])) ≡ length inside + 1 + 1 = omega (arith, length-append inside (39 ∷ [])) in
-    word_as kind k.Text (length w) (length inside + 1 + 1) t turn.Stays (front_of at os l (w ++ rest)) ks (ap length ws ∙ n) ts refl
-    (ap (λ x. front_of at os l (x ++ rest)) ws ∙ whole_front at os l inside rest is (subst (λ x. quotes 3 (x ++ rest) == 3 ≡ false) ws short))
+    word_as kind k.Text (length w) (length inside + 1 + 1) t turn.Stays (front_of at os l (w ++ rest)) ks
+    (ap length ws ∙ n) ts refl
+    (ap (λ x. front_of at os l (x ++ rest)) ws
+    ∙ whole_front at os l inside rest is (subst (λ x. quotes 3 (x ++ rest) == 3 ≡ false) ws short))
 word_front os l at kind w rest t (left ks ts inside ws is short) =
-    let n : suc (length (inside ++ 36 ∷ 123 ∷ [])) ≡ length inside + 2 + 1 = omega (arith, length-append inside (36 ∷ 123 ∷ [])) in
-    word_as kind k.LeftPiece (length w) (length inside + 2 + 1) t (turn.Opens (opened.Text at)) (front_of at os l (w ++ rest)) ks (ap length ws ∙ n) ts refl
-    (ap (λ x. front_of at os l (x ++ rest)) ws ∙ left_front at os l inside rest is (subst (λ x. quotes 3 (x ++ rest) == 3 ≡ false) ws short))
+    let n : suc (length (inside ++ 36 ∷ 123 ∷ [])) ≡ length inside + 2 + 1 =
+    omega (arith, length-append inside (36 ∷ 123 ∷ [])) in
+    word_as kind k.LeftPiece (length w) (length inside + 2 + 1) t (turn.Opens (opened.Text at))
+    (front_of at os l (w ++ rest)) ks (ap length ws ∙ n) ts refl
+    (ap (λ x. front_of at os l (x ++ rest)) ws
+    ∙ left_front at os l inside rest is (subst (λ x. quotes 3 (x ++ rest) == 3 ≡ false) ws short))
 word_front os l at kind w rest t (middle ks ts quote top inside ws is) =
-    let n : suc (length (inside ++ 36 ∷ 123 ∷ [])) ≡ length inside + 2 + 1 = omega (arith, length-append inside (36 ∷ 123 ∷ [])) in
-    word_as kind k.MiddlePiece (length w) (length inside + 2 + 1) t turn.Stays (front_of at os l (w ++ rest)) ks (ap length ws ∙ n) ts refl
+    let n : suc (length (inside ++ 36 ∷ 123 ∷ [])) ≡ length inside + 2 + 1 =
+    omega (arith, length-append inside (36 ∷ 123 ∷ [])) in
+    word_as kind k.MiddlePiece (length w) (length inside + 2 + 1) t turn.Stays (front_of at os l (w ++ rest)) ks
+    (ap length ws ∙ n) ts refl
     (ap (λ x. front_of at os l (x ++ rest)) ws ∙ middle_front at quote os l inside rest top is)
 word_front os l at kind w rest t (right ks ts quote top inside ws is) =
     let n : suc (length (inside ++ 39 ∷ [])) ≡ length inside + 1 + 1 = omega (arith, length-append inside (39 ∷ [])) in
-    word_as kind k.RightPiece (length w) (length inside + 1 + 1) t turn.Closes (front_of at os l (w ++ rest)) ks (ap length ws ∙ n) ts refl
+    word_as kind k.RightPiece (length w) (length inside + 1 + 1) t turn.Closes (front_of at os l (w ++ rest)) ks
+    (ap length ws ∙ n) ts refl
     (ap (λ x. front_of at os l (x ++ rest)) ws ∙ right_front at quote os l inside rest top is)
 word_front os l at kind w rest t (verbatim_word ks ts inside closing ws is counted some) =
-    let n : suc (suc (suc (length (inside ++ closing)))) ≡ length inside + length closing + 3 = omega (arith, length-append inside closing) in
-    word_as kind k.VerbatimText (length w) (length inside + length closing + 3) t turn.Stays (front_of at os l (w ++ rest)) ks (ap length ws ∙ n) ts refl
+    let n : suc (suc (suc (length (inside ++ closing)))) ≡ length inside + length closing + 3 =
+    omega (arith, length-append inside closing) in
+    word_as kind k.VerbatimText (length w) (length inside + length closing + 3) t turn.Stays
+    (front_of at os l (w ++ rest)) ks (ap length ws ∙ n) ts refl
     (ap (λ x. front_of at os l (x ++ rest)) ws ∙ verbatim_front at os l inside closing rest is counted some)
 word_front os l at kind w rest t (open_brace ks ts ws) =
-    word_as kind k.OpenBrace (length w) 1 t (turn.Opens opened.Brace) (front_of at os l (w ++ rest)) ks (ap length ws) ts refl
+    word_as kind k.OpenBrace (length w) 1 t (turn.Opens opened.Brace) (front_of at os l (w ++ rest)) ks
+    (ap length ws) ts refl
     (ap (λ x. front_of at os l (x ++ rest)) ws ∙ open_front at os l rest)
 word_front os l at kind w rest t (close_brace ks ts top ws) =
     word_as kind k.CloseBrace (length w) 1 t turn.Closes (front_of at os l (w ++ rest)) ks (ap length ws) ts refl
-    (ap (λ x. front_of at os l (x ++ rest)) ws ∙ close_is_front at os l rest ∙ ap (λ o. closed at os o (125 ∷ rest)) top)
+    (ap (λ x. front_of at os l (x ++ rest)) ws ∙ close_is_front at os l rest
+    ∙ ap (λ o. closed at os o (125 ∷ rest)) top)
 word_front os l at kind w rest t (lone_brace ks ts top ws) =
     word_as kind k.CloseBrace (length w) 1 t turn.Stays (front_of at os l (w ++ rest)) ks (ap length ws) ts refl
-    (ap (λ x. front_of at os l (x ++ rest)) ws ∙ close_is_front at os l rest ∙ ap (λ o. closed at os o (125 ∷ rest)) top)
+    (ap (λ x. front_of at os l (x ++ rest)) ws ∙ close_is_front at os l rest
+    ∙ ap (λ o. closed at os o (125 ∷ rest)) top)
 word_front os l at kind w rest t (double_word ts a b ws is) =
     let facts : DoubleFacts (Some kind) a = subst (λ o. DoubleFacts o a) is (double_facts a b) in
     word_as kind kind (length w) 2 t turn.Stays (front_of at os l (w ++ rest)) refl (ap length ws) ts facts.2
@@ -398,78 +506,101 @@ drop_seam [] [] = refl
 drop_seam [] (c ∷ rest) = refl
 drop_seam (b ∷ w) rest = drop_seam w rest
 
-blank_front : (at : ℕ) (os : List Open) (l : Line) (b : ℕ) (rest : List ℕ) → is_blank b ≡ true → front_of at os l (b ∷ rest) ≡ Ok (front.Skipped 1 l)
+blank_front : (at : ℕ) (os : List Open) (l : Line) (b : ℕ) (rest : List ℕ) → is_blank b ≡ true
+    → front_of at os l (b ∷ rest) ≡ Ok (front.Skipped 1 l)
 unfolding front_of
 blank_front at os l b rest h = taken (is_blank b) _ _ h
 
-slashes_front : (at : ℕ) (os : List Open) (l : Line) (rest : List ℕ) → front_of at os l (47 ∷ 47 ∷ rest) ≡ Ok (front.Skipped (line_length (47 ∷ 47 ∷ rest)) l)
+slashes_front : (at : ℕ) (os : List Open) (l : Line) (rest : List ℕ)
+    → front_of at os l (47 ∷ 47 ∷ rest) ≡ Ok (front.Skipped (line_length (47 ∷ 47 ∷ rest)) l)
 unfolding front_of
 slashes_front at os l rest = refl
 
-star_front : (at : ℕ) (os : List Open) (l : Line) (rest : List ℕ) → front_of at os l (47 ∷ 42 ∷ rest) ≡ commented at os l (47 ∷ 42 ∷ rest) (comment_length rest)
+star_front : (at : ℕ) (os : List Open) (l : Line) (rest : List ℕ)
+    → front_of at os l (47 ∷ 42 ∷ rest) ≡ commented at os l (47 ∷ 42 ∷ rest) (comment_length rest)
 unfolding front_of comment_front
 star_front at os l rest = refl
 
-comment_is_front : (at : ℕ) (os : List Open) (l : Line) (w rest : List ℕ) → Throughout closes_comment false w (42 ∷ 47 ∷ rest) → front_of at os l (47 ∷ 42 ∷ ((w ++ 42 ∷ 47 ∷ []) ++ rest)) ≡ Ok (front.Skipped (length w + 2 + 2) (behind_comment l (w ++ 42 ∷ 47 ∷ [])))
+comment_is_front : (at : ℕ) (os : List Open) (l : Line) (w rest : List ℕ)
+    → Throughout closes_comment false w (42 ∷ 47 ∷ rest)
+    → front_of at os l (47 ∷ 42 ∷ ((w ++ 42 ∷ 47 ∷ []) ++ rest))
+    ≡ Ok (front.Skipped (length w + 2 + 2) (behind_comment l (w ++ 42 ∷ 47 ∷ [])))
 comment_is_front at os l w rest h =
     let n : length (w ++ 42 ∷ 47 ∷ []) ≡ length w + 2 = omega (arith, length-append w (42 ∷ 47 ∷ [])) in
     let bytes = (w ++ 42 ∷ 47 ∷ []) ++ rest in
-    let front_bytes : take (length w + 2) bytes ≡ w ++ 42 ∷ 47 ∷ [] = ap (λ i. take i bytes) (sym n) ∙ take_seam (w ++ 42 ∷ 47 ∷ []) rest in
+    let front_bytes : take (length w + 2) bytes ≡ w ++ 42 ∷ 47 ∷ [] = ap (λ i. take i bytes) (sym n)
+    ∙ take_seam (w ++ 42 ∷ 47 ∷ []) rest in
     star_front at os l bytes
     ∙ ap (commented at os l (47 ∷ 42 ∷ bytes)) (ap comment_length (along w (42 ∷ 47 ∷ []) rest) ∙ comment_is w rest h)
     ∙ ap (λ xs. Ok (front.Skipped (length w + 2 + 2) (behind_comment l xs))) front_bytes
 
-hash_front : (at : ℕ) (os : List Open) (l : Line) (rest : List ℕ) → front_of at os l (35 ∷ rest) ≡ directive_front at l (35 ∷ rest)
+hash_front : (at : ℕ) (os : List Open) (l : Line) (rest : List ℕ)
+    → front_of at os l (35 ∷ rest) ≡ directive_front at l (35 ∷ rest)
 unfolding front_of
 hash_front at os l rest = refl
 
-directive_is : (at : ℕ) (l : Line) (bytes : List ℕ) → l ≢ line.Within → is_directive bytes ≡ true → directive_front at l bytes ≡ Ok (front.Skipped (line_length bytes) l)
+directive_is : (at : ℕ) (l : Line) (bytes : List ℕ) → l ≢ line.Within → is_directive bytes ≡ true
+    → directive_front at l bytes ≡ Ok (front.Skipped (line_length bytes) l)
 directive_is at line.Within bytes h is = absurd (h refl)
 directive_is at line.Front bytes h is = taken (is_directive bytes) _ _ is
 directive_is at line.Folded bytes h is = taken (is_directive bytes) _ _ is
 
-skipped_as : (n n' : ℕ) (l l' : Line) (o : Result Front LexFault) → n ≡ n' → l ≡ l' → o ≡ Ok (front.Skipped n' l') → o ≡ Ok (front.Skipped n l)
+skipped_as : (n n' : ℕ) (l l' : Line) (o : Result Front LexFault) → n ≡ n' → l ≡ l' → o ≡ Ok (front.Skipped n' l')
+    → o ≡ Ok (front.Skipped n l)
 skipped_as n n' l l' o ns ls h = h ∙ sym (ap (λ x. Ok (front.Skipped x l)) ns ∙ ap (λ x. Ok (front.Skipped n' x)) ls)
 
 -- what stands at the front, where something is skipped
-skipped_front : (os : List Open) (l : Line) (at : ℕ) (w rest : List ℕ) (next : Line) → IsSkipped l w rest next → front_of at os l (w ++ rest) ≡ Ok (front.Skipped (length w) next)
+skipped_front : (os : List Open) (l : Line) (at : ℕ) (w rest : List ℕ) (next : Line) → IsSkipped l w rest next
+    → front_of at os l (w ++ rest) ≡ Ok (front.Skipped (length w) next)
 skipped_front os l at w rest next (blank ns b is ws) =
-    skipped_as (length w) 1 next l (front_of at os l (w ++ rest)) (ap length ws) ns (ap (λ x. front_of at os l (x ++ rest)) ws ∙ blank_front at os l b rest is)
+    skipped_as (length w) 1 next l (front_of at os l (w ++ rest)) (ap length ws) ns
+    (ap (λ x. front_of at os l (x ++ rest)) ws ∙ blank_front at os l b rest is)
 skipped_front os l at w rest next (line_comment ns others ws is) =
     let row : IsLine (47 ∷ 47 ∷ others) rest = subst (λ x. IsLine x rest) ws is in
     skipped_as (length w) (length (47 ∷ 47 ∷ others)) next l (front_of at os l (w ++ rest)) (ap length ws) ns
-    (ap (λ x. front_of at os l (x ++ rest)) ws ∙ slashes_front at os l (others ++ rest) ∙ ap (λ n. Ok (front.Skipped n l)) (line_is (47 ∷ 47 ∷ others) rest row.0 row.1))
+    (ap (λ x. front_of at os l (x ++ rest)) ws ∙ slashes_front at os l (others ++ rest)
+    ∙ ap (λ n. Ok (front.Skipped n l)) (line_is (47 ∷ 47 ∷ others) rest row.0 row.1))
 skipped_front os l at w rest next (comment inside ns ws is) =
-    let n : suc (suc (length (inside ++ 42 ∷ 47 ∷ []))) ≡ length inside + 2 + 2 = omega (arith, length-append inside (42 ∷ 47 ∷ [])) in
-    skipped_as (length w) (length inside + 2 + 2) next (behind_comment l (inside ++ 42 ∷ 47 ∷ [])) (front_of at os l (w ++ rest)) (ap length ws ∙ n) ns
+    let n : suc (suc (length (inside ++ 42 ∷ 47 ∷ []))) ≡ length inside + 2 + 2 =
+    omega (arith, length-append inside (42 ∷ 47 ∷ [])) in
+    skipped_as (length w) (length inside + 2 + 2) next (behind_comment l (inside ++ 42 ∷ 47 ∷ []))
+    (front_of at os l (w ++ rest)) (ap length ws ∙ n) ns
     (ap (λ x. front_of at os l (x ++ rest)) ws ∙ comment_is_front at os l inside rest is)
 skipped_front os l at w rest next (directive ns place others ws is row) =
     let row' : IsLine (35 ∷ others) rest = subst (λ x. IsLine x rest) ws row in
     skipped_as (length w) (length (35 ∷ others)) next l (front_of at os l (w ++ rest)) (ap length ws) ns
-    (ap (λ x. front_of at os l (x ++ rest)) ws ∙ hash_front at os l (others ++ rest) ∙ directive_is at l (35 ∷ (others ++ rest)) place (subst (λ x. is_directive (x ++ rest) ≡ true) ws is)
+    (ap (λ x. front_of at os l (x ++ rest)) ws ∙ hash_front at os l (others ++ rest)
+    ∙ directive_is at l (35 ∷ (others ++ rest)) place (subst (λ x. is_directive (x ++ rest) ≡ true) ws is)
     ∙ ap (λ n. Ok (front.Skipped n l)) (line_is (35 ∷ others) rest row'.0 row'.1))
 skipped_front os l at w rest next (folded ns ls is) =
-    newline_is_front at os l rest w is ∙ ap (λ x. newline_front x (length w)) ls ∙ sym (ap (λ x. Ok (front.Skipped (length w) x)) ns)
+    newline_is_front at os l rest w is ∙ ap (λ x. newline_front x (length w)) ls
+    ∙ sym (ap (λ x. Ok (front.Skipped (length w) x)) ns)
 
 no_front : (at : ℕ) (os : List Open) (l : Line) (f : Front) → front_of at os l [] ≡ Ok f → ⊥
 unfolding front_of
 no_front at os l f e = cc
 
-read_by : (at : ℕ) (os : List Open) (l : Line) (left : List ℕ) (f : Front) → front_of at os l left ≡ Ok f → reading_from 0 at os l left ≡ by_front at os left (Ok f)
+read_by : (at : ℕ) (os : List Open) (l : Line) (left : List ℕ) (f : Front) → front_of at os l left ≡ Ok f
+    → reading_from 0 at os l left ≡ by_front at os left (Ok f)
 read_by at os l [] f h = absurd (no_front at os l f h)
 read_by at os l (b ∷ bs) f h = read_front at os l (b ∷ bs) (omega arith) ∙ ap (by_front at os (b ∷ bs)) h
 
 -- the reading behind a token
-token_read : (os : List Open) (l : Line) (at : ℕ) (kind : TokenKind) (w rest : List ℕ) (t : Turn) → TokenFront kind (length w) t (front_of at os l (w ++ rest)) → reading_from 0 at os l (w ++ rest) ≡ before (kind, at, w) (reading_from 0 (at + length w) (turned t os) (behind_token kind) rest)
+token_read : (os : List Open) (l : Line) (at : ℕ) (kind : TokenKind) (w rest : List ℕ) (t : Turn)
+    → TokenFront kind (length w) t (front_of at os l (w ++ rest))
+    → reading_from 0 at os l (w ++ rest) ≡ before (kind, at, w)
+    (reading_from 0 (at + length w) (turned t os) (behind_token kind) rest)
 token_read os l at kind w rest t (newline_is ks ts is) =
     read_by at os l (w ++ rest) (front.Newline (length w)) is
-    ∙ ap (λ xs. before (k.Newline, at, xs) (reading_from 0 (at + length w) os line.Folded (drop (length w) (w ++ rest)))) (take_seam w rest)
+    ∙ ap (λ xs. before (k.Newline, at, xs)
+    (reading_from 0 (at + length w) os line.Folded (drop (length w) (w ++ rest)))) (take_seam w rest)
     ∙ ap (λ xs. before (k.Newline, at, w) (reading_from 0 (at + length w) os line.Folded xs)) (drop_seam w rest)
     ∙ ap (λ x. before (k.Newline, at, w) (reading_from 0 (at + length w) (turned x os) line.Folded rest)) (sym ts)
     ∙ ap (λ x. before (x, at, w) (reading_from 0 (at + length w) (turned t os) (behind_token x) rest)) (sym ks)
 token_read os l at kind w rest t (word_is within is) =
     read_by at os l (w ++ rest) (front.Word kind (length w) t) is
-    ∙ ap (λ xs. before (kind, at, xs) (reading_from 0 (at + length w) (turned t os) line.Within (drop (length w) (w ++ rest)))) (take_seam w rest)
+    ∙ ap (λ xs. before (kind, at, xs)
+    (reading_from 0 (at + length w) (turned t os) line.Within (drop (length w) (w ++ rest)))) (take_seam w rest)
     ∙ ap (λ xs. before (kind, at, w) (reading_from 0 (at + length w) (turned t os) line.Within xs)) (drop_seam w rest)
     ∙ ap (λ x. before (kind, at, w) (reading_from 0 (at + length w) (turned t os) x rest)) (sym within)
 
@@ -482,18 +613,26 @@ behind-none (Ok us) = refl
 behind-none (Err f) = refl
 
 -- parts in a row are read as their tokens, and then the rest as it is read
-row_is_read : (Then : List Open → Line → ℕ → Type 0) (rest : List ℕ) (final : Outcome) → ((os : List Open) (l : Line) (at : ℕ) → Then os l at → reading_from 0 at os l rest ≡ final) → (ps : List Part) (os : List Open) (l : Line) (at : ℕ) → InARow Then rest os l at ps → reading_from 0 at os l (bytes_of ps rest) ≡ behind (tokens_of at ps) final
+row_is_read : (Then : List Open → Line → ℕ → Type 0) (rest : List ℕ) (final : Outcome)
+    → ((os : List Open) (l : Line) (at : ℕ) → Then os l at → reading_from 0 at os l rest ≡ final)
+    → (ps : List Part) (os : List Open) (l : Line) (at : ℕ) → InARow Then rest os l at ps
+    → reading_from 0 at os l (bytes_of ps rest) ≡ behind (tokens_of at ps) final
 row_is_read Then rest final last [] os l at h = last os l at h ∙ sym (behind-none final)
 row_is_read Then rest final last (skip w next ∷ ps) os l at h =
-    read_by at os l (w ++ bytes_of ps rest) (front.Skipped (length w) next) (skipped_front os l at w (bytes_of ps rest) next h.0)
+    read_by at os l (w ++ bytes_of ps rest) (front.Skipped (length w) next)
+    (skipped_front os l at w (bytes_of ps rest) next h.0)
     ∙ ap (reading_from 0 (at + length w) os next) (drop_seam w (bytes_of ps rest))
     ∙ row_is_read Then rest final last ps os next (at + length w) h.1
 row_is_read Then rest final last (token kind w t ∷ ps) os l at h =
     token_read os l at kind w (bytes_of ps rest) t (word_front os l at kind w (bytes_of ps rest) t h.0)
-    ∙ ap (before (kind, at, w)) (row_is_read Then rest final last ps (turned t os) (behind_token kind) (at + length w) h.1)
+    ∙ ap (before (kind, at, w))
+    (row_is_read Then rest final last ps (turned t os) (behind_token kind) (at + length w) h.1)
     ∙ behind-more (kind, at, w) (tokens_of (at + length w) ps) final
 
-source_is_read : (Then : List Open → Line → ℕ → Type 0) (rest : List ℕ) (final : Outcome) → ((os : List Open) (l : Line) (at : ℕ) → Then os l at → reading_from 0 at os l rest ≡ final) → (source mark : List ℕ) (ps : List Part) → StandsBefore source rest mark ps Then → reading source ≡ behind (tokens_of (length mark) ps) final
+source_is_read : (Then : List Open → Line → ℕ → Type 0) (rest : List ℕ) (final : Outcome)
+    → ((os : List Open) (l : Line) (at : ℕ) → Then os l at → reading_from 0 at os l rest ≡ final)
+    → (source mark : List ℕ) (ps : List Part) → StandsBefore source rest mark ps Then
+    → reading source ≡ behind (tokens_of (length mark) ps) final
 unfolding reading
 source_is_read Then rest final last source mark ps s =
     let n = length mark in
@@ -513,14 +652,16 @@ complete source tokens s =
     ∙ ap (λ x. Ok x) (append-nil (tokens_of (length s.0) s.1) ∙ sym s.3)
 
 -- where a digit run is too large
-too_large_front : (at : ℕ) (w bytes : List ℕ) → digits_of bytes ≡ w → 2 ^ 63 ≤ number_from 0 w → number_front at bytes ≡ Err (fault.BadNumber at)
+too_large_front : (at : ℕ) (w bytes : List ℕ) → digits_of bytes ≡ w → 2 ^ 63 ≤ number_from 0 w
+    → number_front at bytes ≡ Err (fault.BadNumber at)
 unfolding number_front
 too_large_front at w bytes is large =
     let lt : nat_lt (number_from 0 w) (2 ^ 63) ≡ false = grind (arith, nat_tests) in
     ap (λ ds. cond (nat_lt (number_from 0 ds) (2 ^ 63)) (word k.Number (length ds)) (Err (fault.BadNumber at))) is
     ∙ passed (nat_lt (number_from 0 w) (2 ^ 63)) _ _ lt
 
-too_large : (at : ℕ) (os : List Open) (l : Line) (b : ℕ) (bs rest : List ℕ) → IsRun is_ascii_digit (b ∷ bs) rest → 2 ^ 63 ≤ number_from 0 (b ∷ bs) → front_of at os l (b ∷ (bs ++ rest)) ≡ Err (fault.BadNumber at)
+too_large : (at : ℕ) (os : List Open) (l : Line) (b : ℕ) (bs rest : List ℕ) → IsRun is_ascii_digit (b ∷ bs) rest
+    → 2 ^ 63 ≤ number_from 0 (b ∷ bs) → front_of at os l (b ∷ (bs ++ rest)) ≡ Err (fault.BadNumber at)
 unfolding front_of
 too_large at os l b bs rest run large =
     passed (is_blank b) _ _ (digit_no_blank b run.0.0)
@@ -529,7 +670,9 @@ too_large at os l b bs rest run large =
     ∙ too_large_front at (b ∷ bs) (b ∷ (bs ++ rest)) (run_is is_ascii_digit (b ∷ bs) rest run.0 run.1) large
 
 -- the front of a piece that ends in a fault
-piece_fault : (at : ℕ) (os : List Open) (l : Line) (b quote : ℕ) (bs : List ℕ) (e : PieceEnd) (f : LexFault) → BeginsPiece os at b (b ∷ bs) quote → piece_end false bs ≡ e → ((last other : TokenKind × Turn) → piece quote at os last other e ≡ Err f) → front_of at os l (b ∷ bs) ≡ Err f
+piece_fault : (at : ℕ) (os : List Open) (l : Line) (b quote : ℕ) (bs : List ℕ) (e : PieceEnd) (f : LexFault)
+    → BeginsPiece os at b (b ∷ bs) quote → piece_end false bs ≡ e
+    → ((last other : TokenKind × Turn) → piece quote at os last other e ≡ Err f) → front_of at os l (b ∷ bs) ≡ Err f
 piece_fault at os l b quote bs e f (inl h) is gives =
     let bytes : List ℕ → List ℕ = λ xs. xs in
     ap (λ x. front_of at os l (x ∷ bs)) h.0
@@ -547,7 +690,8 @@ piece_fault at os l b quote bs e f (inr h) is gives =
 
 break_ends : (c : ℕ) (rest : List ℕ) → is_break c ≡ true → piece_end false (c ∷ rest) ≡ ends.Line
 break_ends c rest h =
-    passed (eqb c 39) _ _ (no_39 c h) ∙ passed (is_hole c rest) _ _ (ap (λ t. t && begins_with 123 rest) (no_36 c h)) ∙ taken (is_break c) _ _ h
+    passed (eqb c 39) _ _ (no_39 c h) ∙ passed (is_hole c rest) _ _ (ap (λ t. t && begins_with 123 rest) (no_36 c h))
+    ∙ taken (is_break c) _ _ h
   where
     no_39 : (c : ℕ) → is_break c ≡ true → eqb c 39 ≡ false
     no_39 c h = grind (arith, nat_tests)
@@ -570,17 +714,20 @@ open_comment_is (b ∷ w) h =
     passed (closes_comment (b ∷ w)) _ _ (subst (λ xs. closes_comment (b ∷ xs) ≡ false) (append-nil w) h.0)
     ∙ ap (option_map suc) (open_comment_is w h.1)
 
-open_verbatim_front : (at : ℕ) (os : List Open) (bs : List ℕ) → verbatim_length bs ≡ None → text_front at os (39 ∷ 39 ∷ 39 ∷ bs) ≡ Err (unfinished os (fault.OpenText at))
+open_verbatim_front : (at : ℕ) (os : List Open) (bs : List ℕ) → verbatim_length bs ≡ None
+    → text_front at os (39 ∷ 39 ∷ 39 ∷ bs) ≡ Err (unfinished os (fault.OpenText at))
 unfolding text_front quotes
 open_verbatim_front at os bs h = ap (verbatim at os) h
 
-no_directive_front : (at : ℕ) (l : Line) (bytes : List ℕ) → (l ≢ line.Within → is_directive bytes ≡ false) → directive_front at l bytes ≡ Err (fault.BadCharacter at)
+no_directive_front : (at : ℕ) (l : Line) (bytes : List ℕ) → (l ≢ line.Within → is_directive bytes ≡ false)
+    → directive_front at l bytes ≡ Err (fault.BadCharacter at)
 no_directive_front at line.Within bytes h = refl
 no_directive_front at line.Front bytes h = passed (is_directive bytes) _ _ (h (λ e. cc))
 no_directive_front at line.Folded bytes h = passed (is_directive bytes) _ _ (h (λ e. cc))
 
 -- where no word begins
-nothing_front : (at : ℕ) (os : List Open) (l : Line) (b : ℕ) (bs : List ℕ) → BeginsNothing l b (b ∷ bs) → makes_double b bs ≡ false → front_of at os l (b ∷ bs) ≡ Err (fault.BadCharacter at)
+nothing_front : (at : ℕ) (os : List Open) (l : Line) (b : ℕ) (bs : List ℕ) → BeginsNothing l b (b ∷ bs)
+    → makes_double b bs ≡ false → front_of at os l (b ∷ bs) ≡ Err (fault.BadCharacter at)
 unfolding front_of
 nothing_front at os l b bs h alone =
     passed (is_blank b) _ _ h.no_blank
@@ -592,17 +739,21 @@ nothing_front at os l b bs h alone =
     ∙ passed (not (eqb (newline_length (b ∷ bs)) 0)) _ _ h.no_line_end
     ∙ if_else (λ o. o ≡ Err (fault.BadCharacter at)) (eqb b 35) _ _
     (λ y. no_directive_front at l (b ∷ bs) (h.no_directive (eqb-true b 35 y)))
-    (λ n. passed (eqb b 123) _ _ h.no_open_brace ∙ passed (eqb b 125) _ _ h.no_close_brace ∙ single_mark_front at b bs alone ∙ ap (single at) h.no_mark)
+    (λ n. passed (eqb b 123) _ _ h.no_open_brace ∙ passed (eqb b 125) _ _ h.no_close_brace
+    ∙ single_mark_front at b bs alone ∙ ap (single at) h.no_mark)
 
-fault_read : (at : ℕ) (os : List Open) (l : Line) (bytes : List ℕ) (f : LexFault) → 0 < length bytes → front_of at os l bytes ≡ Err f → reading_from 0 at os l bytes ≡ Err f
+fault_read : (at : ℕ) (os : List Open) (l : Line) (bytes : List ℕ) (f : LexFault) → 0 < length bytes
+    → front_of at os l bytes ≡ Err f → reading_from 0 at os l bytes ≡ Err f
 fault_read at os l bytes f some h = read_front at os l bytes some ∙ ap (by_front at os bytes) h
 
 cons_some : (b : ℕ) (bs bytes : List ℕ) → bytes ≡ b ∷ bs → 0 < length bytes
 cons_some b bs bytes h = omega (arith, ap length h)
 
 -- the fault that stands there is read
-fault_is_read : (os : List Open) (l : Line) (at : ℕ) (bytes : List ℕ) (f : LexFault) → IsFault os l at bytes f → reading_from 0 at os l bytes ≡ Err f
-fault_is_read os l at bytes f (open_at_end is quote top told) = ap (λ xs. reading_from 0 at os l xs) is ∙ ap ended_by top ∙ sym (ap (λ x. Err x) told)
+fault_is_read : (os : List Open) (l : Line) (at : ℕ) (bytes : List ℕ) (f : LexFault) → IsFault os l at bytes f
+    → reading_from 0 at os l bytes ≡ Err f
+fault_is_read os l at bytes f (open_at_end is quote top told) = ap (λ xs. reading_from 0 at os l xs) is
+    ∙ ap ended_by top ∙ sym (ap (λ x. Err x) told)
 fault_is_read os l at bytes f (bad_number first others rest is run large told) =
     fault_read at os l bytes f (cons_some first (others ++ rest) bytes is)
     (ap (front_of at os l) is ∙ too_large at os l first others rest run large ∙ sym (ap (λ x. Err x) told))
@@ -610,13 +761,15 @@ fault_is_read os l at bytes f (bad_escape b quote inside rest opens is ok wrong 
     let n : length inside + 0 ≡ length inside = omega arith in
     fault_read at os l bytes f (cons_some b (inside ++ 92 ∷ rest) bytes is)
     (ap (front_of at os l) is
-    ∙ piece_fault at os l b quote (inside ++ 92 ∷ rest) (further (length inside) (ends.BadEscape 0)) f (subst (λ xs. BeginsPiece os at b xs quote) is opens)
+    ∙ piece_fault at os l b quote (inside ++ 92 ∷ rest) (further (length inside) (ends.BadEscape 0)) f
+    (subst (λ xs. BeginsPiece os at b xs quote) is opens)
     (inside_ends false inside (92 ∷ rest) (ends.BadEscape 0) ok (wrong_ends rest wrong))
     (λ last other. ap (λ i. Err (fault.BadEscape (at + (i + 1)))) n ∙ sym (ap (λ x. Err x) told)))
 fault_is_read os l at bytes f (open_at_line b quote inside end rest opens is ok break told) =
     fault_read at os l bytes f (cons_some b (inside ++ end ∷ rest) bytes is)
     (ap (front_of at os l) is
-    ∙ piece_fault at os l b quote (inside ++ end ∷ rest) ends.Line f (subst (λ xs. BeginsPiece os at b xs quote) is opens)
+    ∙ piece_fault at os l b quote (inside ++ end ∷ rest) ends.Line f
+    (subst (λ xs. BeginsPiece os at b xs quote) is opens)
     (inside_ends false inside (end ∷ rest) ends.Line ok (break_ends end rest break))
     (λ last other. sym (ap (λ x. Err x) told)))
 fault_is_read os l at bytes f (open_at_file b quote inside opens is ok told) =
@@ -627,39 +780,51 @@ fault_is_read os l at bytes f (open_at_file b quote inside opens is ok told) =
     (λ last other. sym (ap (λ x. Err x) told)))
 fault_is_read os l at bytes f (open_verbatim inside is ok told) =
     fault_read at os l bytes f (cons_some 39 (39 ∷ 39 ∷ inside) bytes is)
-    (ap (front_of at os l) is ∙ quote_front at os l (39 ∷ 39 ∷ inside) ∙ open_verbatim_front at os inside (open_verbatim_is inside ok) ∙ sym (ap (λ x. Err x) told))
+    (ap (front_of at os l) is ∙ quote_front at os l (39 ∷ 39 ∷ inside)
+    ∙ open_verbatim_front at os inside (open_verbatim_is inside ok) ∙ sym (ap (λ x. Err x) told))
 fault_is_read os l at bytes f (open_comment inside is ok told) =
     fault_read at os l bytes f (cons_some 47 (42 ∷ inside) bytes is)
-    (ap (front_of at os l) is ∙ star_front at os l inside ∙ ap (commented at os l (47 ∷ 42 ∷ inside)) (open_comment_is inside ok) ∙ sym (ap (λ x. Err x) told))
+    (ap (front_of at os l) is ∙ star_front at os l inside
+    ∙ ap (commented at os l (47 ∷ 42 ∷ inside)) (open_comment_is inside ok) ∙ sym (ap (λ x. Err x) told))
 fault_is_read os l at bytes f (bad_character first others is nothing alone told) =
     fault_read at os l bytes f (cons_some first others bytes is)
-    (ap (front_of at os l) is ∙ nothing_front at os l first others (subst (BeginsNothing l first) is nothing) alone ∙ sym (ap (λ x. Err x) told))
+    (ap (front_of at os l) is ∙ nothing_front at os l first others (subst (BeginsNothing l first) is nothing) alone
+    ∙ sym (ap (λ x. Err x) told))
 
 -- a source in which a fault stands is refused for it
 pub refuses : (source : List ℕ) (f : LexFault) → Refuses source f → reading source ≡ Err f
-refuses source f s = source_is_read (λ os l at. IsFault os l at s.2 f) s.2 (Err f) (λ os l at h. fault_is_read os l at s.2 f h) source s.0 s.1 s.3
+refuses source f s =
+    source_is_read (λ os l at. IsFault os l at s.2 f) s.2 (Err f) (λ os l at h. fault_is_read os l at s.2 f h) source
+    s.0 s.1 s.3
 
-token_some : (os : List Open) (l : Line) (at : ℕ) (kind : TokenKind) (w rest : List ℕ) (t : Turn) → TokenFront kind (length w) t (front_of at os l (w ++ rest)) → 0 < length w
+token_some : (os : List Open) (l : Line) (at : ℕ) (kind : TokenKind) (w rest : List ℕ) (t : Turn)
+    → TokenFront kind (length w) t (front_of at os l (w ++ rest)) → 0 < length w
 token_some os l at kind w rest t (newline_is ks ts is) =
-    let span : OnFront (Ok (front.Newline (length w))) (w ++ rest) = subst (λ o. OnFront o (w ++ rest)) is (front_span at os l (w ++ rest)) in
+    let span : OnFront (Ok (front.Newline (length w))) (w ++ rest) =
+    subst (λ o. OnFront o (w ++ rest)) is (front_span at os l (w ++ rest)) in
     span.some
 token_some os l at kind w rest t (word_is within is) =
-    let span : OnFront (Ok (front.Word kind (length w) t)) (w ++ rest) = subst (λ o. OnFront o (w ++ rest)) is (front_span at os l (w ++ rest)) in
+    let span : OnFront (Ok (front.Word kind (length w) t)) (w ++ rest) =
+    subst (λ o. OnFront o (w ++ rest)) is (front_span at os l (w ++ rest)) in
     span.some
 
 -- what is left behind a word
 left_of : (source w more : List ℕ) (at : ℕ) → drop at source ≡ w ++ more → drop (at + length w) source ≡ more
 left_of source w more at h = sym (drop-drop (length w) at source) ∙ ap (drop (length w)) h ∙ drop_seam w more
 
-slices_of : (source : List ℕ) (Then : List Open → Line → ℕ → Type 0) (rest : List ℕ) (ps : List Part) (from : ℕ) (os : List Open) (l : Line) (at : ℕ) → from ≤ at → drop at source ≡ bytes_of ps rest → InARow Then rest os l at ps → AreSlices source from (tokens_of at ps)
+slices_of : (source : List ℕ) (Then : List Open → Line → ℕ → Type 0) (rest : List ℕ) (ps : List Part) (from : ℕ)
+    (os : List Open) (l : Line) (at : ℕ) → from ≤ at → drop at source ≡ bytes_of ps rest → InARow Then rest os l at ps
+    → AreSlices source from (tokens_of at ps)
 slices_of source Then rest [] from os l at le h row = tt
 slices_of source Then rest (skip w next ∷ ps) from os l at le h row =
-    slices_of source Then rest ps from os next (at + length w) (omega (arith, le)) (left_of source w (bytes_of ps rest) at h) row.1
+    slices_of source Then rest ps from os next (at + length w) (omega (arith, le))
+    (left_of source w (bytes_of ps rest) at h) row.1
 slices_of source Then rest (token kind w t ∷ ps) from os l at le h row = (
   le,
   token_some os l at kind w (bytes_of ps rest) t (word_front os l at kind w (bytes_of ps rest) t row.0),
   sym (ap (take (length w)) h ∙ take_seam w (bytes_of ps rest)),
-  slices_of source Then rest ps (at + length w) (turned t os) (behind_token kind) (at + length w) (omega arith) (left_of source w (bytes_of ps rest) at h) row.1,
+  slices_of source Then rest ps (at + length w) (turned t os) (behind_token kind) (at + length w) (omega arith)
+      (left_of source w (bytes_of ps rest) at h) row.1,
 )
 
 -- the tokens that a source spells are slices of it
@@ -667,4 +832,5 @@ pub slices : (source : List ℕ) (tokens : List Standing) → Spells source toke
 slices source tokens s =
     let ps = s.1 in
     subst (AreSlices source 0) (sym s.3)
-    (slices_of source NoneIsOpen [] ps 0 [] line.Front (length s.0) (omega arith) (ap (drop (length s.0)) s.2.is ∙ drop_seam s.0 (bytes_of ps [])) s.2.row)
+    (slices_of source NoneIsOpen [] ps 0 [] line.Front (length s.0) (omega arith) (ap (drop (length s.0)) s.2.is
+    ∙ drop_seam s.0 (bytes_of ps [])) s.2.row)

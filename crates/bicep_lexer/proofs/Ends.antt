@@ -1,5 +1,6 @@
 -- How far the pieces of texts reach.
-use Rattle.std.proofs.Common.{◌≡◌, ℕ, suc, ◌+◌, ◌≤◌, Bool, true, false, cond, ◌&&◌, eqb, List, [], ◌∷◌, length, refl, arith}
+use Rattle.std.proofs.Common.{◌≡◌, ℕ, suc, ◌+◌, ◌≤◌, Bool, true, false, cond, ◌&&◌, eqb, List, [], ◌∷◌, length, refl}
+use Rattle.std.proofs.Common.{arith}
 use Rattle.bicep_lexer.specs.Escapes.{is_escape}
 use Rattle.bicep_lexer.specs.Texts.{piece_end, further, counted, is_hole, is_break}
 use Rattle.bicep_lexer.specs.declared.texts.PieceEnd.{PieceEnd}
@@ -27,8 +28,10 @@ counted_within escaped [] = omega arith
 counted_within true (b ∷ bs) = omega (arith, counted-further (piece_end false bs) (length bs) (counted_within false bs))
 counted_within false (b ∷ bs) =
     let P : PieceEnd → Type 0 = λ e. counted e ≤ suc (length bs) in
-    let more : (escaped : Bool) → counted (further 1 (piece_end escaped bs)) ≤ suc (length bs) = λ escaped. omega (arith, counted-further (piece_end escaped bs) (length bs) (counted_within escaped bs)) in
+    let more : (escaped : Bool) → counted (further 1 (piece_end escaped bs)) ≤ suc (length bs) =
+    λ escaped. omega (arith, counted-further (piece_end escaped bs) (length bs) (counted_within escaped bs)) in
     if_else P (eqb b 39) _ _ (λ y. omega arith) (λ n.
     if_else P (is_hole b bs) _ _ (λ y. omega (arith, hole_room b bs y)) (λ n.
     if_else P (is_break b) _ _ (λ y. omega arith) (λ n.
-    if_else P (eqb b 92) _ _ (λ y. if_else P (is_escape bs) _ _ (λ y. more true) (λ n. omega arith)) (λ n. more false))))
+    if_else P (eqb b 92) _ _ (λ y. if_else P (is_escape bs) _ _ (λ y. more true) (λ n. omega arith))
+    (λ n. more false))))

@@ -34,30 +34,38 @@ GivesTokens source r = IfOk r (λ found. reading source ≡ Ok (map standing fou
 abbrev pub GivesFault : List ℕ → Answer → Type 0
 GivesFault source r = IfErr r (λ f. f ≢ OutOfMemory → reading source ≡ Err f)
 
-pub spelled : (source : List ℕ) (r : Answer) → GivesTokens source r → IfOk r (λ found. Spells source (map standing found.items))
+pub spelled : (source : List ℕ) (r : Answer) → GivesTokens source r
+    → IfOk r (λ found. Spells source (map standing found.items))
 spelled source (Ok found) h = sound source (map standing found.items) h
 spelled source (Err f) h = h
 
-pub alone : (source : List ℕ) (r : Answer) → GivesTokens source r → IfOk r (λ found. (others : List Standing) → Spells source others → others ≡ map standing found.items)
-alone source (Ok found) h = λ others s. same_tokens (map standing found.items) others (reading source) h (complete source others s)
+pub alone : (source : List ℕ) (r : Answer) → GivesTokens source r
+    → IfOk r (λ found. (others : List Standing) → Spells source others → others ≡ map standing found.items)
+alone source (Ok found) h = λ others s. same_tokens (map standing found.items) others (reading source) h
+    (complete source others s)
 alone source (Err f) h = h
 
-pub faultless : (source : List ℕ) (r : Answer) → GivesTokens source r → IfOk r (λ _. (any : LexFault) → ¬ Refuses source any)
-faultless source (Ok found) h = λ any s. never_both (map standing found.items) any (reading source) (refuses source any s) h
+pub faultless : (source : List ℕ) (r : Answer) → GivesTokens source r
+    → IfOk r (λ _. (any : LexFault) → ¬ Refuses source any)
+faultless source (Ok found) h =
+    λ any s. never_both (map standing found.items) any (reading source) (refuses source any s) h
 faultless source (Err f) h = h
 
 pub refused : (source : List ℕ) (r : Answer) → GivesFault source r → IfErr r (λ f. f ≢ OutOfMemory → Refuses source f)
 refused source (Ok found) h = h
 refused source (Err f) h = λ ne. sound_fault source f (h ne)
 
-pub refused_alone : (source : List ℕ) (r : Answer) → GivesFault source r → IfErr r (λ f. f ≢ OutOfMemory → (other : LexFault) → Refuses source other → other ≡ f)
+pub refused_alone : (source : List ℕ) (r : Answer) → GivesFault source r
+    → IfErr r (λ f. f ≢ OutOfMemory → (other : LexFault) → Refuses source other → other ≡ f)
 refused_alone source (Ok found) h = h
 refused_alone source (Err f) h = λ ne other s. same_fault f other (reading source) (h ne) (refuses source other s)
 
-pub unspelled : (source : List ℕ) (r : Answer) → GivesFault source r → IfErr r (λ f. f ≢ OutOfMemory → (any : List Standing) → ¬ Spells source any)
+pub unspelled : (source : List ℕ) (r : Answer) → GivesFault source r
+    → IfErr r (λ f. f ≢ OutOfMemory → (any : List Standing) → ¬ Spells source any)
 unspelled source (Ok found) h = h
 unspelled source (Err f) h = λ ne any s. never_both any f (reading source) (h ne) (complete source any s)
 
-pub sliced : (source : List ℕ) (r : Answer) → GivesTokens source r → IfOk r (λ found. AreSlices source 0 (map standing found.items))
+pub sliced : (source : List ℕ) (r : Answer) → GivesTokens source r
+    → IfOk r (λ found. AreSlices source 0 (map standing found.items))
 sliced source (Ok found) h = slices source (map standing found.items) (sound source (map standing found.items) h)
 sliced source (Err f) h = h

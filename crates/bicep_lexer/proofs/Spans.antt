@@ -1,5 +1,7 @@
 -- What stands at the front has bytes, no more than are there, and a token begins and ends with ASCII.
-use Rattle.std.proofs.Common.{◌≡◌, ℕ, zero, suc, ◌+◌, ◌-◌, ◌^◌, ◌<◌, ◌≤◌, Bool, true, false, cond, not, ◌&&◌, ◌||◌, eqb, nat_lt, nat_le, List, [], ◌∷◌, length, take, drop, get_or, Option, Some, None, Result, Ok, option_map, refl, ap, sym, subst, ◌∙◌, arith}
+use Rattle.std.proofs.Common.{◌≡◌, ℕ, zero, suc, ◌+◌, ◌-◌, ◌^◌, ◌<◌, ◌≤◌, Bool, true, false, cond, not, ◌&&◌, ◌||◌}
+use Rattle.std.proofs.Common.{eqb, nat_lt, nat_le, List, [], ◌∷◌, length, take, drop, get_or, Option, Some, None}
+use Rattle.std.proofs.Common.{Result, Ok, option_map, refl, ap, sym, subst, ◌∙◌, arith}
 use Rattle.std.specs.Char.{is_ascii_digit}
 use Rattle.std.specs.List.{prefix_len}
 use Rattle.std.proofs.lemmas.Bool.{eqb-true}
@@ -23,7 +25,9 @@ use Rattle.bicep_lexer.specs.Escapes.{is_escape}
 use Rattle.bicep_lexer.specs.Marks.{double_mark, single_mark}
 use Rattle.bicep_lexer.specs.Skipped.{newline_length, line_length, closes_comment, comment_length, is_directive}
 use Rattle.bicep_lexer.specs.Texts.{piece_end, further, is_hole, is_break, quotes, verbatim_length}
-use Rattle.bicep_lexer.specs.Fronts.{innermost, number_front, piece, verbatim, text_front, closed, close_front, opens_comment, commented, comment_front, newline_front, directive_front, single, double, mark_front, front_by, front_of}
+use Rattle.bicep_lexer.specs.Fronts.{innermost, number_front, piece, verbatim, text_front, closed, close_front}
+use Rattle.bicep_lexer.specs.Fronts.{opens_comment, commented, comment_front, newline_front, directive_front, single}
+use Rattle.bicep_lexer.specs.Fronts.{double, mark_front, front_by, front_of}
 use Rattle.bicep_lexer.specs.Progress.{IsSpan, OnFront}
 use Rattle.bicep_lexer.proofs.Ends.{if_else, hole_room}
 
@@ -37,7 +41,8 @@ digit_small : (b : ℕ) → is_ascii_digit b ≡ true → b < 128
 digit_small b h = grind (arith, nat_tests)
 
 -- the longest front of bytes of one sort, all of them ASCII
-run_span : (p : ℕ → Bool) (b : ℕ) (bs : List ℕ) → ((x : ℕ) → p x ≡ true → x < 128) → p b ≡ true → IsSpan (prefix_len p (b ∷ bs)) (b ∷ bs)
+run_span : (p : ℕ → Bool) (b : ℕ) (bs : List ℕ) → ((x : ℕ) → p x ≡ true → x < 128) → p b ≡ true
+    → IsSpan (prefix_len p (b ∷ bs)) (b ∷ bs)
 run_span p b bs small h =
     let e : prefix_len p (b ∷ bs) ≡ 1 + prefix_len p bs = ap (λ k. cond k (1 + prefix_len p bs) 0) h in
     let lt : prefix_len p (b ∷ bs) - 1 < prefix_len p (b ∷ bs) = omega (arith, e) in
@@ -45,11 +50,14 @@ run_span p b bs small h =
       some = omega (arith, e);
       within = prefix_len-le-length p (b ∷ bs);
       first = small b h;
-      last = small (get_or (b ∷ bs) (prefix_len p (b ∷ bs) - 1) 0) (prefix_len_passes p (b ∷ bs) (prefix_len p (b ∷ bs) - 1) 0 lt);
+      last =
+          small (get_or (b ∷ bs) (prefix_len p (b ∷ bs) - 1) 0)
+          (prefix_len_passes p (b ∷ bs) (prefix_len p (b ∷ bs) - 1) 0 lt);
     }
 
 -- one byte more at the front
-push_span : (b : ℕ) (bs : List ℕ) (n : ℕ) → b < 128 → 0 < n → n ≤ length bs → get_or bs (n - 1) 0 < 128 → IsSpan (n + 1) (b ∷ bs)
+push_span : (b : ℕ) (bs : List ℕ) (n : ℕ) → b < 128 → 0 < n → n ≤ length bs → get_or bs (n - 1) 0 < 128
+    → IsSpan (n + 1) (b ∷ bs)
 push_span b bs n small some within last =
     let e : n + 1 - 1 ≡ suc (n - 1) = omega arith in
     record {
@@ -91,13 +99,15 @@ end_reaches escaped [] = tt
 end_reaches true (b ∷ bs) = end_further b (piece_end false bs) bs (end_reaches false bs)
 end_reaches false (b ∷ bs) =
     let P : PieceEnd → Type 0 = λ e. OnEnd e (b ∷ bs) in
-    let more : (escaped : Bool) → P (further 1 (piece_end escaped bs)) = λ escaped. end_further b (piece_end escaped bs) bs (end_reaches escaped bs) in
+    let more : (escaped : Bool) → P (further 1 (piece_end escaped bs)) =
+    λ escaped. end_further b (piece_end escaped bs) bs (end_reaches escaped bs) in
     if_else P (eqb b 39) _ _ (λ y. (omega arith, omega arith, subst Small (sym (eqb-true b 39 y)) (omega arith))) (λ n.
     if_else P (is_hole b bs) _ _ (λ y. hole_reaches b bs y) (λ n.
     if_else P (is_break b) _ _ (λ y. tt) (λ n.
     if_else P (eqb b 92) _ _ (λ y. if_else P (is_escape bs) _ _ (λ y. more true) (λ n. tt)) (λ n. more false))))
 
-piece_span : (quote at b : ℕ) (os : List Open) (last other : TokenKind × Turn) (e : PieceEnd) (bs : List ℕ) → b < 128 → OnEnd e bs → OnFront (piece quote at os last other e) (b ∷ bs)
+piece_span : (quote at b : ℕ) (os : List Open) (last other : TokenKind × Turn) (e : PieceEnd) (bs : List ℕ) → b < 128
+    → OnEnd e bs → OnFront (piece quote at os last other e) (b ∷ bs)
 piece_span quote at b os last other (ends.Quote n) bs small h = push_span b bs n small h.0 h.1 h.2
 piece_span quote at b os last other (ends.Hole n) bs small h = push_span b bs n small h.0 h.1 h.2
 piece_span quote at b os last other ends.Line bs small h = tt
@@ -147,7 +157,8 @@ verbatim_reaches (b ∷ bs) =
     (λ n. count_further b (verbatim_length bs) bs (verbatim_reaches bs))
 
 -- three quotes at the front of what reaches that far
-verbatim_span : (at : ℕ) (os : List Open) (bytes : List ℕ) (o : Option ℕ) → 3 ≤ length bytes → get_or bytes 0 0 < 128 → OnCount o (drop 3 bytes) → OnFront (verbatim at os o) bytes
+verbatim_span : (at : ℕ) (os : List Open) (bytes : List ℕ) (o : Option ℕ) → 3 ≤ length bytes → get_or bytes 0 0 < 128
+    → OnCount o (drop 3 bytes) → OnFront (verbatim at os o) bytes
 verbatim_span at os bytes None room small h = tt
 verbatim_span at os bytes (Some n) room small h =
     let e : 3 + (n - 1) ≡ n + 3 - 1 = omega (arith, h.0) in
@@ -165,21 +176,25 @@ text_span at b os bs small =
     (λ y.
     let three : quotes 3 (b ∷ bs) ≡ 3 = eqb-true (quotes 3 (b ∷ bs)) 3 y in
     let r : Reaches (quotes 3 (b ∷ bs)) (b ∷ bs) = quotes_reach 3 (b ∷ bs) (omega (arith, three)) in
-    verbatim_span at os (b ∷ bs) (verbatim_length (drop 3 (b ∷ bs))) (omega (arith, three, r.1)) small (verbatim_reaches (drop 3 (b ∷ bs))))
+    verbatim_span at os (b ∷ bs) (verbatim_length (drop 3 (b ∷ bs))) (omega (arith, three, r.1)) small
+    (verbatim_reaches (drop 3 (b ∷ bs))))
     (λ n. piece_span at at b os _ _ (piece_end false bs) bs small (end_reaches false bs))
 
 one_span : (b : ℕ) (bs : List ℕ) → b < 128 → IsSpan 1 (b ∷ bs)
 one_span b bs small = record { some = omega arith; within = omega arith; first = small; last = small }
 
-close_span : (at b : ℕ) (os : List Open) (o : Option Open) (bs : List ℕ) → b < 128 → OnFront (closed at os o (b ∷ bs)) (b ∷ bs)
+close_span : (at b : ℕ) (os : List Open) (o : Option Open) (bs : List ℕ) → b < 128
+    → OnFront (closed at os o (b ∷ bs)) (b ∷ bs)
 close_span at b os None bs small = one_span b bs small
 close_span at b os (Some opened.Brace) bs small = one_span b bs small
-close_span at b os (Some (opened.Text quote)) bs small = piece_span quote at b os _ _ (piece_end false bs) bs small (end_reaches false bs)
+close_span at b os (Some (opened.Text quote)) bs small =
+    piece_span quote at b os _ _ (piece_end false bs) bs small (end_reaches false bs)
 
 line_within : (bytes : List ℕ) → line_length bytes ≤ length bytes
 line_within [] = omega arith
 line_within (b ∷ bs) =
-    if_else (λ n. n ≤ suc (length bs)) (eqb (newline_length (b ∷ bs)) 0) _ _ (λ y. omega (arith, line_within bs)) (λ n. omega arith)
+    if_else (λ n. n ≤ suc (length bs)) (eqb (newline_length (b ∷ bs)) 0) _ _ (λ y. omega (arith, line_within bs))
+    (λ n. omega arith)
 
 line_some : (b : ℕ) (bs : List ℕ) → newline_length (b ∷ bs) ≡ 0 → 0 < line_length (b ∷ bs)
 line_some b bs h =
@@ -206,13 +221,15 @@ comment_reaches bs n h = within (comment_length bs) n h (bound bs)
 
     bound : (bs : List ℕ) → Within (comment_length bs) bs
     bound [] = tt
-    bound (b ∷ bs) = if_else (λ o. Within o (b ∷ bs)) (closes_comment (b ∷ bs)) _ _ (λ y. room b bs y) (λ n. further_on b (comment_length bs) bs (bound bs))
+    bound (b ∷ bs) = if_else (λ o. Within o (b ∷ bs)) (closes_comment (b ∷ bs)) _ _ (λ y. room b bs y)
+        (λ n. further_on b (comment_length bs) bs (bound bs))
 
     within : (o : Option ℕ) (n : ℕ) → o ≡ Some n → Within o bs → n ≤ length bs
     within None n e h = absurd (cc)
     within (Some m) n e h = let same : m ≡ n = cc in omega (arith, same, h)
 
-comment_span : (at : ℕ) (os : List Open) (l : Line) (bytes : List ℕ) → 2 ≤ length bytes → OnFront (comment_front at os l bytes) bytes
+comment_span : (at : ℕ) (os : List Open) (l : Line) (bytes : List ℕ) → 2 ≤ length bytes
+    → OnFront (comment_front at os l bytes) bytes
 unfolding comment_front
 comment_span at os l bytes room = go (comment_length (drop 2 bytes)) refl
   where
@@ -221,20 +238,24 @@ comment_span at os l bytes room = go (comment_length (drop 2 bytes)) refl
     go (Some n) e = (omega arith, omega (arith, comment_reaches (drop 2 bytes) n e, length-drop 2 bytes, room))
 
 comment_room : (second : ℕ) (b : ℕ) (bs : List ℕ) → opens_comment second (b ∷ bs) ≡ true → 2 ≤ suc (length bs)
-comment_room second b [] h = absurd (elim (eqb b 47) as (λ k. (k && false) ≡ true → ⊥) [ true ↦ λ e. cc | false ↦ λ e. cc ] h)
+comment_room second b [] h =
+    absurd (elim (eqb b 47) as (λ k. (k && false) ≡ true → ⊥) [ true ↦ λ e. cc | false ↦ λ e. cc ] h)
 comment_room second b (c ∷ bs) h = omega arith
 
 comment_slash : (second b : ℕ) (bs : List ℕ) → opens_comment second (b ∷ bs) ≡ true → b ≡ 47
 comment_slash second b bs h = grind (arith, nat_tests)
 
-line_span : (b : ℕ) (bs : List ℕ) (l : Line) → (b ≡ 10 → ⊥) → (b ≡ 13 → ⊥) → OnFront (Ok (front.Skipped (line_length (b ∷ bs)) l)) (b ∷ bs)
+line_span : (b : ℕ) (bs : List ℕ) (l : Line) → (b ≡ 10 → ⊥) → (b ≡ 13 → ⊥)
+    → OnFront (Ok (front.Skipped (line_length (b ∷ bs)) l)) (b ∷ bs)
 line_span b bs l lf cr = (line_some b bs (no_newline b bs lf cr), line_within (b ∷ bs))
 
-newline_is_span : (b : ℕ) (bs : List ℕ) → not (eqb (newline_length (b ∷ bs)) 0) ≡ true → IsSpan (newline_length (b ∷ bs)) (b ∷ bs)
+newline_is_span : (b : ℕ) (bs : List ℕ) → not (eqb (newline_length (b ∷ bs)) 0) ≡ true
+    → IsSpan (newline_length (b ∷ bs)) (b ∷ bs)
 newline_is_span b [] =
     if_else (λ n. not (eqb n 0) ≡ true → IsSpan n (b ∷ [])) (eqb b 10) _ _
     (λ y h. one_span b [] (subst Small (sym (eqb-true b 10 y)) (omega arith)))
-    (λ n. elim (eqb b 13) as (λ k. not (eqb (cond (k && false) 2 0) 0) ≡ true → IsSpan (cond (k && false) 2 0) (b ∷ [])) [ true ↦ λ h. absurd cc | false ↦ λ h. absurd cc ])
+    (λ n. elim (eqb b 13) as (λ k. not (eqb (cond (k && false) 2 0) 0) ≡ true
+    → IsSpan (cond (k && false) 2 0) (b ∷ [])) [ true ↦ λ h. absurd cc | false ↦ λ h. absurd cc ])
 newline_is_span b (c ∷ bs) =
     if_else (λ n. not (eqb n 0) ≡ true → IsSpan n (b ∷ c ∷ bs)) (eqb b 10) _ _
     (λ y h. one_span b (c ∷ bs) (subst Small (sym (eqb-true b 10 y)) (omega arith)))
@@ -243,15 +264,19 @@ newline_is_span b (c ∷ bs) =
     record { some = omega arith; within = omega arith; first = small; last = small' })
     (λ n h. absurd cc))
 
-newline_span : (b : ℕ) (bs : List ℕ) (l : Line) → not (eqb (newline_length (b ∷ bs)) 0) ≡ true → OnFront (newline_front l (newline_length (b ∷ bs))) (b ∷ bs)
+newline_span : (b : ℕ) (bs : List ℕ) (l : Line) → not (eqb (newline_length (b ∷ bs)) 0) ≡ true
+    → OnFront (newline_front l (newline_length (b ∷ bs))) (b ∷ bs)
 newline_span b bs line.Folded h = let s = newline_is_span b bs h in (s.some, s.within)
 newline_span b bs line.Front h = newline_is_span b bs h
 newline_span b bs line.Within h = newline_is_span b bs h
 
-directive_span : (at b : ℕ) (bs : List ℕ) (l : Line) → (b ≡ 10 → ⊥) → (b ≡ 13 → ⊥) → OnFront (directive_front at l (b ∷ bs)) (b ∷ bs)
+directive_span : (at b : ℕ) (bs : List ℕ) (l : Line) → (b ≡ 10 → ⊥) → (b ≡ 13 → ⊥)
+    → OnFront (directive_front at l (b ∷ bs)) (b ∷ bs)
 directive_span at b bs line.Within lf cr = tt
-directive_span at b bs line.Front lf cr = if_else (λ o. OnFront o (b ∷ bs)) (is_directive (b ∷ bs)) _ _ (λ y. line_span b bs line.Front lf cr) (λ n. tt)
-directive_span at b bs line.Folded lf cr = if_else (λ o. OnFront o (b ∷ bs)) (is_directive (b ∷ bs)) _ _ (λ y. line_span b bs line.Folded lf cr) (λ n. tt)
+directive_span at b bs line.Front lf cr =
+    if_else (λ o. OnFront o (b ∷ bs)) (is_directive (b ∷ bs)) _ _ (λ y. line_span b bs line.Front lf cr) (λ n. tt)
+directive_span at b bs line.Folded lf cr =
+    if_else (λ o. OnFront o (b ∷ bs)) (is_directive (b ∷ bs)) _ _ (λ y. line_span b bs line.Folded lf cr) (λ n. tt)
 
 -- the bytes of a mark are ASCII
 abbrev IfMark : Option TokenKind → Type 0 → Type 0
@@ -313,7 +338,8 @@ single_span : (at b : ℕ) (bs : List ℕ) (o : Option TokenKind) → IfMark o (
 single_span at b bs None h = tt
 single_span at b bs (Some k) h = one_span b bs h
 
-double_span : (at a b : ℕ) (bs : List ℕ) (o : Option TokenKind) → IfMark o ((a < 128) × (b < 128)) → OnFront (double at a o) (a ∷ b ∷ bs)
+double_span : (at a b : ℕ) (bs : List ℕ) (o : Option TokenKind) → IfMark o ((a < 128) × (b < 128))
+    → OnFront (double at a o) (a ∷ b ∷ bs)
 double_span at a b bs None h = single_span at a (b ∷ bs) (single_mark a) (single_small a)
 double_span at a b bs (Some k) h = record { some = omega arith; within = omega arith; first = h.0; last = h.1 }
 
@@ -327,12 +353,15 @@ name_span : (b : ℕ) (bs : List ℕ) → is_letter b ≡ true → IsSpan (name_
 unfolding name_length
 name_span b bs h =
     let starts : is_name_byte b ≡ true = ap (λ k. k || is_ascii_digit b) h in
-    subst (λ n. IsSpan n (b ∷ bs)) (sym (length-prefix_len is_name_byte (b ∷ bs))) (run_span is_name_byte b bs name_small starts)
+    subst (λ n. IsSpan n (b ∷ bs)) (sym (length-prefix_len is_name_byte (b ∷ bs)))
+    (run_span is_name_byte b bs name_small starts)
 
 number_span : (at b : ℕ) (bs : List ℕ) → is_ascii_digit b ≡ true → OnFront (number_front at (b ∷ bs)) (b ∷ bs)
 unfolding number_front
 number_span at b bs h =
-    let span : IsSpan (length (digits_of (b ∷ bs))) (b ∷ bs) = subst (λ n. IsSpan n (b ∷ bs)) (sym (length-prefix_len is_ascii_digit (b ∷ bs))) (run_span is_ascii_digit b bs digit_small h) in
+    let span : IsSpan (length (digits_of (b ∷ bs))) (b ∷ bs) =
+    subst (λ n. IsSpan n (b ∷ bs)) (sym (length-prefix_len is_ascii_digit (b ∷ bs)))
+    (run_span is_ascii_digit b bs digit_small h) in
     if_else (λ o. OnFront o (b ∷ bs)) (nat_lt (number_from 0 (digits_of (b ∷ bs))) (2 ^ 63)) _ _ (λ y. span) (λ n. tt)
 
 by_span : (at b : ℕ) (os : List Open) (l : Line) (bs : List ℕ) → OnFront (front_by at os l b (b ∷ bs)) (b ∷ bs)
@@ -343,10 +372,12 @@ by_span at b os l bs =
     if_else P (is_letter b) _ _ (λ y. name_span b bs y) (λ n.
     if_else P (is_ascii_digit b) _ _ (λ y. number_span at b bs y) (λ n.
     if_else P (eqb b 39) _ _ (λ y. text_span at b os bs (small_one b 39 (omega arith) y)) (λ n.
-    if_else P (opens_comment 47 (b ∷ bs)) _ _ (λ y. let e = comment_slash 47 b bs y in line_span b bs l (λ x. omega (arith, e, x)) (λ x. omega (arith, e, x))) (λ n.
+    if_else P (opens_comment 47 (b ∷ bs)) _ _ (λ y. let e = comment_slash 47 b bs y in
+    line_span b bs l (λ x. omega (arith, e, x)) (λ x. omega (arith, e, x))) (λ n.
     if_else P (opens_comment 42 (b ∷ bs)) _ _ (λ y. comment_span at os l (b ∷ bs) (comment_room 42 b bs y)) (λ n.
     if_else P (not (eqb (newline_length (b ∷ bs)) 0)) _ _ (λ y. newline_span b bs l y) (λ n.
-    if_else P (eqb b 35) _ _ (λ y. let e = eqb-true b 35 y in directive_span at b bs l (λ x. omega (arith, e, x)) (λ x. omega (arith, e, x))) (λ n.
+    if_else P (eqb b 35) _ _ (λ y. let e = eqb-true b 35 y in
+    directive_span at b bs l (λ x. omega (arith, e, x)) (λ x. omega (arith, e, x))) (λ n.
     if_else P (eqb b 123) _ _ (λ y. one_span b bs (small_one b 123 (omega arith) y)) (λ n.
     if_else P (eqb b 125) _ _ (λ y. close_span at b os (innermost os) bs (small_one b 125 (omega arith) y)) (λ n.
     mark_span at (b ∷ bs)))))))))))

@@ -1,5 +1,6 @@
 -- One step of a reading.
-use Rattle.std.proofs.Common.{◌≡◌, ℕ, zero, suc, ◌+◌, ◌-◌, ◌<◌, ◌≤◌, List, [], ◌∷◌, ◌++◌, length, take, drop, Result, Ok, Err, refl, ap, sym, subst, ◌∙◌, append_assoc, arith}
+use Rattle.std.proofs.Common.{◌≡◌, ℕ, zero, suc, ◌+◌, ◌-◌, ◌<◌, ◌≤◌, List, [], ◌∷◌, ◌++◌, length, take, drop, Result}
+use Rattle.std.proofs.Common.{Ok, Err, refl, ap, sym, subst, ◌∙◌, append_assoc, arith}
 use Rattle.std.proofs.lemmas.List.{at_drop_all, length-drop, drop-drop}
 use Rattle.bicep_lexer.specs.declared.kind.TokenKind.TheVariants as k
 use Rattle.bicep_lexer.specs.declared.fault.LexFault.{LexFault}
@@ -9,12 +10,14 @@ use Rattle.bicep_lexer.specs.declared.front.Line.TheVariants as line
 use Rattle.bicep_lexer.specs.declared.front.Front.{Front}
 use Rattle.bicep_lexer.specs.declared.front.Front.TheVariants as front
 use Rattle.bicep_lexer.specs.Fronts.{front_of}
-use Rattle.bicep_lexer.specs.Reading.{Standing, Outcome, turned, before, follow, ended, reading_from, mark_length, reading}
+use Rattle.bicep_lexer.specs.Reading.{Standing, Outcome, turned, before, follow, ended, reading_from, mark_length}
+use Rattle.bicep_lexer.specs.Reading.{reading}
 use Rattle.bicep_lexer.specs.Progress.{behind, whole, OnFront}
 use Rattle.bicep_lexer.proofs.Scans.{tail_is}
 use Rattle.bicep_lexer.proofs.Spans.{front_span}
 
-pub reading-skip : (n at : ℕ) (os : List Open) (l : Line) (bs : List ℕ) → n ≤ length bs → reading_from n at os l bs ≡ reading_from 0 (at + n) os l (drop n bs)
+pub reading-skip : (n at : ℕ) (os : List Open) (l : Line) (bs : List ℕ) → n ≤ length bs
+    → reading_from n at os l bs ≡ reading_from 0 (at + n) os l (drop n bs)
 reading-skip zero at os l bs h = let e : at ≡ at + 0 = omega arith in ap (λ i. reading_from 0 i os l bs) e
 reading-skip (suc n) at os l [] h = absurd (omega arith)
 reading-skip (suc n) at os l (b ∷ bs) h =
@@ -22,7 +25,8 @@ reading-skip (suc n) at os l (b ∷ bs) h =
     reading-skip n (at + 1) os l bs (omega arith) ∙ ap (λ i. reading_from 0 i os l (drop n bs)) e
 
 -- what is left behind the first bytes
-left_behind : (n at : ℕ) (os : List Open) (l : Line) (b : ℕ) (bs : List ℕ) → 0 < n → n ≤ suc (length bs) → reading_from (n - 1) (at + 1) os l bs ≡ reading_from 0 (at + n) os l (drop n (b ∷ bs))
+left_behind : (n at : ℕ) (os : List Open) (l : Line) (b : ℕ) (bs : List ℕ) → 0 < n → n ≤ suc (length bs)
+    → reading_from (n - 1) (at + 1) os l bs ≡ reading_from 0 (at + n) os l (drop n (b ∷ bs))
 left_behind zero at os l b bs some within = absurd (omega arith)
 left_behind (suc n) at os l b bs some within =
     let less : suc n - 1 ≡ n = omega arith in
@@ -32,20 +36,27 @@ left_behind (suc n) at os l b bs some within =
 abbrev pub by_front : ℕ → List Open → List ℕ → Result Front LexFault → Outcome
 by_front at os left (Err f) = Err f
 by_front at os left (Ok (front.Skipped n l)) = reading_from 0 (at + n) os l (drop n left)
-by_front at os left (Ok (front.Newline n)) = before (k.Newline, at, take n left) (reading_from 0 (at + n) os line.Folded (drop n left))
-by_front at os left (Ok (front.Word kind n t)) = before (kind, at, take n left) (reading_from 0 (at + n) (turned t os) line.Within (drop n left))
+by_front at os left (Ok (front.Newline n)) =
+    before (k.Newline, at, take n left) (reading_from 0 (at + n) os line.Folded (drop n left))
+by_front at os left (Ok (front.Word kind n t)) =
+    before (kind, at, take n left) (reading_from 0 (at + n) (turned t os) line.Within (drop n left))
 
-follow_front : (at : ℕ) (os : List Open) (b : ℕ) (bs : List ℕ) (o : Result Front LexFault) → OnFront o (b ∷ bs) → follow at os (b ∷ bs) o (λ n os' l'. reading_from n (at + 1) os' l' bs) ≡ by_front at os (b ∷ bs) o
+follow_front : (at : ℕ) (os : List Open) (b : ℕ) (bs : List ℕ) (o : Result Front LexFault) → OnFront o (b ∷ bs)
+    → follow at os (b ∷ bs) o (λ n os' l'. reading_from n (at + 1) os' l' bs) ≡ by_front at os (b ∷ bs) o
 follow_front at os b bs (Err f) h = refl
 follow_front at os b bs (Ok (front.Skipped n l)) h = left_behind n at os l b bs h.0 h.1
-follow_front at os b bs (Ok (front.Newline n)) h = ap (before (k.Newline, at, take n (b ∷ bs))) (left_behind n at os line.Folded b bs h.some h.within)
-follow_front at os b bs (Ok (front.Word kind n t)) h = ap (before (kind, at, take n (b ∷ bs))) (left_behind n at (turned t os) line.Within b bs h.some h.within)
+follow_front at os b bs (Ok (front.Newline n)) h =
+    ap (before (k.Newline, at, take n (b ∷ bs))) (left_behind n at os line.Folded b bs h.some h.within)
+follow_front at os b bs (Ok (front.Word kind n t)) h =
+    ap (before (kind, at, take n (b ∷ bs))) (left_behind n at (turned t os) line.Within b bs h.some h.within)
 
-pub read_front : (at : ℕ) (os : List Open) (l : Line) (left : List ℕ) → 0 < length left → reading_from 0 at os l left ≡ by_front at os left (front_of at os l left)
+pub read_front : (at : ℕ) (os : List Open) (l : Line) (left : List ℕ) → 0 < length left
+    → reading_from 0 at os l left ≡ by_front at os left (front_of at os l left)
 read_front at os l [] h = absurd (omega arith)
 read_front at os l (b ∷ bs) h = follow_front at os b bs (front_of at os l (b ∷ bs)) (front_span at os l (b ∷ bs))
 
-behind-before : (found : List Standing) (t : Standing) (o : Outcome) → behind found (before t o) ≡ behind (found ++ t ∷ []) o
+behind-before : (found : List Standing) (t : Standing) (o : Outcome)
+    → behind found (before t o) ≡ behind (found ++ t ∷ []) o
 behind-before found t (Ok ts) = ap (λ x. Ok x) (sym (append_assoc found (t ∷ []) ts))
 behind-before found t (Err f) = refl
 
@@ -53,28 +64,38 @@ behind-before found t (Err f) = refl
 abbrev pub stepped : List ℕ → ℕ → List Open → List Standing → Result Front LexFault → Outcome
 stepped text at os found (Err f) = Err f
 stepped text at os found (Ok (front.Skipped n l)) = whole text (at + n) os l found
-stepped text at os found (Ok (front.Newline n)) = whole text (at + n) os line.Folded (found ++ (k.Newline, at, take n (drop at text)) ∷ [])
-stepped text at os found (Ok (front.Word kind n t)) = whole text (at + n) (turned t os) line.Within (found ++ (kind, at, take n (drop at text)) ∷ [])
+stepped text at os found (Ok (front.Newline n)) =
+    whole text (at + n) os line.Folded (found ++ (k.Newline, at, take n (drop at text)) ∷ [])
+stepped text at os found (Ok (front.Word kind n t)) =
+    whole text (at + n) (turned t os) line.Within (found ++ (kind, at, take n (drop at text)) ∷ [])
 
-by_front-stepped : (text : List ℕ) (at : ℕ) (os : List Open) (found : List Standing) (o : Result Front LexFault) → behind found (by_front at os (drop at text) o) ≡ stepped text at os found o
+by_front-stepped : (text : List ℕ) (at : ℕ) (os : List Open) (found : List Standing) (o : Result Front LexFault)
+    → behind found (by_front at os (drop at text) o) ≡ stepped text at os found o
 by_front-stepped text at os found (Err f) = refl
-by_front-stepped text at os found (Ok (front.Skipped n l)) = ap (λ xs. behind found (reading_from 0 (at + n) os l xs)) (drop-drop n at text)
+by_front-stepped text at os found (Ok (front.Skipped n l)) =
+    ap (λ xs. behind found (reading_from 0 (at + n) os l xs)) (drop-drop n at text)
 by_front-stepped text at os found (Ok (front.Newline n)) =
-    behind-before found (k.Newline, at, take n (drop at text)) (reading_from 0 (at + n) os line.Folded (drop n (drop at text)))
-    ∙ ap (λ xs. behind (found ++ (k.Newline, at, take n (drop at text)) ∷ []) (reading_from 0 (at + n) os line.Folded xs)) (drop-drop n at text)
+    behind-before found (k.Newline, at, take n (drop at text))
+    (reading_from 0 (at + n) os line.Folded (drop n (drop at text)))
+    ∙ ap (λ xs. behind (found ++ (k.Newline, at, take n (drop at text)) ∷ [])
+    (reading_from 0 (at + n) os line.Folded xs)) (drop-drop n at text)
 by_front-stepped text at os found (Ok (front.Word kind n t)) =
-    behind-before found (kind, at, take n (drop at text)) (reading_from 0 (at + n) (turned t os) line.Within (drop n (drop at text)))
-    ∙ ap (λ xs. behind (found ++ (kind, at, take n (drop at text)) ∷ []) (reading_from 0 (at + n) (turned t os) line.Within xs)) (drop-drop n at text)
+    behind-before found (kind, at, take n (drop at text))
+    (reading_from 0 (at + n) (turned t os) line.Within (drop n (drop at text)))
+    ∙ ap (λ xs. behind (found ++ (kind, at, take n (drop at text)) ∷ [])
+    (reading_from 0 (at + n) (turned t os) line.Within xs)) (drop-drop n at text)
 
 -- one step leaves the reading of the whole as it was
-pub step_is : (text : List ℕ) (at : ℕ) (os : List Open) (l : Line) (found : List Standing) (o : Result Front LexFault) → at < length text → o ≡ front_of at os l (drop at text) → whole text at os l found ≡ stepped text at os found o
+pub step_is : (text : List ℕ) (at : ℕ) (os : List Open) (l : Line) (found : List Standing) (o : Result Front LexFault)
+    → at < length text → o ≡ front_of at os l (drop at text) → whole text at os l found ≡ stepped text at os found o
 step_is text at os l found o lt is =
     ap (behind found) (read_front at os l (drop at text) (omega (arith, length-drop at text)))
     ∙ by_front-stepped text at os found (front_of at os l (drop at text))
     ∙ ap (stepped text at os found) (sym is)
 
 -- at the end nothing is left
-pub whole-end : (text : List ℕ) (at : ℕ) (os : List Open) (l : Line) (found : List Standing) → length text ≤ at → whole text at os l found ≡ behind found (ended os)
+pub whole-end : (text : List ℕ) (at : ℕ) (os : List Open) (l : Line) (found : List Standing) → length text ≤ at
+    → whole text at os l found ≡ behind found (ended os)
 whole-end text at os l found h = at_drop_all (λ xs. behind found (reading_from 0 at os l xs)) text at h
 
 behind-none : (o : Outcome) → behind [] o ≡ o
@@ -82,7 +103,8 @@ behind-none (Ok ts) = refl
 behind-none (Err f) = refl
 
 -- at the start nothing is found
-pub whole-start : (text : List ℕ) (at : ℕ) → at ≡ mark_length text → at ≤ length text → whole text at [] line.Front [] ≡ reading text
+pub whole-start : (text : List ℕ) (at : ℕ) → at ≡ mark_length text → at ≤ length text
+    → whole text at [] line.Front [] ≡ reading text
 unfolding reading
 whole-start text at is h =
     let e : 0 + at ≡ at = omega arith in
@@ -92,16 +114,22 @@ whole-start text at is h =
     ∙ ap (λ n. reading_from n 0 [] line.Front text) is
 
 -- what the code found at the front, in the terms of the source
-pub front_here : (text bytes : List ℕ) (at : ℕ) (os os' : List Open) (l : Line) (o : Result Front LexFault) → bytes ≡ text → os' ≡ os → o ≡ front_of at os' l (take (length bytes - at) (drop at bytes)) → o ≡ front_of at os l (drop at text)
+pub front_here : (text bytes : List ℕ) (at : ℕ) (os os' : List Open) (l : Line) (o : Result Front LexFault)
+    → bytes ≡ text → os' ≡ os → o ≡ front_of at os' l (take (length bytes - at) (drop at bytes))
+    → o ≡ front_of at os l (drop at text)
 front_here text bytes at os os' l o is is' h =
     h
     ∙ ap (front_of at os' l) (tail_is bytes at)
     ∙ ap (λ xs. front_of at os' l (drop at xs)) is
     ∙ ap (λ xs. front_of at xs l (drop at text)) is'
 
-pub span_here : (text : List ℕ) (at : ℕ) (os : List Open) (l : Line) (o : Result Front LexFault) → o ≡ front_of at os l (drop at text) → OnFront o (drop at text)
+pub span_here : (text : List ℕ) (at : ℕ) (os : List Open) (l : Line) (o : Result Front LexFault)
+    → o ≡ front_of at os l (drop at text) → OnFront o (drop at text)
 span_here text at os l o h = subst (λ x. OnFront x (drop at text)) (sym h) (front_span at os l (drop at text))
 
-pub whole_same : (text text' : List ℕ) (at at' : ℕ) (os os' : List Open) (l : Line) (found found' : List Standing) (r : Outcome) → text ≡ text' → at ≡ at' → os ≡ os' → found ≡ found' → whole text' at' os' l found' ≡ r → whole text at os l found ≡ r
+pub whole_same : (text text' : List ℕ) (at at' : ℕ) (os os' : List Open) (l : Line) (found found' : List Standing)
+    (r : Outcome) → text ≡ text' → at ≡ at' → os ≡ os' → found ≡ found' → whole text' at' os' l found' ≡ r
+    → whole text at os l found ≡ r
 whole_same text text' at at' os os' l found found' r t a o f h =
-    ap (λ x. whole x at os l found) t ∙ ap (λ x. whole text' x os l found) a ∙ ap (λ x. whole text' at' x l found) o ∙ ap (λ x. whole text' at' os' l x) f ∙ h
+    ap (λ x. whole x at os l found) t ∙ ap (λ x. whole text' x os l found) a ∙ ap (λ x. whole text' at' x l found) o
+    ∙ ap (λ x. whole text' at' os' l x) f ∙ h

@@ -1,5 +1,6 @@
 -- The escapes of texts in single quotes.
-use Rattle.std.specs.Prelude.{ℕ, zero, suc, ◌+◌, ◌*◌, ◌-◌, Bool, false, ◌==◌, ◌||◌, ◌&&◌, not, nat_le, nat_lt, List, [], ◌∷◌, drop, Option, Some, None, is_some, option_and_then, if◌then◌else◌}
+use Rattle.std.specs.Prelude.{ℕ, zero, suc, ◌+◌, ◌*◌, ◌-◌, Bool, false, ◌==◌, ◌||◌, ◌&&◌, not, nat_le, nat_lt, List}
+use Rattle.std.specs.Prelude.{[], ◌∷◌, drop, Option, Some, None, is_some, option_and_then, if◌then◌else◌}
 use Rattle.bicep_lexer.specs.Bytes.{begins_with}
 
 -- the value of a hexadecimal digit
@@ -28,7 +29,8 @@ scalar_of v = if is_scalar v then Some v else None
 -- the character of `{h}` at the front, with one to six hexadecimal digits
 unfoldable pub braced_scalar : List ℕ → Option ℕ
 braced_scalar bytes =
-    if begins_with 123 bytes && not (begins_with 125 (drop 1 bytes)) then option_and_then scalar_of (closed_number 6 0 (drop 1 bytes))
+    if begins_with 123 bytes && not (begins_with 125 (drop 1 bytes))
+    then option_and_then scalar_of (closed_number 6 0 (drop 1 bytes))
     else None
 
 -- the character that one behind a `\` stands for: `\`, `'`, `$`, and `n`, `r` and `t` for LF, CR and a tab

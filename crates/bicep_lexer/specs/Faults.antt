@@ -1,5 +1,6 @@
 -- Which faults stand in a source.
-use Rattle.std.specs.Prelude.{◌≡◌, ◌≢◌, ℕ, ◌+◌, ◌≤◌, ◌^◌, true, false, ◌==◌, List, [], ◌∷◌, ◌++◌, length, Some, None, ◌⊎◌}
+use Rattle.std.specs.Prelude.{◌≡◌, ◌≢◌, ℕ, ◌+◌, ◌≤◌, ◌^◌, true, false, ◌==◌, List, [], ◌∷◌, ◌++◌, length, Some, None}
+use Rattle.std.specs.Prelude.{◌⊎◌}
 use Rattle.std.specs.Char.{is_ascii_digit}
 use Rattle.bicep_lexer.specs.declared.fault.LexFault.{LexFault}
 use Rattle.bicep_lexer.specs.declared.fault.LexFault.TheVariants as fault
@@ -13,7 +14,8 @@ use Rattle.bicep_lexer.specs.Marks.{single_mark}
 use Rattle.bicep_lexer.specs.Skipped.{closes_comment, is_directive}
 use Rattle.bicep_lexer.specs.Texts.{is_break, quotes}
 use Rattle.bicep_lexer.specs.Fronts.{outermost, innermost, unfinished, opens_comment}
-use Rattle.bicep_lexer.specs.Grammar.{Throughout, IsRun, ends_line, IsInside, three_quotes, makes_double, Part, StandsBefore}
+use Rattle.bicep_lexer.specs.Grammar.{Throughout, IsRun, ends_line, IsInside, three_quotes, makes_double, Part}
+use Rattle.bicep_lexer.specs.Grammar.{StandsBefore}
 
 -- the byte begins a piece of the text whose opening quote is at `quote`: it is that quote, and does not
 -- open a verbatim text, or it is the `}` of what was opened last
@@ -38,20 +40,32 @@ pub record BeginsNothing (l : Line) (first : ℕ) (bytes : List ℕ) : Type 0 wh
 -- A fault at the front of what is left at a place.
 pub data IsFault (os : List Open) (l : Line) (at : ℕ) (bytes : List ℕ) (f : LexFault) : Type 0 where
   -- the file ends where a text is open: at the outermost
-  open_at_end : bytes ≡ [] → (quote : ℕ) → outermost os ≡ Some quote → f ≡ fault.OpenText quote → IsFault os l at bytes f
+  open_at_end : bytes ≡ [] → (quote : ℕ) → outermost os ≡ Some quote → f ≡ fault.OpenText quote
+      → IsFault os l at bytes f
   -- as many digits as there are write too large a number
-  bad_number : (first : ℕ) (others rest : List ℕ) → bytes ≡ first ∷ (others ++ rest) → IsRun is_ascii_digit (first ∷ others) rest → 2 ^ 63 ≤ number_from 0 (first ∷ others) → f ≡ fault.BadNumber at → IsFault os l at bytes f
+  bad_number : (first : ℕ) (others rest : List ℕ) → bytes ≡ first ∷ (others ++ rest)
+      → IsRun is_ascii_digit (first ∷ others) rest → 2 ^ 63 ≤ number_from 0 (first ∷ others) → f ≡ fault.BadNumber at
+      → IsFault os l at bytes f
   -- a piece of a text comes to a `\` that begins no escape
-  bad_escape : (b quote : ℕ) (inside rest : List ℕ) → BeginsPiece os at b bytes quote → bytes ≡ b ∷ (inside ++ 92 ∷ rest) → IsInside false inside (92 ∷ rest) → is_escape rest ≡ false → f ≡ fault.BadEscape (at + (length inside + 1)) → IsFault os l at bytes f
+  bad_escape : (b quote : ℕ) (inside rest : List ℕ) → BeginsPiece os at b bytes quote
+      → bytes ≡ b ∷ (inside ++ 92 ∷ rest) → IsInside false inside (92 ∷ rest) → is_escape rest ≡ false
+      → f ≡ fault.BadEscape (at + (length inside + 1)) → IsFault os l at bytes f
   -- a piece of a text comes to the line's end
-  open_at_line : (b quote : ℕ) (inside : List ℕ) (end : ℕ) (rest : List ℕ) → BeginsPiece os at b bytes quote → bytes ≡ b ∷ (inside ++ end ∷ rest) → IsInside false inside (end ∷ rest) → is_break end ≡ true → f ≡ fault.OpenText quote → IsFault os l at bytes f
+  open_at_line : (b quote : ℕ) (inside : List ℕ) (end : ℕ) (rest : List ℕ) → BeginsPiece os at b bytes quote
+      → bytes ≡ b ∷ (inside ++ end ∷ rest) → IsInside false inside (end ∷ rest) → is_break end ≡ true
+      → f ≡ fault.OpenText quote → IsFault os l at bytes f
   -- a piece of a text, a verbatim text or a comment comes to the file's end: the outermost open text is told
-  open_at_file : (b quote : ℕ) (inside : List ℕ) → BeginsPiece os at b bytes quote → bytes ≡ b ∷ inside → IsInside false inside [] → f ≡ unfinished os (fault.OpenText quote) → IsFault os l at bytes f
-  open_verbatim : (inside : List ℕ) → bytes ≡ 39 ∷ 39 ∷ 39 ∷ inside → Throughout three_quotes false inside [] → f ≡ unfinished os (fault.OpenText at) → IsFault os l at bytes f
-  open_comment : (inside : List ℕ) → bytes ≡ 47 ∷ 42 ∷ inside → Throughout closes_comment false inside [] → f ≡ unfinished os (fault.OpenComment at) → IsFault os l at bytes f
+  open_at_file : (b quote : ℕ) (inside : List ℕ) → BeginsPiece os at b bytes quote → bytes ≡ b ∷ inside
+      → IsInside false inside [] → f ≡ unfinished os (fault.OpenText quote) → IsFault os l at bytes f
+  open_verbatim : (inside : List ℕ) → bytes ≡ 39 ∷ 39 ∷ 39 ∷ inside → Throughout three_quotes false inside []
+      → f ≡ unfinished os (fault.OpenText at) → IsFault os l at bytes f
+  open_comment : (inside : List ℕ) → bytes ≡ 47 ∷ 42 ∷ inside → Throughout closes_comment false inside []
+      → f ≡ unfinished os (fault.OpenComment at) → IsFault os l at bytes f
   -- a byte at which no word begins, and nothing that is skipped
-  bad_character : (first : ℕ) (others : List ℕ) → bytes ≡ first ∷ others → BeginsNothing l first bytes → makes_double first others ≡ false → f ≡ fault.BadCharacter at → IsFault os l at bytes f
+  bad_character : (first : ℕ) (others : List ℕ) → bytes ≡ first ∷ others → BeginsNothing l first bytes
+      → makes_double first others ≡ false → f ≡ fault.BadCharacter at → IsFault os l at bytes f
 
 -- the source is parts in a row up to a place where the fault stands
 abbrev pub Refuses : List ℕ → LexFault → Type 0
-Refuses source f = (mark : List ℕ) × (ps : List Part) × (rest : List ℕ) × StandsBefore source rest mark ps (λ os l at. IsFault os l at rest f)
+Refuses source f = (mark : List ℕ) × (ps : List Part) × (rest : List ℕ)
+    × StandsBefore source rest mark ps (λ os l at. IsFault os l at rest f)

@@ -1,5 +1,6 @@
 -- What stands at the front of what is left of a source.
-use Rattle.std.specs.Prelude.{ℕ, ◌+◌, ◌-◌, ◌^◌, Bool, false, ◌==◌, ◌&&◌, nat_lt, not, List, [], ◌∷◌, length, take, drop, slice_get, Option, Some, None, Result, Ok, Err, if◌then◌else◌}
+use Rattle.std.specs.Prelude.{ℕ, ◌+◌, ◌-◌, ◌^◌, Bool, false, ◌==◌, ◌&&◌, nat_lt, not, List, [], ◌∷◌, length, take}
+use Rattle.std.specs.Prelude.{drop, slice_get, Option, Some, None, Result, Ok, Err, if◌then◌else◌}
 use Rattle.std.specs.Char.{is_ascii_digit}
 use Rattle.bicep_lexer.specs.declared.kind.TokenKind.{TokenKind}
 use Rattle.bicep_lexer.specs.declared.kind.TokenKind.TheVariants as k
@@ -96,7 +97,8 @@ newline_front l n = Ok (front.Newline n)
 -- a line whose first mark is `#disable-next-line`
 abbrev pub directive_front : ℕ → Line → List ℕ → Result Front LexFault
 directive_front at line.Within bytes = Err (fault.BadCharacter at)
-directive_front at l bytes = if is_directive bytes then Ok (front.Skipped (line_length bytes) l) else Err (fault.BadCharacter at)
+directive_front at l bytes = if is_directive bytes then Ok (front.Skipped (line_length bytes) l)
+    else Err (fault.BadCharacter at)
 
 abbrev pub single : ℕ → Option TokenKind → Result Front LexFault
 single at (Some kind) = word kind 1

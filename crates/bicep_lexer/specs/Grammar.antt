@@ -1,5 +1,6 @@
 -- Which sources spell which tokens: a source is words and what is skipped, in a row.
-use Rattle.std.specs.Prelude.{◌≡◌, ◌≢◌, ℕ, ◌+◌, ◌<◌, ◌≤◌, ◌^◌, Bool, true, false, nat_le, not, ◌==◌, List, [], ◌∷◌, ◌++◌, length, Some, None, is_some, ◌⊎◌, take, drop}
+use Rattle.std.specs.Prelude.{◌≡◌, ◌≢◌, ℕ, ◌+◌, ◌<◌, ◌≤◌, ◌^◌, Bool, true, false, nat_le, not, ◌==◌, List, [], ◌∷◌}
+use Rattle.std.specs.Prelude.{◌++◌, length, Some, None, is_some, ◌⊎◌, take, drop}
 use Rattle.std.specs.Char.{is_ascii_digit}
 use Rattle.bicep_lexer.specs.declared.kind.TokenKind.{TokenKind}
 use Rattle.bicep_lexer.specs.declared.kind.TokenKind.TheVariants as k
@@ -64,25 +65,41 @@ makes_double b (c ∷ rest) = is_some (double_mark b c)
 -- A word of a kind at a place, before the rest, and what it opens or closes.
 pub data IsWord (os : List Open) (l : Line) (at : ℕ) (kind : TokenKind) (word rest : List ℕ) (t : Turn) : Type 0 where
   -- a letter, and then as many bytes of a name as there are
-  name : kind ≡ k.Name → t ≡ turn.Stays → (first : ℕ) (others : List ℕ) → word ≡ first ∷ others → is_letter first ≡ true → IsRun is_name_byte word rest → IsWord os l at kind word rest t
+  name : kind ≡ k.Name → t ≡ turn.Stays → (first : ℕ) (others : List ℕ) → word ≡ first ∷ others
+      → is_letter first ≡ true → IsRun is_name_byte word rest → IsWord os l at kind word rest t
   -- as many digits as there are
-  number : kind ≡ k.Number → t ≡ turn.Stays → (first : ℕ) (others : List ℕ) → word ≡ first ∷ others → IsRun is_ascii_digit word rest → number_from 0 word < 2 ^ 63 → IsWord os l at kind word rest t
+  number : kind ≡ k.Number → t ≡ turn.Stays → (first : ℕ) (others : List ℕ) → word ≡ first ∷ others
+      → IsRun is_ascii_digit word rest → number_from 0 word < 2 ^ 63 → IsWord os l at kind word rest t
   -- the first line's end behind a token
   newline : kind ≡ k.Newline → t ≡ turn.Stays → l ≢ line.Folded → IsLineEnd word → IsWord os l at kind word rest t
   -- a text without interpolation, or its first, a middle or its last piece
-  text : kind ≡ k.Text → t ≡ turn.Stays → (inside : List ℕ) → word ≡ 39 ∷ (inside ++ 39 ∷ []) → IsInside false inside (39 ∷ rest) → quotes 3 (word ++ rest) == 3 ≡ false → IsWord os l at kind word rest t
-  left : kind ≡ k.LeftPiece → t ≡ turn.Opens (opened.Text at) → (inside : List ℕ) → word ≡ 39 ∷ (inside ++ 36 ∷ 123 ∷ []) → IsInside false inside (36 ∷ 123 ∷ rest) → quotes 3 (word ++ rest) == 3 ≡ false → IsWord os l at kind word rest t
-  middle : kind ≡ k.MiddlePiece → t ≡ turn.Stays → (quote : ℕ) → innermost os ≡ Some (opened.Text quote) → (inside : List ℕ) → word ≡ 125 ∷ (inside ++ 36 ∷ 123 ∷ []) → IsInside false inside (36 ∷ 123 ∷ rest) → IsWord os l at kind word rest t
-  right : kind ≡ k.RightPiece → t ≡ turn.Closes → (quote : ℕ) → innermost os ≡ Some (opened.Text quote) → (inside : List ℕ) → word ≡ 125 ∷ (inside ++ 39 ∷ []) → IsInside false inside (39 ∷ rest) → IsWord os l at kind word rest t
+  text : kind ≡ k.Text → t ≡ turn.Stays → (inside : List ℕ) → word ≡ 39 ∷ (inside ++ 39 ∷ [])
+      → IsInside false inside (39 ∷ rest) → quotes 3 (word ++ rest) == 3 ≡ false → IsWord os l at kind word rest t
+  left : kind ≡ k.LeftPiece → t ≡ turn.Opens (opened.Text at) → (inside : List ℕ)
+      → word ≡ 39 ∷ (inside ++ 36 ∷ 123 ∷ []) → IsInside false inside (36 ∷ 123 ∷ rest)
+      → quotes 3 (word ++ rest) == 3 ≡ false → IsWord os l at kind word rest t
+  middle : kind ≡ k.MiddlePiece → t ≡ turn.Stays → (quote : ℕ) → innermost os ≡ Some (opened.Text quote)
+      → (inside : List ℕ) → word ≡ 125 ∷ (inside ++ 36 ∷ 123 ∷ []) → IsInside false inside (36 ∷ 123 ∷ rest)
+      → IsWord os l at kind word rest t
+  right : kind ≡ k.RightPiece → t ≡ turn.Closes → (quote : ℕ) → innermost os ≡ Some (opened.Text quote)
+      → (inside : List ℕ) → word ≡ 125 ∷ (inside ++ 39 ∷ []) → IsInside false inside (39 ∷ rest)
+      → IsWord os l at kind word rest t
   -- three quotes, no three quotes, and then three to five of them, as many as there are
-  verbatim : kind ≡ k.VerbatimText → t ≡ turn.Stays → (inside closing : List ℕ) → word ≡ 39 ∷ 39 ∷ 39 ∷ (inside ++ closing) → Throughout three_quotes false inside (closing ++ rest) → length closing ≡ quotes 5 (closing ++ rest) → 3 ≤ length closing → IsWord os l at kind word rest t
+  verbatim : kind ≡ k.VerbatimText → t ≡ turn.Stays → (inside closing : List ℕ)
+      → word ≡ 39 ∷ 39 ∷ 39 ∷ (inside ++ closing) → Throughout three_quotes false inside (closing ++ rest)
+      → length closing ≡ quotes 5 (closing ++ rest) → 3 ≤ length closing → IsWord os l at kind word rest t
   -- a brace; a `}` where a text was opened last is none
   open_brace : kind ≡ k.OpenBrace → t ≡ turn.Opens opened.Brace → word ≡ 123 ∷ [] → IsWord os l at kind word rest t
-  close_brace : kind ≡ k.CloseBrace → t ≡ turn.Closes → innermost os ≡ Some opened.Brace → word ≡ 125 ∷ [] → IsWord os l at kind word rest t
-  lone_brace : kind ≡ k.CloseBrace → t ≡ turn.Stays → innermost os ≡ None → word ≡ 125 ∷ [] → IsWord os l at kind word rest t
+  close_brace : kind ≡ k.CloseBrace → t ≡ turn.Closes → innermost os ≡ Some opened.Brace → word ≡ 125 ∷ []
+      → IsWord os l at kind word rest t
+  lone_brace : kind ≡ k.CloseBrace → t ≡ turn.Stays → innermost os ≡ None → word ≡ 125 ∷ []
+      → IsWord os l at kind word rest t
   -- a mark of two bytes, or of one that makes none with the next and begins no comment
-  double : t ≡ turn.Stays → (first second : ℕ) → word ≡ first ∷ second ∷ [] → double_mark first second ≡ Some kind → IsWord os l at kind word rest t
-  single : t ≡ turn.Stays → (first : ℕ) → word ≡ first ∷ [] → single_mark first ≡ Some kind → makes_double first rest ≡ false → opens_comment 47 (first ∷ rest) ≡ false → opens_comment 42 (first ∷ rest) ≡ false → IsWord os l at kind word rest t
+  double : t ≡ turn.Stays → (first second : ℕ) → word ≡ first ∷ second ∷ [] → double_mark first second ≡ Some kind
+      → IsWord os l at kind word rest t
+  single : t ≡ turn.Stays → (first : ℕ) → word ≡ first ∷ [] → single_mark first ≡ Some kind
+      → makes_double first rest ≡ false → opens_comment 47 (first ∷ rest) ≡ false
+      → opens_comment 42 (first ∷ rest) ≡ false → IsWord os l at kind word rest t
 
 -- What is skipped before the rest, and what then stands on the line.
 pub data IsSkipped (l : Line) (word rest : List ℕ) (next : Line) : Type 0 where
@@ -91,9 +108,12 @@ pub data IsSkipped (l : Line) (word rest : List ℕ) (next : Line) : Type 0 wher
   -- `//` and the rest of the line
   line_comment : next ≡ l → (others : List ℕ) → word ≡ 47 ∷ 47 ∷ others → IsLine word rest → IsSkipped l word rest next
   -- `/*` up to the first `*/`
-  comment : (inside : List ℕ) → next ≡ behind_comment l (inside ++ 42 ∷ 47 ∷ []) → word ≡ 47 ∷ 42 ∷ (inside ++ 42 ∷ 47 ∷ []) → Throughout closes_comment false inside (42 ∷ 47 ∷ rest) → IsSkipped l word rest next
+  comment : (inside : List ℕ) → next ≡ behind_comment l (inside ++ 42 ∷ 47 ∷ [])
+      → word ≡ 47 ∷ 42 ∷ (inside ++ 42 ∷ 47 ∷ []) → Throughout closes_comment false inside (42 ∷ 47 ∷ rest)
+      → IsSkipped l word rest next
   -- a line whose first mark is `#disable-next-line`
-  directive : next ≡ l → l ≢ line.Within → (others : List ℕ) → word ≡ 35 ∷ others → is_directive (word ++ rest) ≡ true → IsLine word rest → IsSkipped l word rest next
+  directive : next ≡ l → l ≢ line.Within → (others : List ℕ) → word ≡ 35 ∷ others → is_directive (word ++ rest) ≡ true
+      → IsLine word rest → IsSkipped l word rest next
   -- a line's end behind another
   folded : next ≡ line.Folded → l ≡ line.Folded → IsLineEnd word → IsSkipped l word rest next
 
@@ -125,10 +145,12 @@ InARow Then rest os l at [] = Then os l at
 InARow Then rest os l at (skip word next ∷ ps) =
     IsSkipped l word (bytes_of ps rest) next × InARow Then rest os next (at + length word) ps
 InARow Then rest os l at (token kind word t ∷ ps) =
-    IsWord os l at kind word (bytes_of ps rest) t × InARow Then rest (turned t os) (behind_token kind) (at + length word) ps
+    IsWord os l at kind word (bytes_of ps rest) t
+    × InARow Then rest (turned t os) (behind_token kind) (at + length word) ps
 
 -- The source, below a byte order mark, is parts in a row, the rest, and of the place between them this holds.
-pub record StandsBefore (source rest : List ℕ) (mark : List ℕ) (ps : List Part) (Then : List Open → Line → ℕ → Type 0) : Type 0 where
+pub record StandsBefore (source rest : List ℕ) (mark : List ℕ) (ps : List Part) (Then : List Open → Line → ℕ
+    → Type 0) : Type 0 where
   pub is : source ≡ mark ++ bytes_of ps rest
   pub is_mark : length mark ≡ mark_length source
   pub row : InARow Then rest [] line.Front (length mark) ps
@@ -140,9 +162,11 @@ NoneIsOpen os l at = outermost os ≡ None
 -- the source is parts in a row with these tokens, and no text is open at its end
 abbrev pub Spells : List ℕ → List Standing → Type 0
 Spells source tokens =
-    (mark : List ℕ) × (ps : List Part) × StandsBefore source [] mark ps NoneIsOpen × (tokens ≡ tokens_of (length mark) ps)
+    (mark : List ℕ) × (ps : List Part) × StandsBefore source [] mark ps NoneIsOpen
+    × (tokens ≡ tokens_of (length mark) ps)
 
 -- each token is the slice of the source at its place, none is empty, and each begins behind the one before
 abbrev pub AreSlices : List ℕ → ℕ → List Standing → Type 0
 AreSlices source from [] = Unit {0}
-AreSlices source from (t ∷ ts) = (from ≤ t.1) × (0 < length t.2) × (t.2 ≡ take (length t.2) (drop t.1 source)) × AreSlices source (t.1 + length t.2) ts
+AreSlices source from (t ∷ ts) = (from ≤ t.1) × (0 < length t.2) × (t.2 ≡ take (length t.2) (drop t.1 source))
+    × AreSlices source (t.1 + length t.2) ts

@@ -1,5 +1,6 @@
 -- The reading of a source: its tokens, or its first fault.
-use Rattle.std.specs.Prelude.{ℕ, zero, suc, ◌+◌, ◌-◌, List, [], ◌∷◌, ◌++◌, length, take, Option, Some, None, Result, Ok, Err, if◌then◌else◌, nat_eq}
+use Rattle.std.specs.Prelude.{ℕ, zero, suc, ◌+◌, ◌-◌, List, [], ◌∷◌, ◌++◌, length, take, Option, Some, None, Result}
+use Rattle.std.specs.Prelude.{Ok, Err, if◌then◌else◌, nat_eq}
 use Rattle.std.specs.List.{starts_with}
 use Rattle.bicep_lexer.specs.declared.kind.TokenKind.{TokenKind}
 use Rattle.bicep_lexer.specs.declared.kind.TokenKind.TheVariants as k
@@ -42,7 +43,8 @@ abbrev pub follow : ℕ → List Open → List ℕ → Result Front LexFault →
 follow at os bytes (Err f) rest = Err f
 follow at os bytes (Ok (front.Skipped n l)) rest = rest (n - 1) os l
 follow at os bytes (Ok (front.Newline n)) rest = before (k.Newline, at, take n bytes) (rest (n - 1) os line.Folded)
-follow at os bytes (Ok (front.Word kind n t)) rest = before (kind, at, take n bytes) (rest (n - 1) (turned t os) line.Within)
+follow at os bytes (Ok (front.Word kind n t)) rest =
+    before (kind, at, take n bytes) (rest (n - 1) (turned t os) line.Within)
 
 -- at the end no text may be open
 abbrev pub ended_by : Option ℕ → Outcome
@@ -55,7 +57,8 @@ ended os = ended_by (outermost os)
 -- the reading of what is left at `at`, behind the first so many bytes
 abbrev pub reading_from : ℕ → ℕ → List Open → Line → List ℕ → Outcome
 reading_from n at os l [] = ended os
-reading_from zero at os l (b ∷ bs) = follow at os (b ∷ bs) (front_of at os l (b ∷ bs)) (λ n os' l'. reading_from n (at + 1) os' l' bs)
+reading_from zero at os l (b ∷ bs) =
+    follow at os (b ∷ bs) (front_of at os l (b ∷ bs)) (λ n os' l'. reading_from n (at + 1) os' l' bs)
 reading_from (suc n) at os l (b ∷ bs) = reading_from n (at + 1) os l bs
 
 -- the bytes of a byte order mark at the front

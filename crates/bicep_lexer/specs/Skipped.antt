@@ -1,5 +1,6 @@
 -- Line's ends, and what is skipped.
-use Rattle.std.specs.Prelude.{ℕ, suc, Bool, false, ◌==◌, ◌&&◌, ◌||◌, not, List, [], ◌∷◌, drop, Option, Some, None, option_map, if◌then◌else◌, nat_eq, codes}
+use Rattle.std.specs.Prelude.{ℕ, suc, Bool, false, ◌==◌, ◌&&◌, ◌||◌, not, List, [], ◌∷◌, drop, Option, Some, None}
+use Rattle.std.specs.Prelude.{option_map, if◌then◌else◌, nat_eq, codes}
 use Rattle.std.specs.List.{list_any, starts_with}
 use Rattle.bicep_lexer.specs.Bytes.{is_name_byte, begins_with}
 use Rattle.bicep_lexer.specs.declared.front.Line.{Line}

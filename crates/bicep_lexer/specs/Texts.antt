@@ -1,5 +1,6 @@
 -- How texts end.
-use Rattle.std.specs.Prelude.{ℕ, suc, ◌+◌, Bool, true, false, ◌==◌, ◌&&◌, ◌||◌, nat_le, List, [], ◌∷◌, length, take, take_while, Option, Some, None, option_map, if◌then◌else◌}
+use Rattle.std.specs.Prelude.{ℕ, suc, ◌+◌, Bool, true, false, ◌==◌, ◌&&◌, ◌||◌, nat_le, List, [], ◌∷◌, length, take}
+use Rattle.std.specs.Prelude.{take_while, Option, Some, None, option_map, if◌then◌else◌}
 use Rattle.bicep_lexer.specs.Bytes.{begins_with}
 use Rattle.bicep_lexer.specs.Escapes.{is_escape}
 use Rattle.bicep_lexer.specs.declared.texts.PieceEnd.{PieceEnd}
@@ -48,4 +49,5 @@ quotes most bytes = length (take_while (λ b. b == 39) (take most bytes))
 -- or none where it is open
 abbrev pub verbatim_length : List ℕ → Option ℕ
 verbatim_length [] = None
-verbatim_length (b ∷ bs) = if nat_le 3 (quotes 5 (b ∷ bs)) then Some (quotes 5 (b ∷ bs)) else option_map suc (verbatim_length bs)
+verbatim_length (b ∷ bs) = if nat_le 3 (quotes 5 (b ∷ bs)) then Some (quotes 5 (b ∷ bs))
+    else option_map suc (verbatim_length bs)

@@ -1,5 +1,6 @@
 -- What the tokens of texts mean.
-use Rattle.std.specs.Prelude.{ℕ, ◌+◌, ◌*◌, ◌-◌, min, ◌==◌, List, [], ◌∷◌, ◌++◌, length, take, drop, Option, Some, None, unwrap_or, if◌then◌else◌}
+use Rattle.std.specs.Prelude.{ℕ, ◌+◌, ◌*◌, ◌-◌, min, ◌==◌, List, [], ◌∷◌, ◌++◌, length, take, drop, Option, Some}
+use Rattle.std.specs.Prelude.{None, unwrap_or, if◌then◌else◌}
 use Rattle.bicep_lexer.specs.declared.kind.TokenKind.{TokenKind}
 use Rattle.bicep_lexer.specs.declared.kind.TokenKind.TheVariants as k
 use Rattle.bicep_lexer.specs.declared.value.Mode.{Mode}

@@ -1,5 +1,6 @@
 -- What the answer to a file says of it.
-use Rattle.std.proofs.Common.{◌≡◌, List, map, Bool, true, false, Option, Some, None, option_and_then, cond, refl, sym, ap, ◌∙◌, subst}
+use Rattle.std.proofs.Common.{◌≡◌, List, map, Bool, true, false, Option, Some, None, option_and_then, cond, refl, sym}
+use Rattle.std.proofs.Common.{ap, ◌∙◌, subst}
 use Rattle.std.specs.List.{AllByRecursion}
 use Rattle.bicep_tree.specs.Tree.{FileTree}
 use Rattle.literal_template.specs.Resources.{IsLiteral}
@@ -15,7 +16,8 @@ use Rattle.bicep_literal.proofs.LiteralLemmas.{are_literal}
 pub declared_sound : (f : FileTree) (rs : List Resource) → declared f ≡ Some rs → TreeDeclares f rs
 declared_sound f rs h = by (read f) refl h
   where
-    proper : (es : List Entry) (b : Bool) → read f ≡ Some es → are_proper es ≡ b → cond b (Some (map (λ e. e.resource) es)) None ≡ Some rs → TreeDeclares f rs
+    proper : (es : List Entry) (b : Bool) → read f ≡ Some es → are_proper es ≡ b
+        → cond b (Some (map (λ e. e.resource) es)) None ≡ Some rs → TreeDeclares f rs
     proper es true e p g =
         let r = file.sound f es e in
         let same : map resource_in es ≡ rs = cc in
@@ -32,7 +34,8 @@ declared_complete f rs h =
     let t = entries_enter h.0 rs d.each in
     let es = entries h.0 rs in
     let p : are_proper es ≡ true = proper_complete h.0 es t.0 (subst (FileDeclares h.0) (sym t.1) d) in
-    ap (option_and_then kept) (file.complete f h.0 es h.1 t.0) ∙ ap (λ b. cond b (Some (map resource_in es)) None) p ∙ ap Some t.1
+    ap (option_and_then kept) (file.complete f h.0 es h.1 t.0) ∙ ap (λ b. cond b (Some (map resource_in es)) None) p
+    ∙ ap Some t.1
 
 pub declared_literal : (f : FileTree) (rs : List Resource) → declared f ≡ Some rs → AllByRecursion IsLiteral rs
 declared_literal f rs h = let r = declared_sound f rs h in are_literal r.0 rs r.2.each

@@ -1,5 +1,6 @@
 -- Which resources may stand in one file.
-use Rattle.std.proofs.Common.{◌≡◌, ◌≢◌, ◌≤◌, ℕ, List, [], ◌∷◌, ◌++◌, length, map, Bool, true, false, true≢false, not, ◌&&◌, ◌||◌, nat_le, bytes_eq, refl, sym, ap, ap₂, ◌∙◌, arith, subst}
+use Rattle.std.proofs.Common.{◌≡◌, ◌≢◌, ◌≤◌, ℕ, List, [], ◌∷◌, ◌++◌, length, map, Bool, true, false, true≢false, not}
+use Rattle.std.proofs.Common.{◌&&◌, ◌||◌, nat_le, bytes_eq, refl, sym, ap, ap₂, ◌∙◌, arith, subst}
 use Rattle.std.specs.List.{AllByRecursion, list_any}
 use Rattle.arm_value.specs.Look.{fold, is_same_folded}
 use Rattle.literal_template.specs.declared.resource.Resource.{Resource}
@@ -42,11 +43,13 @@ all_none : {A : Type 0} (q : A → Bool) (xs : List A) → AllByRecursion (λ x.
 all_none q [] h = refl
 all_none q (x ∷ xs) h = rw h.0 (all_none q xs h.1)
 
-all_in_map : {A B : Type 0} (P : B → Type 0) (f : A → B) (xs : List A) → AllByRecursion (λ x. P (f x)) xs → AllByRecursion P (map f xs)
+all_in_map : {A B : Type 0} (P : B → Type 0) (f : A → B) (xs : List A) → AllByRecursion (λ x. P (f x)) xs
+    → AllByRecursion P (map f xs)
 all_in_map P f [] h = tt
 all_in_map P f (x ∷ xs) h = (h.0, all_in_map P f xs h.1)
 
-all_from_map : {A B : Type 0} (P : B → Type 0) (f : A → B) (xs : List A) → AllByRecursion P (map f xs) → AllByRecursion (λ x. P (f x)) xs
+all_from_map : {A B : Type 0} (P : B → Type 0) (f : A → B) (xs : List A) → AllByRecursion P (map f xs)
+    → AllByRecursion (λ x. P (f x)) xs
 all_from_map P f [] h = tt
 all_from_map P f (x ∷ xs) h = (h.0, all_from_map P f xs h.1)
 
@@ -72,8 +75,12 @@ pair_of x y = (x, y)
 
 pairs_apart : (a b : Entry) → kind_and_name a.resource ≢ kind_and_name b.resource → is_same_key a b ≡ false
 pairs_apart a b ne =
-    unless _ (λ e. let p = and_parts (is_same_folded a.resource.kind b.resource.kind) (is_same_folded a.resource.name b.resource.name) e in
-    ne (ap₂ pair_of (eq_word (fold a.resource.kind) (fold b.resource.kind) p.0) (eq_word (fold a.resource.name) (fold b.resource.name) p.1)))
+    unless _ (λ e. let p =
+    and_parts (is_same_folded a.resource.kind b.resource.kind) (is_same_folded a.resource.name b.resource.name) e
+    in
+    ne
+    (ap₂ pair_of (eq_word (fold a.resource.kind) (fold b.resource.kind) p.0)
+    (eq_word (fold a.resource.name) (fold b.resource.name) p.1)))
 
 nor : (a b : Bool) → a ≡ false → b ≡ false → (a || b) ≡ false
 nor a b p q = rw p q
@@ -91,25 +98,42 @@ apart_sound (e ∷ es) h =
     let each = none_all (clash e) es (not_true (list_any (clash e) es) a.0) in
     let r = apart_sound es a.1 in
     record {
-      symbols = (all_in_map (λ o. fold e.symbol ≢ o) folded_symbol es (all_map (λ x. clash e x ≡ false) (λ x. fold e.symbol ≢ fold x.symbol) es (λ x c. ne_word (fold e.symbol) (fold x.symbol) (or_parts (is_same_symbol e x) (is_same_key e x) c).0) each), r.symbols);
-      keys = (all_in_map (λ o. kind_and_name e.resource ≢ kind_and_name o) resource_in es (all_map (λ x. clash e x ≡ false) (λ x. kind_and_name e.resource ≢ kind_and_name x.resource) es (λ x c. keys_apart e x (or_parts (is_same_symbol e x) (is_same_key e x) c).1) each), r.keys);
+      symbols = (
+        all_in_map (λ o. fold e.symbol ≢ o) folded_symbol es
+            (all_map (λ x. clash e x ≡ false) (λ x. fold e.symbol ≢ fold x.symbol) es
+            (λ x c. ne_word (fold e.symbol) (fold x.symbol) (or_parts (is_same_symbol e x) (is_same_key e x) c).0)
+            each),
+        r.symbols,
+      );
+      keys = (
+        all_in_map (λ o. kind_and_name e.resource ≢ kind_and_name o) resource_in es
+            (all_map (λ x. clash e x ≡ false) (λ x. kind_and_name e.resource ≢ kind_and_name x.resource) es
+            (λ x c. keys_apart e x (or_parts (is_same_symbol e x) (is_same_key e x) c).1) each),
+        r.keys,
+      );
     }
 
-both_apart : (e : Entry) (es : List Entry) → AllByRecursion (λ x. fold e.symbol ≢ fold x.symbol) es → AllByRecursion (λ x. kind_and_name e.resource ≢ kind_and_name x.resource) es → AllByRecursion (λ x. clash e x ≡ false) es
+both_apart : (e : Entry) (es : List Entry) → AllByRecursion (λ x. fold e.symbol ≢ fold x.symbol) es
+    → AllByRecursion (λ x. kind_and_name e.resource ≢ kind_and_name x.resource) es
+    → AllByRecursion (λ x. clash e x ≡ false) es
 both_apart e [] h g = tt
-both_apart e (x ∷ es) h g =
-    (nor (is_same_symbol e x) (is_same_key e x) (word_ne (fold e.symbol) (fold x.symbol) h.0) (pairs_apart e x g.0), both_apart e es h.1 g.1)
+both_apart e (x ∷ es) h g = (
+  nor (is_same_symbol e x) (is_same_key e x) (word_ne (fold e.symbol) (fold x.symbol) h.0) (pairs_apart e x g.0),
+  both_apart e es h.1 g.1,
+)
 
 apart_complete : (es : List Entry) → Apart es → are_apart es ≡ true
 apart_complete [] a = refl
 apart_complete (e ∷ es) a =
     let symbols = all_from_map (λ o. fold e.symbol ≢ o) folded_symbol es a.symbols.0 in
     let keys = all_from_map (λ o. kind_and_name e.resource ≢ kind_and_name o) resource_in es a.keys.0 in
-    rw (all_none (clash e) es (both_apart e es symbols keys)) (apart_complete es (record { symbols = a.symbols.1; keys = a.keys.1 }))
+    rw (all_none (clash e) es (both_apart e es symbols keys))
+    (apart_complete es (record { symbols = a.symbols.1; keys = a.keys.1 }))
 
 -- ---- no symbol is taken
 
-differ_front : (xs ys : List (List ℕ)) → Differ (xs ++ ys) → AllByRecursion (λ x. AllByRecursion (λ y. x ≢ y) ys) xs × Differ ys
+differ_front : (xs ys : List (List ℕ)) → Differ (xs ++ ys) → AllByRecursion (λ x. AllByRecursion (λ y. x ≢ y) ys) xs
+    × Differ ys
 differ_front [] ys h = (tt, h)
 differ_front (x ∷ xs) ys h = let r = differ_front xs ys h.1 in ((all_back (λ y. x ≢ y) xs ys h.0, r.0), r.1)
   where
@@ -117,11 +141,13 @@ differ_front (x ∷ xs) ys h = let r = differ_front xs ys h.1 in ((all_back (λ 
     all_back P [] ys h = h
     all_back P (x ∷ xs) ys h = all_back P xs ys h.1
 
-all_append : (P : List ℕ → Type 0) (xs ys : List (List ℕ)) → AllByRecursion P xs → AllByRecursion P ys → AllByRecursion P (xs ++ ys)
+all_append : (P : List ℕ → Type 0) (xs ys : List (List ℕ)) → AllByRecursion P xs → AllByRecursion P ys
+    → AllByRecursion P (xs ++ ys)
 all_append P [] ys h g = g
 all_append P (x ∷ xs) ys h g = (h.0, all_append P xs ys h.1 g)
 
-differ_append : (xs ys : List (List ℕ)) → Differ xs → Differ ys → AllByRecursion (λ x. AllByRecursion (λ y. x ≢ y) ys) xs → Differ (xs ++ ys)
+differ_append : (xs ys : List (List ℕ)) → Differ xs → Differ ys
+    → AllByRecursion (λ x. AllByRecursion (λ y. x ≢ y) ys) xs → Differ (xs ++ ys)
 differ_append [] ys h g a = g
 differ_append (x ∷ xs) ys h g a = (all_append (λ y. x ≢ y) xs ys h.0 a.0, differ_append xs ys h.1 g a.1)
 
@@ -133,8 +159,11 @@ differ_by_test : (xs : List (List ℕ)) → are_differing xs ≡ true → Differ
 unfolding are_differing
 differ_by_test [] h = tt
 differ_by_test (x ∷ xs) h =
-    let a = and_parts (not (list_any (bytes_eq x) xs)) (are_differing xs) h in
-    (all_map (λ y. bytes_eq x y ≡ false) (λ y. x ≢ y) xs (λ y e. ne_word x y e) (none_all (bytes_eq x) xs (not_true (list_any (bytes_eq x) xs) a.0)), differ_by_test xs a.1)
+    let a = and_parts (not (list_any (bytes_eq x) xs)) (are_differing xs) h in (
+      all_map (λ y. bytes_eq x y ≡ false) (λ y. x ≢ y) xs (λ y e. ne_word x y e)
+          (none_all (bytes_eq x) xs (not_true (list_any (bytes_eq x) xs) a.0)),
+      differ_by_test xs a.1,
+    )
 
 taken_differ : Differ taken
 unfolding are_differing
@@ -150,14 +179,21 @@ turned xs ys ne e = ne (sym e)
 abbrev is_word_of : List (List ℕ) → List ℕ → Bool
 is_word_of ws s = list_any (λ w. is_same_folded s w) ws
 
-words_apart : (ws : List (List ℕ)) (es : List Entry) → AllByRecursion (λ e. is_word_of ws e.symbol ≡ false) es → AllByRecursion (λ x. AllByRecursion (λ y. x ≢ y) (map folded_symbol es)) (map fold ws)
+words_apart : (ws : List (List ℕ)) (es : List Entry) → AllByRecursion (λ e. is_word_of ws e.symbol ≡ false) es
+    → AllByRecursion (λ x. AllByRecursion (λ y. x ≢ y) (map folded_symbol es)) (map fold ws)
 words_apart [] es h = tt
 words_apart (w ∷ ws) es h = (
-  all_in_map (λ y. fold w ≢ y) folded_symbol es (all_map (λ e. is_word_of (w ∷ ws) e.symbol ≡ false) (λ e. fold w ≢ fold e.symbol) es (λ e c. turned (fold e.symbol) (fold w) (ne_word (fold e.symbol) (fold w) (or_parts (is_same_folded e.symbol w) (is_word_of ws e.symbol) c).0)) h),
-  words_apart ws es (all_map (λ e. is_word_of (w ∷ ws) e.symbol ≡ false) (λ e. is_word_of ws e.symbol ≡ false) es (λ e c. (or_parts (is_same_folded e.symbol w) (is_word_of ws e.symbol) c).1) h),
+  all_in_map (λ y. fold w ≢ y) folded_symbol es
+      (all_map (λ e. is_word_of (w ∷ ws) e.symbol ≡ false) (λ e. fold w ≢ fold e.symbol) es
+      (λ e c. turned (fold e.symbol) (fold w)
+      (ne_word (fold e.symbol) (fold w) (or_parts (is_same_folded e.symbol w) (is_word_of ws e.symbol) c).0)) h),
+  words_apart ws es (all_map (λ e. is_word_of (w ∷ ws) e.symbol ≡ false) (λ e. is_word_of ws e.symbol ≡ false) es
+      (λ e c. (or_parts (is_same_folded e.symbol w) (is_word_of ws e.symbol) c).1) h),
 )
 
-apart_words : (ws : List (List ℕ)) (es : List Entry) → AllByRecursion (λ x. AllByRecursion (λ y. x ≢ y) (map folded_symbol es)) (map fold ws) → AllByRecursion (λ e. is_word_of ws e.symbol ≡ false) es
+apart_words : (ws : List (List ℕ)) (es : List Entry)
+    → AllByRecursion (λ x. AllByRecursion (λ y. x ≢ y) (map folded_symbol es)) (map fold ws)
+    → AllByRecursion (λ e. is_word_of ws e.symbol ≡ false) es
 apart_words [] es h = none es
   where
     none : (es : List Entry) → AllByRecursion (λ e. false ≡ false) es
@@ -165,17 +201,29 @@ apart_words [] es h = none es
     none (e ∷ es) = (refl, none es)
 apart_words (w ∷ ws) es h = both es (all_from_map (λ y. fold w ≢ y) folded_symbol es h.0) (apart_words ws es h.1)
   where
-    both : (es : List Entry) → AllByRecursion (λ e. fold w ≢ fold e.symbol) es → AllByRecursion (λ e. is_word_of ws e.symbol ≡ false) es → AllByRecursion (λ e. is_word_of (w ∷ ws) e.symbol ≡ false) es
+    both : (es : List Entry) → AllByRecursion (λ e. fold w ≢ fold e.symbol) es
+        → AllByRecursion (λ e. is_word_of ws e.symbol ≡ false) es
+        → AllByRecursion (λ e. is_word_of (w ∷ ws) e.symbol ≡ false) es
     both [] h g = tt
-    both (e ∷ es) h g = (nor (is_same_folded e.symbol w) (is_word_of ws e.symbol) (word_ne (fold e.symbol) (fold w) (turned (fold w) (fold e.symbol) h.0)) g.0, both es h.1 g.1)
+    both (e ∷ es) h g = (
+      nor (is_same_folded e.symbol w) (is_word_of ws e.symbol)
+          (word_ne (fold e.symbol) (fold w) (turned (fold w) (fold e.symbol) h.0)) g.0,
+      both es h.1 g.1,
+    )
 
-none_taken : (es : List Entry) → list_any (λ e. is_taken e.symbol) es ≡ false → AllByRecursion (λ x. AllByRecursion (λ y. x ≢ y) (map folded_symbol es)) taken
+none_taken : (es : List Entry) → list_any (λ e. is_taken e.symbol) es ≡ false
+    → AllByRecursion (λ x. AllByRecursion (λ y. x ≢ y) (map folded_symbol es)) taken
 unfolding is_taken
-none_taken es h = subst (λ ws. AllByRecursion (λ x. AllByRecursion (λ y. x ≢ y) (map folded_symbol es)) ws) taken_folded (words_apart taken es (none_all (λ e. is_word_of taken e.symbol) es h))
+none_taken es h = subst (λ ws. AllByRecursion (λ x. AllByRecursion (λ y. x ≢ y) (map folded_symbol es)) ws)
+    taken_folded (words_apart taken es (none_all (λ e. is_word_of taken e.symbol) es h))
 
-taken_none : (es : List Entry) → AllByRecursion (λ x. AllByRecursion (λ y. x ≢ y) (map folded_symbol es)) taken → list_any (λ e. is_taken e.symbol) es ≡ false
+taken_none : (es : List Entry) → AllByRecursion (λ x. AllByRecursion (λ y. x ≢ y) (map folded_symbol es)) taken
+    → list_any (λ e. is_taken e.symbol) es ≡ false
 unfolding is_taken
-taken_none es h = all_none (λ e. is_word_of taken e.symbol) es (apart_words taken es (subst (λ ws. AllByRecursion (λ x. AllByRecursion (λ y. x ≢ y) (map folded_symbol es)) ws) (sym taken_folded) h))
+taken_none es h =
+    all_none (λ e. is_word_of taken e.symbol) es
+    (apart_words taken es (subst (λ ws. AllByRecursion (λ x. AllByRecursion (λ y. x ≢ y) (map folded_symbol es)) ws)
+    (sym taken_folded) h))
 
 -- ---- of the declarations
 
@@ -192,7 +240,8 @@ declare_each (d ∷ ds) [] h = absurd h
 declare_each (d ∷ ds) (e ∷ es) h = (h.0.1, declare_each ds es h.1)
 
 -- entries that may stand together are those of a file
-pub proper_sound : (ds : List Declaration) (es : List Entry) → EnterEach ds es → are_proper es ≡ true → FileDeclares ds (map resource_in es)
+pub proper_sound : (ds : List Declaration) (es : List Entry) → EnterEach ds es → are_proper es ≡ true
+    → FileDeclares ds (map resource_in es)
 unfolding are_proper
 proper_sound ds es h p =
     let a = and_parts (nat_le (length es) 800) (not (list_any (λ e. is_taken e.symbol) es) && are_apart es) p in
@@ -202,15 +251,21 @@ proper_sound ds es h p =
     let m = map_length resource_in es in
     record {
       each = declare_each ds es h;
-      symbols = subst (λ ss. Differ (taken ++ ss)) (symbols_are ds es h) (differ_append taken (map folded_symbol es) taken_differ c.symbols (none_taken es (not_true (list_any (λ e. is_taken e.symbol) es) b.0)));
+      symbols =
+          subst (λ ss. Differ (taken ++ ss)) (symbols_are ds es h)
+          (differ_append taken (map folded_symbol es) taken_differ c.symbols
+          (none_taken es (not_true (list_any (λ e. is_taken e.symbol) es) b.0)));
       keys = c.keys;
       few = omega arith;
     }
 
-pub proper_complete : (ds : List Declaration) (es : List Entry) → EnterEach ds es → FileDeclares ds (map resource_in es) → are_proper es ≡ true
+pub proper_complete : (ds : List Declaration) (es : List Entry) → EnterEach ds es
+    → FileDeclares ds (map resource_in es) → are_proper es ≡ true
 unfolding are_proper
 proper_complete ds es h f =
-    let s = differ_front taken (map folded_symbol es) (subst (λ ss. Differ (taken ++ ss)) (sym (symbols_are ds es h)) f.symbols) in
+    let s =
+    differ_front taken (map folded_symbol es)
+    (subst (λ ss. Differ (taken ++ ss)) (sym (symbols_are ds es h)) f.symbols) in
     let m = map_length resource_in es in
     let few = f.few in
     let n : length es ≤ 800 = omega arith in
@@ -223,7 +278,8 @@ entries [] rs = []
 entries (d ∷ ds) [] = []
 entries (d ∷ ds) (r ∷ rs) = record { symbol = d.symbol; resource = r } ∷ entries ds rs
 
-pub entries_enter : (ds : List Declaration) (rs : List Resource) → DeclareEach ds rs → EnterEach ds (entries ds rs) × (map resource_in (entries ds rs) ≡ rs)
+pub entries_enter : (ds : List Declaration) (rs : List Resource) → DeclareEach ds rs → EnterEach ds (entries ds rs)
+    × (map resource_in (entries ds rs) ≡ rs)
 entries_enter [] [] h = (tt, refl)
 entries_enter [] (r ∷ rs) h = absurd h
 entries_enter (d ∷ ds) [] h = absurd h

@@ -1,5 +1,6 @@
 -- Texts at their first `@`, in bytes and in characters.
-use Rattle.std.proofs.Common.{◌≡◌, ◌≢◌, ◌<◌, ◌+◌, ◌==◌, ℕ, zero, suc, Bool, true, false, List, [], ◌∷◌, ◌++◌, length, get_or, Option, Some, None, subst, refl, ap, sym, ◌∙◌, lit<, arith, length-append}
+use Rattle.std.proofs.Common.{◌≡◌, ◌≢◌, ◌<◌, ◌+◌, ◌==◌, ℕ, zero, suc, Bool, true, false, List, [], ◌∷◌, ◌++◌, length}
+use Rattle.std.proofs.Common.{get_or, Option, Some, None, subst, refl, ap, sym, ◌∙◌, lit<, arith, length-append}
 use Rattle.std.specs.Str.{chars, IsUtf8, IsAscii}
 use Rattle.std.proofs.lemmas.Str.{chars-append, chars-IsAscii, encodes-chars, encode_ascii, IsUtf8-from_ascii}
 use Rattle.std.proofs.lemmas.Bool.Decides.{nat_tests}
@@ -47,15 +48,19 @@ pub divided_here : (xs ys : List ℕ) → divided xs ≡ None → divided (xs ++
 divided_here [] ys h = refl
 divided_here (x ∷ xs) ys h = by (x == 64) (divided xs) refl refl h (divided_here xs ys)
   where
-    by : (b : Bool) (o : Option (List ℕ × List ℕ)) → (x == 64) ≡ b → divided xs ≡ o → divided (x ∷ xs) ≡ None → (divided xs ≡ None → divided (xs ++ 64 ∷ ys) ≡ Some (xs, ys)) → divided (x ∷ (xs ++ 64 ∷ ys)) ≡ Some (x ∷ xs, ys)
+    by : (b : Bool) (o : Option (List ℕ × List ℕ)) → (x == 64) ≡ b → divided xs ≡ o → divided (x ∷ xs) ≡ None
+        → (divided xs ≡ None → divided (xs ++ 64 ∷ ys) ≡ Some (xs, ys))
+        → divided (x ∷ (xs ++ 64 ∷ ys)) ≡ Some (x ∷ xs, ys)
     by true o e d n r = let some : Some ([], xs) ≡ None = (rw e at n) in absurd cc
     by false None e d n r = rw e (rw (r d) refl)
     by false (Some q) e d n r = let some : Some (x ∷ q.0, q.1) ≡ None = (rw d at (rw e at n)) in absurd cc
 
-pub divided_there : (bs kind api : List ℕ) → IsUtf8 kind → bs ≡ kind ++ 64 ∷ api → Lacks kind → divided (chars bs) ≡ Some (chars kind, chars api)
+pub divided_there : (bs kind api : List ℕ) → IsUtf8 kind → bs ≡ kind ++ 64 ∷ api → Lacks kind
+    → divided (chars bs) ≡ Some (chars kind, chars api)
 divided_there bs kind api u is h =
     ap divided
     (ap chars is
     ∙ chars-append kind (64 ∷ api) u
-    ∙ ap (λ x. chars kind ++ x) (chars-append (64 ∷ []) api (IsUtf8-from_ascii (64 ∷ []) (one_ascii 64 (lit< tt))) ∙ ap (λ x. x ++ chars api) (chars-IsAscii (64 ∷ []) (one_ascii 64 (lit< tt)))))
+    ∙ ap (λ x. chars kind ++ x) (chars-append (64 ∷ []) api (IsUtf8-from_ascii (64 ∷ []) (one_ascii 64 (lit< tt)))
+    ∙ ap (λ x. x ++ chars api) (chars-IsAscii (64 ∷ []) (one_ascii 64 (lit< tt)))))
     ∙ divided_here (chars kind) (chars api) (undivided kind u h)

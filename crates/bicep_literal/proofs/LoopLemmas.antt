@@ -1,5 +1,7 @@
 -- Loops that make a list, item by item, and stop where one has no value.
-use Rattle.std.proofs.Common.{◌≡◌, ◌<◌, ◌≤◌, ◌+◌, ℕ, suc, List, [], ◌∷◌, ◌++◌, length, get_or, drop, map, Option, Some, None, option_map, option_and_then, refl, sym, ap, ◌∙◌, append-nil, append_assoc, add-one, arith}
+use Rattle.std.proofs.Common.{◌≡◌, ◌<◌, ◌≤◌, ◌+◌, ℕ, suc, List, [], ◌∷◌, ◌++◌, length, get_or, drop, map, Option}
+use Rattle.std.proofs.Common.{Some, None, option_map, option_and_then, refl, sym, ap, ◌∙◌, append-nil, append_assoc}
+use Rattle.std.proofs.Common.{add-one, arith}
 use Rattle.std.proofs.Math.Seq.{drop-cons}
 use Rattle.std.proofs.lemmas.List.{drop_all}
 use Rattle.bicep_tree.specs.Tree.{Tree, trees, MemberTree, StatementTree, DecoratorTree, DeclarationTree}
@@ -33,7 +35,8 @@ entries_are (s ∷ ss) = ap (λ o. option_and_then (λ e. option_map (λ es. e �
 abbrev pub Rest : {X A B : Type 0} → (A → Option B) → (X → A) → List B → List X → Option (List B) → Type 0
 Rest f view done left all = option_map (λ bs. done ++ bs) (all_of f (map view left)) ≡ all
 
-next : {X A : Type 0} (view : X → A) (xs : List X) (i : ℕ) (x : X) → i < length xs → x ≡ get_or xs i x → map view (drop i xs) ≡ view x ∷ map view (drop (i + 1) xs)
+next : {X A : Type 0} (view : X → A) (xs : List X) (i : ℕ) (x : X) → i < length xs → x ≡ get_or xs i x
+    → map view (drop i xs) ≡ view x ∷ map view (drop (i + 1) xs)
 next view xs i x h e = rw (add-one, drop-cons xs i x h) (ap (λ y. view y ∷ map view (drop (suc i) xs)) (sym e))
 
 none_left : {X A : Type 0} (view : X → A) (xs : List X) (i : ℕ) → length xs ≤ i → map view (drop i xs) ≡ []
@@ -43,42 +46,56 @@ nothing_before : {B : Type 0} (o : Option (List B)) → option_map (λ bs. [] ++
 nothing_before None = refl
 nothing_before (Some bs) = refl
 
-pub rest_begins : {X A B : Type 0} (f : A → Option B) (view : X → A) (xs : List X) (all : Option (List B)) → all_of f (map view xs) ≡ all → Rest f view [] xs all
+pub rest_begins : {X A B : Type 0} (f : A → Option B) (view : X → A) (xs : List X) (all : Option (List B))
+    → all_of f (map view xs) ≡ all → Rest f view [] xs all
 rest_begins f view xs all e = nothing_before (all_of f (map view xs)) ∙ e
 
-pushed : {B : Type 0} (done : List B) (b : B) (o : Option (List B)) → option_map (λ bs. done ++ bs) (option_map (λ bs. b ∷ bs) o) ≡ option_map (λ bs. (done ++ b ∷ []) ++ bs) o
+pushed : {B : Type 0} (done : List B) (b : B) (o : Option (List B))
+    → option_map (λ bs. done ++ bs) (option_map (λ bs. b ∷ bs) o) ≡ option_map (λ bs. (done ++ b ∷ []) ++ bs) o
 pushed done b None = refl
 pushed done b (Some bs) = ap Some (sym (append_assoc done (b ∷ []) bs))
 
-pub rest_more : {X A B : Type 0} (f : A → Option B) (view : X → A) (done more : List B) (b : B) (xs : List X) (i : ℕ) (x : X) (all : Option (List B)) → i < length xs → x ≡ get_or xs i x → f (view x) ≡ Some b → more ≡ done ++ b ∷ []
+pub rest_more : {X A B : Type 0} (f : A → Option B) (view : X → A) (done more : List B) (b : B) (xs : List X) (i : ℕ)
+    (x : X) (all : Option (List B)) → i < length xs → x ≡ get_or xs i x → f (view x) ≡ Some b → more ≡ done ++ b ∷ []
     → Rest f view done (drop i xs) all → Rest f view more (drop (i + 1) xs) all
 unfolding all_of
 rest_more f view done more b xs i x all h e g n before =
     let step : all_of f (map view (drop i xs)) ≡ option_map (λ bs. b ∷ bs) (all_of f (map view (drop (i + 1) xs))) =
-    ap (all_of f) (next view xs i x h e) ∙ ap (option_and_then (λ c. option_map (λ bs. c ∷ bs) (all_of f (map view (drop (i + 1) xs))))) g in
-    rw n (sym (ap (option_map (λ bs. done ++ bs)) step ∙ pushed done b (all_of f (map view (drop (i + 1) xs)))) ∙ before)
+    ap (all_of f) (next view xs i x h e)
+    ∙ ap (option_and_then (λ c. option_map (λ bs. c ∷ bs) (all_of f (map view (drop (i + 1) xs))))) g in
+    rw n (sym (ap (option_map (λ bs. done ++ bs)) step ∙ pushed done b (all_of f (map view (drop (i + 1) xs))))
+    ∙ before)
 
-none_made : {X A B : Type 0} (f : A → Option B) (view : X → A) (done : List B) (xs : List X) (i : ℕ) (x : X) (all : Option (List B)) → i < length xs → x ≡ get_or xs i x → f (view x) ≡ None → Rest f view done (drop i xs) all → all ≡ None
+none_made : {X A B : Type 0} (f : A → Option B) (view : X → A) (done : List B) (xs : List X) (i : ℕ) (x : X)
+    (all : Option (List B)) → i < length xs → x ≡ get_or xs i x → f (view x) ≡ None → Rest f view done (drop i xs) all
+    → all ≡ None
 unfolding all_of
 none_made f view done xs i x all h e g before =
     let step : all_of f (map view (drop i xs)) ≡ None =
-    ap (all_of f) (next view xs i x h e) ∙ ap (option_and_then (λ c. option_map (λ bs. c ∷ bs) (all_of f (map view (drop (i + 1) xs))))) g in
+    ap (all_of f) (next view xs i x h e)
+    ∙ ap (option_and_then (λ c. option_map (λ bs. c ∷ bs) (all_of f (map view (drop (i + 1) xs))))) g in
     sym before ∙ ap (option_map (λ bs. done ++ bs)) step
 
-pub rest_stops : {X A B : Type 0} (s : Stop) (f : A → Option B) (view : X → A) (done : List B) (xs : List X) (i : ℕ) (x : X) (all : Option (List B)) → i < length xs → x ≡ get_or xs i x → Stops s (f (view x)) → Rest f view done (drop i xs) all → Stops s all
+pub rest_stops : {X A B : Type 0} (s : Stop) (f : A → Option B) (view : X → A) (done : List B) (xs : List X) (i : ℕ)
+    (x : X) (all : Option (List B)) → i < length xs → x ≡ get_or xs i x → Stops s (f (view x))
+    → Rest f view done (drop i xs) all → Stops s all
 rest_stops stop.NotLiteral f view done xs i x all h e g before = none_made f view done xs i x all h e g before
 rest_stops stop.OutOfMemory f view done xs i x all h e g before = tt
 
-pub rest_ends : {X A B : Type 0} (f : A → Option B) (view : X → A) (done : List B) (xs : List X) (i : ℕ) (all : Option (List B)) → length xs ≤ i → Rest f view done (drop i xs) all → all ≡ Some done
+pub rest_ends : {X A B : Type 0} (f : A → Option B) (view : X → A) (done : List B) (xs : List X) (i : ℕ)
+    (all : Option (List B)) → length xs ≤ i → Rest f view done (drop i xs) all → all ≡ Some done
 unfolding all_of
 rest_ends f view done xs i all h before =
-    sym before ∙ ap (λ ys. option_map (λ bs. done ++ bs) (all_of f ys)) (none_left view xs i h) ∙ ap Some (append-nil done)
+    sym before ∙ ap (λ ys. option_map (λ bs. done ++ bs) (all_of f ys)) (none_left view xs i h)
+    ∙ ap Some (append-nil done)
 
 -- a statement with decorators has no place in the literal form
-pub none_decorated : {X : Type 0} (view : X → DecoratorTree) (xs : List X) (d : DeclarationTree) → 0 < length xs → statement_entry (tree.statement (tree.decorators (map view xs)) d) ≡ None
+pub none_decorated : {X : Type 0} (view : X → DecoratorTree) (xs : List X) (d : DeclarationTree) → 0 < length xs
+    → statement_entry (tree.statement (tree.decorators (map view xs)) d) ≡ None
 none_decorated view [] d h = absurd (omega arith)
 none_decorated view (x ∷ xs) d h = refl
 
-pub undecorated : {X : Type 0} (view : X → DecoratorTree) (xs : List X) (d : DeclarationTree) → length xs ≤ 0 → statement_entry (tree.statement (tree.decorators (map view xs)) d) ≡ declared_entry d
+pub undecorated : {X : Type 0} (view : X → DecoratorTree) (xs : List X) (d : DeclarationTree) → length xs ≤ 0
+    → statement_entry (tree.statement (tree.decorators (map view xs)) d) ≡ declared_entry d
 undecorated view [] d h = refl
 undecorated view (x ∷ xs) d h = absurd (omega arith)

@@ -1,11 +1,16 @@
 -- Values with their members in order.
-use Rattle.std.proofs.Common.{◌≡◌, ◌≤◌, ℕ, suc, List, [], ◌∷◌, ◌||◌, Bool, true, false, true≢false, cond, refl, sym, ap, ◌∙◌, arith, subst}
+use Rattle.std.proofs.Common.{◌≡◌, ◌≤◌, ℕ, suc, List, [], ◌∷◌, ◌||◌, Bool, true, false, true≢false, cond, refl, sym}
+use Rattle.std.proofs.Common.{ap, ◌∙◌, arith, subst}
 use Rattle.std.specs.List.{AllByRecursion, list_any}
-use Rattle.arm_value.specs.Json.{Json, null, bool, int, text, array, object, Row, no_items, item, Pairs, no_pairs, pair, Member, row, pairs, items, members, nesting, row_nesting, pairs_nesting, members_nesting, pair_keys, keys, put_each, put, IsInOrder, IsOrderly, RowIsOrderly, PairsAreOrderly, AreMembers}
+use Rattle.arm_value.specs.Json.{Json, null, bool, int, text, array, object, Row, no_items, item, Pairs, no_pairs}
+use Rattle.arm_value.specs.Json.{pair, Member, row, pairs, items, members, nesting, row_nesting, pairs_nesting}
+use Rattle.arm_value.specs.Json.{members_nesting, pair_keys, keys, put_each, put, IsInOrder, IsOrderly, RowIsOrderly}
+use Rattle.arm_value.specs.Json.{PairsAreOrderly, AreMembers}
 use Rattle.arm_value.proofs.SetLemmas as set
 use Rattle.arm_value.proofs.JsonLemmas.{IsInOrder-nil}
 use Rattle.literal_template.specs.Literals.{is_special, is_plain, row_is_plain, pairs_are_plain}
-use Rattle.bicep_literal.specs.Source.{in_order, row_in_order, each_in_order, Differ, NamesDiffer, NamesDifferInRow, NamesDifferInPairs}
+use Rattle.bicep_literal.specs.Source.{in_order, row_in_order, each_in_order, Differ, NamesDiffer, NamesDifferInRow}
+use Rattle.bicep_literal.specs.Source.{NamesDifferInPairs}
 use Rattle.bicep_literal.proofs.Putting.{members_put_each, nesting-put_each, all_absent}
 
 -- ---- lists and rows
@@ -82,7 +87,10 @@ mutual
   orderly (int z) = tt
   orderly (text s) = tt
   orderly (array js) = row_orderly js
-  orderly (object ms) = (sorted [] (each ms) IsInOrder-nil, put_orderly (each ms) (subst PairsAreOrderly (sym (pairs-members (each_in_order ms))) (pairs_orderly ms)))
+  orderly (object ms) = (
+    sorted [] (each ms) IsInOrder-nil,
+    put_orderly (each ms) (subst PairsAreOrderly (sym (pairs-members (each_in_order ms))) (pairs_orderly ms)),
+  )
 
   row_orderly : (js : Row) → RowIsOrderly (row_in_order js)
   row_orderly no_items = tt
@@ -97,22 +105,26 @@ mutual
 abbrev pub Plain : Member → Type 0
 Plain m = (is_special m.0 ≡ false) × (is_plain m.1 ≡ true)
 
-plain_parts : (special plain rest : Bool) → cond special false (cond plain rest false) ≡ true → (special ≡ false) × (plain ≡ true) × (rest ≡ true)
+plain_parts : (special plain rest : Bool) → cond special false (cond plain rest false) ≡ true → (special ≡ false)
+    × (plain ≡ true) × (rest ≡ true)
 plain_parts true p r e = absurd (true≢false (sym e))
 plain_parts false true r e = (refl, refl, e)
 plain_parts false false r e = absurd (true≢false (sym e))
 
-pub pair_plain : (k : List ℕ) (j : Json) (ms : Pairs) → pairs_are_plain (pair k j ms) ≡ true → (is_special k ≡ false) × (is_plain j ≡ true) × (pairs_are_plain ms ≡ true)
+pub pair_plain : (k : List ℕ) (j : Json) (ms : Pairs) → pairs_are_plain (pair k j ms) ≡ true → (is_special k ≡ false)
+    × (is_plain j ≡ true) × (pairs_are_plain ms ≡ true)
 pair_plain k j ms e = plain_parts (is_special k) (is_plain j) (pairs_are_plain ms) e
 
-pub plain_pair : (k : List ℕ) (j : Json) (ms : Pairs) → is_special k ≡ false → is_plain j ≡ true → pairs_are_plain ms ≡ true → pairs_are_plain (pair k j ms) ≡ true
+pub plain_pair : (k : List ℕ) (j : Json) (ms : Pairs) → is_special k ≡ false → is_plain j ≡ true
+    → pairs_are_plain ms ≡ true → pairs_are_plain (pair k j ms) ≡ true
 plain_pair k j ms s p r = rw s (rw p r)
 
 item_parts : (plain rest : Bool) → cond plain rest false ≡ true → (plain ≡ true) × (rest ≡ true)
 item_parts true r e = (refl, e)
 item_parts false r e = absurd (true≢false (sym e))
 
-pub item_plain : (j : Json) (js : Row) → row_is_plain (item j js) ≡ true → (is_plain j ≡ true) × (row_is_plain js ≡ true)
+pub item_plain : (j : Json) (js : Row) → row_is_plain (item j js) ≡ true → (is_plain j ≡ true)
+    × (row_is_plain js ≡ true)
 item_plain j js e = item_parts (is_plain j) (row_is_plain js) e
 
 pub plain_item : (j : Json) (js : Row) → is_plain j ≡ true → row_is_plain js ≡ true → row_is_plain (item j js) ≡ true
@@ -136,7 +148,8 @@ mutual
   plain_stays (int z) h = refl
   plain_stays (text s) h = refl
   plain_stays (array js) h = row_plain_stays js h
-  plain_stays (object ms) h = put_plain (each ms) (ap pairs_are_plain (pairs-members (each_in_order ms)) ∙ pairs_plain_stay ms h)
+  plain_stays (object ms) h = put_plain (each ms) (ap pairs_are_plain (pairs-members (each_in_order ms))
+      ∙ pairs_plain_stay ms h)
 
   row_plain_stays : (js : Row) → row_is_plain js ≡ true → row_is_plain (row_in_order js) ≡ true
   row_plain_stays no_items h = refl
@@ -152,7 +165,8 @@ mutual
 
 -- ---- names of members
 
-all_without : (q : List ℕ → Bool) (ms : List Member) → list_any q (keys ms) ≡ false → AllByRecursion (λ (m : Member). q m.0 ≡ false) ms
+all_without : (q : List ℕ → Bool) (ms : List Member) → list_any q (keys ms) ≡ false
+    → AllByRecursion (λ (m : Member). q m.0 ≡ false) ms
 all_without q [] h = tt
 all_without q (m ∷ ms) h = let p = or_parts (q m.0) (list_any q (keys ms)) h in (p.0, all_without q ms p.1)
   where
@@ -160,24 +174,29 @@ all_without q (m ∷ ms) h = let p = or_parts (q m.0) (list_any q (keys ms)) h i
     or_parts true b e = absurd (true≢false e)
     or_parts false b e = (refl, e)
 
-from_all_without : (q : List ℕ → Bool) (ms : List Member) → AllByRecursion (λ (m : Member). q m.0 ≡ false) ms → list_any q (keys ms) ≡ false
+from_all_without : (q : List ℕ → Bool) (ms : List Member) → AllByRecursion (λ (m : Member). q m.0 ≡ false) ms
+    → list_any q (keys ms) ≡ false
 from_all_without q [] h = refl
 from_all_without q (m ∷ ms) h = rw h.0 (from_all_without q ms h.1)
 
 -- a test that no name passes is passed by none in order
-pub put_without : (q : List ℕ → Bool) (ns : List Member) → list_any q (keys ns) ≡ false → list_any q (keys (put_each [] ns)) ≡ false
-put_without q ns h = from_all_without q (put_each [] ns) (members_put_each (λ m. q m.0 ≡ false) [] ns tt (all_without q ns h))
+pub put_without : (q : List ℕ → Bool) (ns : List Member) → list_any q (keys ns) ≡ false
+    → list_any q (keys (put_each [] ns)) ≡ false
+put_without q ns h =
+    from_all_without q (put_each [] ns) (members_put_each (λ m. q m.0 ≡ false) [] ns tt (all_without q ns h))
 
 shallow_all : (n : ℕ) (ms : List Member) → members_nesting ms ≤ n → AllByRecursion (λ (m : Member). nesting m.1 ≤ n) ms
 shallow_all n [] h = tt
 shallow_all n (m ∷ ms) h = (omega arith, shallow_all n ms (omega arith))
 
-from_shallow_all : (n : ℕ) (ms : List Member) → AllByRecursion (λ (m : Member). nesting m.1 ≤ n) ms → members_nesting ms ≤ n
+from_shallow_all : (n : ℕ) (ms : List Member) → AllByRecursion (λ (m : Member). nesting m.1 ≤ n) ms
+    → members_nesting ms ≤ n
 from_shallow_all n [] h = omega arith
 from_shallow_all n (m ∷ ms) h = let a = h.0 in let b = from_shallow_all n ms h.1 in omega arith
 
 pub put_shallow : (n : ℕ) (ns : List Member) → members_nesting ns ≤ n → members_nesting (put_each [] ns) ≤ n
-put_shallow n ns h = from_shallow_all n (put_each [] ns) (members_put_each (λ m. nesting m.1 ≤ n) [] ns tt (shallow_all n ns h))
+put_shallow n ns h =
+    from_shallow_all n (put_each [] ns) (members_put_each (λ m. nesting m.1 ≤ n) [] ns tt (shallow_all n ns h))
 
 -- members in order are members
 pub are_members : (ms : Pairs) → members_nesting (each ms) ≤ 90 → AreMembers (put_each [] (each ms))

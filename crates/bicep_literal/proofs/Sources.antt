@@ -28,7 +28,8 @@ same_tokens source ts us s t =
     cc
 
 -- what a source declares, its one file does
-pub of_one_file : SpellOneFile → (source : List ℕ) (ts : List Standing) (f : FileTree) (rs : List Resource) → lexer.Spells source ts → Spells f ts → SourceDeclares source rs → (file_nesting f ≤ 64) × TreeDeclares f rs
+pub of_one_file : SpellOneFile → (source : List ℕ) (ts : List Standing) (f : FileTree) (rs : List Resource)
+    → lexer.Spells source ts → Spells f ts → SourceDeclares source rs → (file_nesting f ≤ 64) × TreeDeclares f rs
 of_one_file one source ts f rs s p h =
     let tokens : h.0 ≡ ts = same_tokens source h.0 ts h.2 s in
     let file : h.1 ≡ f = one ts h.1 f (subst (Spells h.1) tokens h.3) p in
@@ -41,10 +42,13 @@ one_list_each one source p q h g =
 
 -- ---- what is refused
 
-refused_named : (source : List ℕ) (f : LexFault) → f ≢ lexical.OutOfMemory → (f ≢ lexical.OutOfMemory → faults.Refuses source f) → (f ≢ lexical.OutOfMemory → (any : List Standing) → lexer.Spells source any → ⊥) → IsRefused source (Lexical f)
+refused_named : (source : List ℕ) (f : LexFault) → f ≢ lexical.OutOfMemory
+    → (f ≢ lexical.OutOfMemory → faults.Refuses source f)
+    → (f ≢ lexical.OutOfMemory → (any : List Standing) → lexer.Spells source any → ⊥) → IsRefused source (Lexical f)
 refused_named source f ne h g = (h ne, ne, λ rs s. g ne s.0 s.2)
 
-pub refused_told : (source : List ℕ) (f : LexFault) → (f ≢ lexical.OutOfMemory → faults.Refuses source f) → (f ≢ lexical.OutOfMemory → (any : List Standing) → lexer.Spells source any → ⊥) → IsRefused source (told f)
+pub refused_told : (source : List ℕ) (f : LexFault) → (f ≢ lexical.OutOfMemory → faults.Refuses source f)
+    → (f ≢ lexical.OutOfMemory → (any : List Standing) → lexer.Spells source any → ⊥) → IsRefused source (told f)
 refused_told source (lexical.BadCharacter n) h g = refused_named source (lexical.BadCharacter n) (λ e. cc) h g
 refused_told source (lexical.OpenText n) h g = refused_named source (lexical.OpenText n) (λ e. cc) h g
 refused_told source (lexical.BadEscape n) h g = refused_named source (lexical.BadEscape n) (λ e. cc) h g
@@ -52,12 +56,18 @@ refused_told source (lexical.OpenComment n) h g = refused_named source (lexical.
 refused_told source (lexical.BadNumber n) h g = refused_named source (lexical.BadNumber n) (λ e. cc) h g
 refused_told source lexical.OutOfMemory h g = tt
 
-pub no_file_told : SpellOneFile → (source : List ℕ) (ts : List Standing) (f : ParseFault) → lexer.Spells source ts → parser.Refuses ts f → parser.TellsPlace ts f → IsRefused source (told_syntax f)
+pub no_file_told : SpellOneFile → (source : List ℕ) (ts : List Standing) (f : ParseFault) → lexer.Spells source ts
+    → parser.Refuses ts f → parser.TellsPlace ts f → IsRefused source (told_syntax f)
 no_file_told one source ts (syntax.NotAFile n) s h place =
     ((ts, s, h, place), (λ e. cc), λ rs d. h d.1 (subst (Spells d.1) (same_tokens source d.0 ts d.2 s) d.3))
-no_file_told one source ts (syntax.TooDeep n) s h place =
-    ((ts, s, h, place), (λ e. cc), λ rs d. let shallow = (of_one_file one source ts h.0 rs s h.1 d).0 in let deep = h.2 in absurd (omega arith))
+no_file_told one source ts (syntax.TooDeep n) s h place = (
+  (ts, s, h, place),
+  (λ e. cc),
+  λ rs d. let shallow = (of_one_file one source ts h.0 rs s h.1 d).0 in let deep =
+      h.2 in absurd (omega arith),
+)
 no_file_told one source ts syntax.OutOfMemory s h place = tt
 
-pub not_literal : SpellOneFile → (source : List ℕ) (ts : List Standing) (f : FileTree) → lexer.Spells source ts → Spells f ts → ((rs : List Resource) → ¬ TreeDeclares f rs) → DeclaresNone source
+pub not_literal : SpellOneFile → (source : List ℕ) (ts : List Standing) (f : FileTree) → lexer.Spells source ts
+    → Spells f ts → ((rs : List Resource) → ¬ TreeDeclares f rs) → DeclaresNone source
 not_literal one source ts f s p none rs d = none rs (of_one_file one source ts f rs s p d).1

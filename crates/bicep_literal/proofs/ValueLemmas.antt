@@ -1,5 +1,6 @@
 -- Values made of their parts.
-use Rattle.std.proofs.Common.{◌≡◌, ℕ, List, [], ◌∷◌, ◌++◌, length, map, Bool, true, false, Option, Some, None, option_map, cond, nat_le, nat_eq, bytes_eq, refl, ap, ◌∙◌, arith}
+use Rattle.std.proofs.Common.{◌≡◌, ℕ, List, [], ◌∷◌, ◌++◌, length, map, Bool, true, false, Option, Some, None}
+use Rattle.std.proofs.Common.{option_map, cond, nat_le, nat_eq, bytes_eq, refl, ap, ◌∙◌, arith}
 use Rattle.std.proofs.lemmas.Bool.Decides.{nat_tests}
 use Rattle.std.proofs.lemmas.Slice.Eq.{bytes_eq-Decides}
 use Rattle.arm_value.specs.Json as v
@@ -23,7 +24,8 @@ pub ruleset views = (map-push)
 
 -- ---- what a closed array and object are
 
-array_by : (b : Bool) (js : List Json) (j : Json) → cond b (Some (array (v.row js))) None ≡ Some j → array (v.row js) ≡ j
+array_by : (b : Bool) (js : List Json) (j : Json) → cond b (Some (array (v.row js))) None ≡ Some j
+    → array (v.row js) ≡ j
 array_by true js j e = cc
 array_by false js j e = absurd cc
 
@@ -36,7 +38,8 @@ record Distinct (ms ns : List Member) : Type 0 where
   is : put_each [] ms ≡ ns
   count : length (put_each [] ms) ≡ length ms
 
-distinct_by : (b : Bool) (ms ns : List Member) → nat_eq (length (put_each [] ms)) (length ms) ≡ b → cond b (Some (put_each [] ms)) None ≡ Some ns → Distinct ms ns
+distinct_by : (b : Bool) (ms ns : List Member) → nat_eq (length (put_each [] ms)) (length ms) ≡ b
+    → cond b (Some (put_each [] ms)) None ≡ Some ns → Distinct ms ns
 distinct_by true ms ns c e = record { is = cc; count = grind (arith, nat_tests) }
 distinct_by false ms ns c e = absurd cc
 
@@ -47,12 +50,15 @@ distinct_is ms ns e =
     let n = d.count in
     (d.is, (differing ms [] IsInOrder-nil (omega arith)).0)
 
-object_by : (b : Bool) (o : Option (List Member)) (j : Json) → cond b (option_map (λ ns. object (pairs ns)) o) None ≡ Some j → (ns : List Member) × (o ≡ Some ns) × (object (pairs ns) ≡ j)
+object_by : (b : Bool) (o : Option (List Member)) (j : Json)
+    → cond b (option_map (λ ns. object (pairs ns)) o) None ≡ Some j → (ns : List Member) × (o ≡ Some ns)
+    × (object (pairs ns) ≡ j)
 object_by true (Some ns) j e = (ns, refl, cc)
 object_by true None j e = absurd cc
 object_by false o j e = absurd cc
 
-pub object_is : (ms : List Member) (j : Json) → object_of ms ≡ Some j → (object (pairs (put_each [] ms)) ≡ j) × Differ (keys ms)
+pub object_is : (ms : List Member) (j : Json) → object_of ms ≡ Some j → (object (pairs (put_each [] ms)) ≡ j)
+    × Differ (keys ms)
 unfolding object_of
 object_is ms j e =
     let o = object_by (nat_le (members_nesting ms) 89) (distinct ms) j e in

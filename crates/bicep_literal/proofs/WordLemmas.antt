@@ -1,5 +1,6 @@
 -- Words of ASCII characters are their own characters.
-use Rattle.std.proofs.Common.{◌≡◌, ◌<◌, ℕ, zero, suc, Bool, true, false, ◌&&◌, nat_lt, List, [], ◌∷◌, chars, refl, ap, sym, ◌∙◌, arith, true≢false, ◌||◌}
+use Rattle.std.proofs.Common.{◌≡◌, ◌<◌, ℕ, zero, suc, Bool, true, false, ◌&&◌, nat_lt, List, [], ◌∷◌, chars, refl, ap}
+use Rattle.std.proofs.Common.{sym, ◌∙◌, arith, true≢false, ◌||◌}
 use Rattle.std.specs.List.{list_all, list_any}
 use Rattle.std.proofs.lemmas.Bool.Decides.{nat_tests}
 use Rattle.std.proofs.lemmas.Str.{chars-IsAscii}
@@ -27,7 +28,8 @@ unfolding is_ascii
 word w e = chars-IsAscii w (ascii_at w e)
 
 -- a test of each of the words
-pub any_word : (q : List ℕ → Bool) (ws : List (List ℕ)) → list_all (λ w. list_all (λ b. nat_lt b 128) w) ws ≡ true → list_any (λ w. q (chars w)) ws ≡ list_any q ws
+pub any_word : (q : List ℕ → Bool) (ws : List (List ℕ)) → list_all (λ w. list_all (λ b. nat_lt b 128) w) ws ≡ true
+    → list_any (λ w. q (chars w)) ws ≡ list_any q ws
 any_word q [] e = refl
 any_word q (w ∷ ws) e =
     let p = both (list_all (λ b. nat_lt b 128) w) (list_all (λ w. list_all (λ b. nat_lt b 128) w) ws) e in

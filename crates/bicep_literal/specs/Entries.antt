@@ -1,5 +1,6 @@
 -- The resource that a statement declares, by computation.
-use Rattle.std.specs.Prelude.{ℕ, suc, nat_le, nat_eq, ◌==◌, ◌&&◌, ◌||◌, not, Bool, true, false, List, [], ◌∷◌, ◌++◌, length, bytes_eq, Option, Some, None, option_map, option_and_then, codes, if◌then◌else◌}
+use Rattle.std.specs.Prelude.{ℕ, suc, nat_le, nat_eq, ◌==◌, ◌&&◌, ◌||◌, not, Bool, true, false, List, [], ◌∷◌, ◌++◌}
+use Rattle.std.specs.Prelude.{length, bytes_eq, Option, Some, None, option_map, option_and_then, codes, if◌then◌else◌}
 use Rattle.std.specs.List.{list_any}
 use Rattle.arm_value.specs.Json.{Json, text, Member, members_nesting, keys}
 use Rattle.arm_ids.specs.Segments.{segments, is_empty}
@@ -43,7 +44,8 @@ parted ms = parting None [] ms
 
 -- whether a type has one segment more than a name, and neither has an empty one
 unfoldable pub is_fit : List ℕ → List ℕ → Bool
-is_fit kind name = not (list_any is_empty (segments kind) || list_any is_empty (segments name)) && nat_eq (length (segments kind)) (suc (length (segments name)))
+is_fit kind name = not (list_any is_empty (segments kind) || list_any is_empty (segments name))
+    && nat_eq (length (segments kind)) (suc (length (segments name)))
 
 -- whether a resource may have this type, version and name
 unfoldable pub is_proper : List ℕ → List ℕ → List ℕ → Bool
@@ -51,27 +53,33 @@ is_proper kind api name = not (is_empty api) && (not (is_deployment kind) && is_
 
 -- the body of these members, where they may form one
 unfoldable pub body_of : List Member → Option (List Member)
-body_of others = if nat_le (members_nesting others) 90 && not (list_any is_reserved (keys others)) then distinct others else None
+body_of others = if nat_le (members_nesting others) 90 && not (list_any is_reserved (keys others))
+    then distinct others else None
 
 -- the resource of these parts
 unfoldable pub resource_of : List ℕ → List ℕ → List ℕ → List Member → Option Resource
 resource_of kind api name others =
-    if is_proper kind api name then option_map (λ body. record { kind = kind; api = api; name = name; body = body }) (body_of others) else None
+    if is_proper kind api name then option_map (λ body. record { kind = kind; api = api; name = name; body = body })
+    (body_of others) else None
 
 abbrev pub with_parts : Option (List ℕ × List ℕ) → Option (List ℕ × List Member) → Option Resource
 with_parts path ms = option_and_then (λ p. option_and_then (λ q. resource_of p.0 p.1 q.0 q.1) ms) path
 
 -- the entry of this symbol, type, version and these members
 abbrev pub entry_with : List ℕ → List ℕ → List ℕ → List Member → Option Entry
-entry_with symbol kind api ms = option_map (λ r. record { symbol = symbol; resource = r }) (option_and_then (λ q. resource_of kind api q.0 q.1) (parted ms))
+entry_with symbol kind api ms =
+    option_map (λ r. record { symbol = symbol; resource = r })
+    (option_and_then (λ q. resource_of kind api q.0 q.1) (parted ms))
 
 -- the resource that a statement with this type text and these members declares
 abbrev pub entry_of : List ℕ → List ℕ → List Member → Option Entry
-entry_of symbol path ms = option_map (λ r. record { symbol = symbol; resource = r }) (with_parts (divided path) (parted ms))
+entry_of symbol path ms =
+    option_map (λ r. record { symbol = symbol; resource = r }) (with_parts (divided path) (parted ms))
 
 -- the resource that a resource's tree declares, with its symbol
 abbrev pub resource_entry : ResourceTree → Option Entry
-resource_entry (tree.resource at n p x b) = option_and_then (entry_of n.text p.text) (option_and_then members_of (only_body x b))
+resource_entry (tree.resource at n p x b) =
+    option_and_then (entry_of n.text p.text) (option_and_then members_of (only_body x b))
 
 abbrev pub declared_entry : DeclarationTree → Option Entry
 declared_entry (tree.a_resource r) = resource_entry r

@@ -1,12 +1,15 @@
--- Which expressions are literals, and which statements declare literal resources (Microsoft Learn, "Bicep file structure and syntax").
+-- Which expressions are literals, and which statements declare literal resources (Microsoft Learn, "Bicep file
+-- structure and syntax").
 use Rattle.std.specs.Prelude.{ℕ, Bool, true, false, List, [], ◌∷◌, Option, Some, None, option_map, option_and_then}
-use Rattle.arm_value.specs.Json.{Json, null, bool, int, text, array, object, Row, no_items, item, Pairs, no_pairs, pair, Member}
+use Rattle.arm_value.specs.Json.{Json, null, bool, int, text, array, object, Row, no_items, item, Pairs, no_pairs}
+use Rattle.arm_value.specs.Json.{pair, Member}
 use Rattle.bicep_tree.specs.declared.leaf.Label.{Label}
 use Rattle.bicep_tree.specs.declared.leaf.Label.TheVariants as label
 use Rattle.bicep_tree.specs.declared.leaf.Literal.{Literal}
 use Rattle.bicep_tree.specs.declared.leaf.Literal.TheVariants as leaf
 use Rattle.bicep_tree.specs.Tree as tree
-use Rattle.bicep_tree.specs.Tree.{Tree, Trees, ObjectTree, MemberTree, MemberTrees, ValueTree, DecoratorTrees, ResourceTree, BodyTree, DeclarationTree, StatementTree, FileTree}
+use Rattle.bicep_tree.specs.Tree.{Tree, Trees, ObjectTree, MemberTree, MemberTrees, ValueTree, DecoratorTrees}
+use Rattle.bicep_tree.specs.Tree.{ResourceTree, BodyTree, DeclarationTree, StatementTree, FileTree}
 
 -- the value of one token
 abbrev pub constant : Literal → Json
@@ -38,7 +41,8 @@ abbrev mutual
 
   pub member_literals : MemberTrees → Option Pairs
   member_literals tree.no_member = Some no_pairs
-  member_literals (tree.and_member m ms) = option_and_then (λ p. option_map (pair p.0 p.1) (member_literals ms)) (member_literal m)
+  member_literals (tree.and_member m ms) = option_and_then (λ p. option_map (pair p.0 p.1) (member_literals ms))
+      (member_literal m)
 
   pub member_literal : MemberTree → Option Member
   member_literal (tree.property l v) = option_map (λ j. (named l, j)) (value_literal v)
@@ -61,7 +65,8 @@ only_body _ _ = None
 
 abbrev pub resource_declaration : ResourceTree → Option Declaration
 resource_declaration (tree.resource at n p x b) =
-    option_map (λ ms. record { symbol = n.text; path = p.text; members = ms }) (option_and_then object_literals (only_body x b))
+    option_map (λ ms. record { symbol = n.text; path = p.text; members = ms })
+    (option_and_then object_literals (only_body x b))
 
 abbrev pub bare_declaration : DeclarationTree → Option Declaration
 bare_declaration (tree.a_resource r) = resource_declaration r

@@ -1,7 +1,9 @@
 -- Which resources a source in the literal form declares.
-use Rattle.std.specs.Prelude.{◌≡◌, ◌≢◌, ℕ, suc, ◌≤◌, ◌==◌, Bool, true, false, List, [], ◌∷◌, ◌++◌, map, length, bytes_eq, Some, codes, if◌then◌else◌}
+use Rattle.std.specs.Prelude.{◌≡◌, ◌≢◌, ℕ, suc, ◌≤◌, ◌==◌, Bool, true, false, List, [], ◌∷◌, ◌++◌, map, length}
+use Rattle.std.specs.Prelude.{bytes_eq, Some, codes, if◌then◌else◌}
 use Rattle.std.specs.List.{list_any, AllByRecursion}
-use Rattle.arm_value.specs.Json.{Json, null, bool, int, text, array, object, Row, no_items, item, Pairs, no_pairs, pair, pairs, pair_keys, pairs_nesting, members, put_each}
+use Rattle.arm_value.specs.Json.{Json, null, bool, int, text, array, object, Row, no_items, item, Pairs, no_pairs}
+use Rattle.arm_value.specs.Json.{pair, pairs, pair_keys, pairs_nesting, members, put_each}
 use Rattle.arm_value.specs.Look.{fold, first_by}
 use Rattle.arm_ids.specs.Segments.{segments, is_empty}
 use Rattle.bicep_lexer.specs.Reading.{Standing}
@@ -122,10 +124,12 @@ pub record FileDeclares (ds : List Declaration) (rs : List Resource) : Type 0 wh
 abbrev pub TreeDeclares : FileTree → List Resource → Type 0
 TreeDeclares f rs = (ds : List Declaration) × (declarations f ≡ Some ds) × FileDeclares ds rs
 
--- the source spells a file in which no expression nests above 64; the file is in the literal form, and declares these resources
+-- the source spells a file in which no expression nests above 64; the file is in the literal form, and declares these
+-- resources
 abbrev pub SourceDeclares : List ℕ → List Resource → Type 0
 SourceDeclares source rs =
-    (tokens : List Standing) × (f : FileTree) × lexer.Spells source tokens × Spells f tokens × (file_nesting f ≤ 64) × TreeDeclares f rs
+    (tokens : List Standing) × (f : FileTree) × lexer.Spells source tokens × Spells f tokens × (file_nesting f ≤ 64)
+    × TreeDeclares f rs
 
 -- no source declares two lists of resources
 abbrev pub DeclareOneList : Type 0

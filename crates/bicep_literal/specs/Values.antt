@@ -1,5 +1,6 @@
 -- The values of literals with their members in order, by computation.
-use Rattle.std.specs.Prelude.{◌≡◌, ℕ, nat_le, nat_eq, List, [], ◌∷◌, length, Option, Some, None, option_map, option_and_then, Result, Ok, Err, if◌then◌else◌}
+use Rattle.std.specs.Prelude.{◌≡◌, ℕ, nat_le, nat_eq, List, [], ◌∷◌, length, Option, Some, None, option_map}
+use Rattle.std.specs.Prelude.{option_and_then, Result, Ok, Err, if◌then◌else◌}
 use Rattle.arm_value.specs.Json.{Json, array, object, Member, row, pairs, put_each, items_nesting, members_nesting}
 use Rattle.literal_template.specs.Literals.{is_special}
 use Rattle.bicep_tree.specs.declared.leaf.Label.{Label}

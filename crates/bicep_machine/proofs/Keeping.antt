@@ -1,8 +1,18 @@
 -- What is kept of a tree, and that building from what is kept of the parts gives what is kept of the whole.
-use Rattle.std.proofs.Common.{◌≡◌, suc, ℕ, ◌+◌, ◌<◌, ◌≤◌, max, nat_lt, nat_le, List, [], ◌∷◌, Bool, true, false, cond, refl, ap, sym, ◌∙◌, arith, subst}
+use Rattle.std.proofs.Common.{◌≡◌, suc, ℕ, ◌+◌, ◌<◌, ◌≤◌, max, nat_lt, nat_le, List, [], ◌∷◌, Bool, true, false, cond}
+use Rattle.std.proofs.Common.{refl, ap, sym, ◌∙◌, arith, subst}
 use Rattle.std.proofs.lemmas.Bool.Decides.{nat_tests}
-use Rattle.bicep_tree.specs.Tree.{Tree, object, Trees, none, more, Holes, no_hole, hole, ObjectTree, MemberTree, property, child, MemberTrees, no_member, and_member, ValueTree, plain, each, LoopTree, loop, DecoratorTree, decorator, DecoratorTrees, no_decorator, and_decorator, ResourceTree, resource, BodyTree, body_plain, body_if, body_each, body_each_if, DeclarationTree, metadata, target_scope, param, param_with, var, output, a_resource, a_module, StatementTree, statement, FileTree, trees, holes, members, decorators}
-use Rattle.bicep_tree.specs.Nesting.{nesting, deepest, deepest_hole, object_nesting, member_nesting, deepest_member, value_nesting, loop_nesting, decorator_nesting, deepest_decorator, resource_nesting, body_nesting, declaration_nesting, statement_nesting, file_nesting}
+use Rattle.bicep_tree.specs.Tree.{Tree, object, Trees, none, more, Holes, no_hole, hole, ObjectTree, MemberTree}
+use Rattle.bicep_tree.specs.Tree.{property, child, MemberTrees, no_member, and_member, ValueTree, plain, each}
+use Rattle.bicep_tree.specs.Tree.{LoopTree, loop, DecoratorTree, decorator, DecoratorTrees, no_decorator}
+use Rattle.bicep_tree.specs.Tree.{and_decorator, ResourceTree, resource, BodyTree, body_plain, body_if, body_each}
+use Rattle.bicep_tree.specs.Tree.{body_each_if, DeclarationTree, metadata, target_scope, param, param_with, var}
+use Rattle.bicep_tree.specs.Tree.{output, a_resource, a_module, StatementTree, statement, FileTree, trees, holes}
+use Rattle.bicep_tree.specs.Tree.{members, decorators}
+use Rattle.bicep_tree.specs.Nesting.{nesting, deepest, deepest_hole, object_nesting, member_nesting, deepest_member}
+use Rattle.bicep_tree.specs.Nesting.{value_nesting, loop_nesting, decorator_nesting, deepest_decorator}
+use Rattle.bicep_tree.specs.Nesting.{resource_nesting, body_nesting, declaration_nesting, statement_nesting}
+use Rattle.bicep_tree.specs.Nesting.{file_nesting}
 use Rattle.bicep_machine.specs.Kept.{Kept, empty, gap, object_gap, value_gap, body_gap, made}
 
 -- lists of trees
@@ -78,7 +88,8 @@ module _ (most : ℕ) where
   abbrev pub beside : {X Y : Type 0} → Kept X → Kept Y → Kept (X × Y)
   beside k j = ((k.0, j.0), max k.1 j.1)
 
-  pub both_stand : {X Y : Type 0} (k : Kept X) (x : X) (n : ℕ) (j : Kept Y) (y : Y) (m : ℕ) → Stands k x n → Stands j y m → Stands (beside k j) (x, y) (max n m)
+  pub both_stand : {X Y : Type 0} (k : Kept X) (x : X) (n : ℕ) (j : Kept Y) (y : Y) (m : ℕ) → Stands k x n
+      → Stands j y m → Stands (beside k j) (x, y) (max n m)
   both_stand k x n j y m h g = record {
     whole = λ le. ap (λ p. beside p j) (h.whole (omega arith)) ∙ ap (λ p. beside (x, n) p) (g.whole (omega arith));
     deep = λ lt. either lt;
@@ -92,7 +103,8 @@ module _ (most : ℕ) where
       either lt = by (nat_lt most n) refl lt
 
   -- what is made of kept parts
-  pub made_of : {X Y : Type 0} (f : X → Y) (lost : Y) (k : Kept X) (x : X) (n : ℕ) → Stands k x n → made most lost (f k.0) k.1 ≡ fits lost (f x) (suc n)
+  pub made_of : {X Y : Type 0} (f : X → Y) (lost : Y) (k : Kept X) (x : X) (n : ℕ) → Stands k x n
+      → made most lost (f k.0) k.1 ≡ fits lost (f x) (suc n)
   unfolding made
   made_of f lost k x n h = by (nat_lt n most) refl
     where
@@ -103,10 +115,13 @@ module _ (most : ℕ) where
       by : (b : Bool) → nat_lt n most ≡ b → made most lost (f k.0) k.1 ≡ fits lost (f x) (suc n)
       by true e =
           let lt : n < most = grind (arith, nat_tests) in
-          ap (λ p. made most lost (f p.0) p.1) (h.whole (omega arith)) ∙ ap (λ b. cond b (f x, n + 1) (lost, most + 1)) e ∙ ap (λ d. (f x, d)) (omega arith) ∙ sym (fits-whole lost (f x) (suc n) (omega arith))
+          ap (λ p. made most lost (f p.0) p.1) (h.whole (omega arith))
+          ∙ ap (λ b. cond b (f x, n + 1) (lost, most + 1)) e ∙ ap (λ d. (f x, d)) (omega arith)
+          ∙ sym (fits-whole lost (f x) (suc n) (omega arith))
       by false e =
           let le : most ≤ n = grind (arith, nat_tests) in
-          ap (λ b. cond b (f k.0, k.1 + 1) (lost, most + 1)) (lt_false k.1 most (deep_here (nat_le n most) refl le)) ∙ ap (λ d. (lost, d)) (omega arith) ∙ sym (fits-deep lost (f x) (suc n) (omega arith))
+          ap (λ b. cond b (f k.0, k.1 + 1) (lost, most + 1)) (lt_false k.1 most (deep_here (nat_le n most) refl le))
+          ∙ ap (λ d. (lost, d)) (omega arith) ∙ sym (fits-deep lost (f x) (suc n) (omega arith))
 
   -- a part inside another of its depth
   pub through : {X Y : Type 0} (f : X → Y) (k : Kept X) (x : X) (n : ℕ) → Stands k x n → Stands (f k.0, k.1) (f x) n
@@ -144,11 +159,13 @@ module _ (most : ℕ) where
   keep_value (each l e) = fits value_gap (each l e) (value_nesting (each l e))
 
   abbrev pub keep_decorator : DecoratorTree → Kept DecoratorTree
-  keep_decorator (decorator at f es) = (decorator at f (trees (keep_list (each_tree es)).0), (keep_list (each_tree es)).1)
+  keep_decorator (decorator at f es) =
+      (decorator at f (trees (keep_list (each_tree es)).0), (keep_list (each_tree es)).1)
 
   abbrev pub keep_decorators : List DecoratorTree → Kept (List DecoratorTree)
   keep_decorators [] = empty
-  keep_decorators (d ∷ ds) = ((keep_decorator d).0 ∷ (keep_decorators ds).0, max (keep_decorator d).1 (keep_decorators ds).1)
+  keep_decorators (d ∷ ds) =
+      ((keep_decorator d).0 ∷ (keep_decorators ds).0, max (keep_decorator d).1 (keep_decorators ds).1)
 
   abbrev pub keep_body : BodyTree → Kept BodyTree
   keep_body (body_plain o) = (body_plain (keep_object o).0, (keep_object o).1)
@@ -161,7 +178,10 @@ module _ (most : ℕ) where
 
   abbrev pub keep_member : MemberTree → Kept MemberTree
   keep_member (property l v) = (property l (keep_value v).0, (keep_value v).1)
-  keep_member (child ds r) = (child (decorators (keep_decorators (each_decorator ds)).0) (keep_resource r).0, max (keep_decorators (each_decorator ds)).1 (keep_resource r).1)
+  keep_member (child ds r) = (
+    child (decorators (keep_decorators (each_decorator ds)).0) (keep_resource r).0,
+    max (keep_decorators (each_decorator ds)).1 (keep_resource r).1,
+  )
 
   abbrev pub keep_members : List MemberTree → Kept (List MemberTree)
   keep_members [] = empty
@@ -178,7 +198,10 @@ module _ (most : ℕ) where
   keep_declaration (a_module at n p b) = (a_module at n p (keep_body b).0, (keep_body b).1)
 
   abbrev pub keep_statement : StatementTree → Kept StatementTree
-  keep_statement (statement ds d) = (statement (decorators (keep_decorators (each_decorator ds)).0) (keep_declaration d).0, max (keep_decorators (each_decorator ds)).1 (keep_declaration d).1)
+  keep_statement (statement ds d) = (
+    statement (decorators (keep_decorators (each_decorator ds)).0) (keep_declaration d).0,
+    max (keep_decorators (each_decorator ds)).1 (keep_declaration d).1,
+  )
 
   abbrev pub keep_file : FileTree → Kept FileTree
   keep_file [] = empty
@@ -199,17 +222,24 @@ module _ (most : ℕ) where
   pub list_stands : (es : Trees) → Stands (keep_list (each_tree es)) (each_tree es) (deepest es)
   list_stands none = nothing_stands []
   list_stands (more e es) =
-      through (λ p. p.0 ∷ p.1) (beside (keep e) (keep_list (each_tree es))) (e, each_tree es) (max (nesting e) (deepest es))
-      (both_stand (keep e) e (nesting e) (keep_list (each_tree es)) (each_tree es) (deepest es) (tree_stands e) (list_stands es))
+      through (λ p. p.0 ∷ p.1) (beside (keep e) (keep_list (each_tree es))) (e, each_tree es)
+      (max (nesting e) (deepest es))
+      (both_stand (keep e) e (nesting e) (keep_list (each_tree es)) (each_tree es) (deepest es) (tree_stands e)
+      (list_stands es))
 
-  pub trees_stand : (es : Trees) → Stands (trees (keep_list (each_tree es)).0, (keep_list (each_tree es)).1) es (deepest es)
-  trees_stand es = subst (λ x. Stands (trees (keep_list (each_tree es)).0, (keep_list (each_tree es)).1) x (deepest es)) (trees-each es) (through trees (keep_list (each_tree es)) (each_tree es) (deepest es) (list_stands es))
+  pub trees_stand : (es : Trees)
+      → Stands (trees (keep_list (each_tree es)).0, (keep_list (each_tree es)).1) es (deepest es)
+  trees_stand es =
+      subst (λ x. Stands (trees (keep_list (each_tree es)).0, (keep_list (each_tree es)).1) x (deepest es))
+      (trees-each es) (through trees (keep_list (each_tree es)) (each_tree es) (deepest es) (list_stands es))
 
   pub hole_list_stands : (hs : Holes) → Stands (keep_holes (each_hole hs)) (each_hole hs) (deepest_hole hs)
   hole_list_stands no_hole = nothing_stands []
   hole_list_stands (hole e s hs) =
-      through (λ p. (p.0, s) ∷ p.1) (beside (keep e) (keep_holes (each_hole hs))) (e, each_hole hs) (max (nesting e) (deepest_hole hs))
-      (both_stand (keep e) e (nesting e) (keep_holes (each_hole hs)) (each_hole hs) (deepest_hole hs) (tree_stands e) (hole_list_stands hs))
+      through (λ p. (p.0, s) ∷ p.1) (beside (keep e) (keep_holes (each_hole hs))) (e, each_hole hs)
+      (max (nesting e) (deepest_hole hs))
+      (both_stand (keep e) e (nesting e) (keep_holes (each_hole hs)) (each_hole hs) (deepest_hole hs) (tree_stands e)
+      (hole_list_stands hs))
 
   pub loop_stands : (l : LoopTree) → Stands (keep_loop l) l (loop_nesting l)
   loop_stands (loop at ns e) = through (loop at ns) (keep e) e (nesting e) (tree_stands e)
@@ -219,16 +249,27 @@ module _ (most : ℕ) where
   value_stands (each l e) = fits_stands value_gap (each l e) (value_nesting (each l e))
 
   pub decorator_stands : (d : DecoratorTree) → Stands (keep_decorator d) d (decorator_nesting d)
-  decorator_stands (decorator at f es) = through (decorator at f) (trees (keep_list (each_tree es)).0, (keep_list (each_tree es)).1) es (deepest es) (trees_stand es)
+  decorator_stands (decorator at f es) =
+      through (decorator at f) (trees (keep_list (each_tree es)).0, (keep_list (each_tree es)).1) es (deepest es)
+      (trees_stand es)
 
-  pub decorator_list_stands : (ds : DecoratorTrees) → Stands (keep_decorators (each_decorator ds)) (each_decorator ds) (deepest_decorator ds)
+  pub decorator_list_stands : (ds : DecoratorTrees)
+      → Stands (keep_decorators (each_decorator ds)) (each_decorator ds) (deepest_decorator ds)
   decorator_list_stands no_decorator = nothing_stands []
   decorator_list_stands (and_decorator d ds) =
-      through (λ p. p.0 ∷ p.1) (beside (keep_decorator d) (keep_decorators (each_decorator ds))) (d, each_decorator ds) (max (decorator_nesting d) (deepest_decorator ds))
-      (both_stand (keep_decorator d) d (decorator_nesting d) (keep_decorators (each_decorator ds)) (each_decorator ds) (deepest_decorator ds) (decorator_stands d) (decorator_list_stands ds))
+      through (λ p. p.0 ∷ p.1) (beside (keep_decorator d) (keep_decorators (each_decorator ds)))
+      (d, each_decorator ds) (max (decorator_nesting d) (deepest_decorator ds))
+      (both_stand (keep_decorator d) d (decorator_nesting d) (keep_decorators (each_decorator ds)) (each_decorator ds)
+      (deepest_decorator ds) (decorator_stands d) (decorator_list_stands ds))
 
-  pub decorators_stand : (ds : DecoratorTrees) → Stands (decorators (keep_decorators (each_decorator ds)).0, (keep_decorators (each_decorator ds)).1) ds (deepest_decorator ds)
-  decorators_stand ds = subst (λ x. Stands (decorators (keep_decorators (each_decorator ds)).0, (keep_decorators (each_decorator ds)).1) x (deepest_decorator ds)) (decorators-each ds) (through decorators (keep_decorators (each_decorator ds)) (each_decorator ds) (deepest_decorator ds) (decorator_list_stands ds))
+  pub decorators_stand : (ds : DecoratorTrees)
+      → Stands (decorators (keep_decorators (each_decorator ds)).0, (keep_decorators (each_decorator ds)).1) ds
+      (deepest_decorator ds)
+  decorators_stand ds =
+      subst (λ x. Stands (decorators (keep_decorators (each_decorator ds)).0, (keep_decorators (each_decorator ds)).1)
+      x (deepest_decorator ds)) (decorators-each ds)
+      (through decorators (keep_decorators (each_decorator ds)) (each_decorator ds) (deepest_decorator ds)
+      (decorator_list_stands ds))
 
   pub body_stands : (b : BodyTree) → Stands (keep_body b) b (body_nesting b)
   body_stands (body_plain o) = through body_plain (keep_object o) o (object_nesting o) (object_stands o)
@@ -236,7 +277,8 @@ module _ (most : ℕ) where
       through (λ p. body_if at p.0 p.1) (beside (keep c) (keep_object o)) (c, o) (max (nesting c) (object_nesting o))
       (both_stand (keep c) c (nesting c) (keep_object o) o (object_nesting o) (tree_stands c) (object_stands o))
   body_stands (body_each l o) = fits_stands body_gap (body_each l o) (body_nesting (body_each l o))
-  body_stands (body_each_if l at c o) = fits_stands body_gap (body_each_if l at c o) (body_nesting (body_each_if l at c o))
+  body_stands (body_each_if l at c o) =
+      fits_stands body_gap (body_each_if l at c o) (body_nesting (body_each_if l at c o))
 
   pub resource_stands : (r : ResourceTree) → Stands (keep_resource r) r (resource_nesting r)
   resource_stands (resource at n p x b) = through (resource at n p x) (keep_body b) b (body_nesting b) (body_stands b)
@@ -244,15 +286,21 @@ module _ (most : ℕ) where
   pub member_stands : (m : MemberTree) → Stands (keep_member m) m (member_nesting m)
   member_stands (property l v) = through (property l) (keep_value v) v (value_nesting v) (value_stands v)
   member_stands (child ds r) =
-      let k : Kept DecoratorTrees = (decorators (keep_decorators (each_decorator ds)).0, (keep_decorators (each_decorator ds)).1) in
-      through (λ p. child p.0 p.1) (beside k (keep_resource r)) (ds, r) (max (deepest_decorator ds) (resource_nesting r))
-      (both_stand k ds (deepest_decorator ds) (keep_resource r) r (resource_nesting r) (decorators_stand ds) (resource_stands r))
+      let k : Kept DecoratorTrees =
+      (decorators (keep_decorators (each_decorator ds)).0, (keep_decorators (each_decorator ds)).1) in
+      through (λ p. child p.0 p.1) (beside k (keep_resource r)) (ds, r)
+      (max (deepest_decorator ds) (resource_nesting r))
+      (both_stand k ds (deepest_decorator ds) (keep_resource r) r (resource_nesting r) (decorators_stand ds)
+      (resource_stands r))
 
-  pub member_list_stands : (ms : MemberTrees) → Stands (keep_members (each_member ms)) (each_member ms) (deepest_member ms)
+  pub member_list_stands : (ms : MemberTrees)
+      → Stands (keep_members (each_member ms)) (each_member ms) (deepest_member ms)
   member_list_stands no_member = nothing_stands []
   member_list_stands (and_member m ms) =
-      through (λ p. p.0 ∷ p.1) (beside (keep_member m) (keep_members (each_member ms))) (m, each_member ms) (max (member_nesting m) (deepest_member ms))
-      (both_stand (keep_member m) m (member_nesting m) (keep_members (each_member ms)) (each_member ms) (deepest_member ms) (member_stands m) (member_list_stands ms))
+      through (λ p. p.0 ∷ p.1) (beside (keep_member m) (keep_members (each_member ms))) (m, each_member ms)
+      (max (member_nesting m) (deepest_member ms))
+      (both_stand (keep_member m) m (member_nesting m) (keep_members (each_member ms)) (each_member ms)
+      (deepest_member ms) (member_stands m) (member_list_stands ms))
 
   pub declaration_stands : (d : DeclarationTree) → Stands (keep_declaration d) d (declaration_nesting d)
   declaration_stands (metadata at n e) = through (metadata at n) (keep e) e (nesting e) (tree_stands e)
@@ -266,12 +314,17 @@ module _ (most : ℕ) where
 
   pub statement_stands : (s : StatementTree) → Stands (keep_statement s) s (statement_nesting s)
   statement_stands (statement ds d) =
-      let k : Kept DecoratorTrees = (decorators (keep_decorators (each_decorator ds)).0, (keep_decorators (each_decorator ds)).1) in
-      through (λ p. statement p.0 p.1) (beside k (keep_declaration d)) (ds, d) (max (deepest_decorator ds) (declaration_nesting d))
-      (both_stand k ds (deepest_decorator ds) (keep_declaration d) d (declaration_nesting d) (decorators_stand ds) (declaration_stands d))
+      let k : Kept DecoratorTrees =
+      (decorators (keep_decorators (each_decorator ds)).0, (keep_decorators (each_decorator ds)).1) in
+      through (λ p. statement p.0 p.1) (beside k (keep_declaration d)) (ds, d)
+      (max (deepest_decorator ds) (declaration_nesting d))
+      (both_stand k ds (deepest_decorator ds) (keep_declaration d) d (declaration_nesting d) (decorators_stand ds)
+      (declaration_stands d))
 
   pub file_stands : (f : FileTree) → Stands (keep_file f) f (file_nesting f)
   file_stands [] = nothing_stands []
   file_stands (s ∷ ss) =
-      through (λ p. p.0 ∷ p.1) (beside (keep_statement s) (keep_file ss)) (s, ss) (max (statement_nesting s) (file_nesting ss))
-      (both_stand (keep_statement s) s (statement_nesting s) (keep_file ss) ss (file_nesting ss) (statement_stands s) (file_stands ss))
+      through (λ p. p.0 ∷ p.1) (beside (keep_statement s) (keep_file ss)) (s, ss)
+      (max (statement_nesting s) (file_nesting ss))
+      (both_stand (keep_statement s) s (statement_nesting s) (keep_file ss) ss (file_nesting ss) (statement_stands s)
+      (file_stands ss))

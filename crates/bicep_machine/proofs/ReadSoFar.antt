@@ -4,10 +4,13 @@ use Rattle.bicep_tree.specs.declared.leaf.Name.{Name}
 use Rattle.bicep_tree.specs.declared.leaf.Quoted.{Quoted}
 use Rattle.bicep_tree.specs.declared.leaf.Access.TheVariants as a
 use Rattle.bicep_tree.specs.declared.terminal.Terminal.TheVariants as t
-use Rattle.bicep_tree.specs.Tree.{Tree, MemberTree, LoopTree, DecoratorTree, BodyTree, body_each, body_each_if, StatementTree, FileTree, decorators}
+use Rattle.bicep_tree.specs.Tree.{Tree, MemberTree, LoopTree, DecoratorTree, BodyTree, body_each, body_each_if}
+use Rattle.bicep_tree.specs.Tree.{StatementTree, FileTree, decorators}
 use Rattle.bicep_tree.specs.Precedence.{level, rank, IsPrimary, IsOperand}
 use Rattle.bicep_tree.specs.Terminals.{Placed}
-use Rattle.bicep_tree.specs.Forms.{Form, ◌▹◌, nothing, never, is_newline, one, any, skipped, sign_at, sign, token_at, token, named, word, quoted, index_sign, prefix_sign, namespace_word, function, decorating}
+use Rattle.bicep_tree.specs.Forms.{Form, ◌▹◌, nothing, never, is_newline, one, any, skipped, sign_at, sign, token_at}
+use Rattle.bicep_tree.specs.Forms.{token, named, word, quoted, index_sign, prefix_sign, namespace_word, function}
+use Rattle.bicep_tree.specs.Forms.{decorating}
 use Rattle.bicep_tree.specs.Forms as form
 use Rattle.bicep_tree.specs.Expressions.{expression, loop_names, existing, under, an_object, a_member, a_decorator}
 use Rattle.bicep_tree.specs.Expressions as grammar
@@ -18,8 +21,18 @@ use Rattle.bicep_machine.specs.declared.word.Owner.{Owner}
 use Rattle.bicep_machine.specs.declared.word.Owner.TheVariants as owner
 use Rattle.bicep_machine.specs.Kept.{empty}
 use Rattle.bicep_machine.specs.Stack as s
-use Rattle.bicep_machine.specs.Stack.{Decorators, Header, header, Front, nothing_before, a_condition, loop_and_condition, Assigned, to_metadata, to_scope, to_param, to_var, to_output, Frame, grouping, calling, indexing, opened, in_array, in_object, in_text, prefixing, left, asked, chosen, valued, assigned, over, body_over, in_names, looped, in_condition, bodied, in_file, State, wanted, qualifying, qualified, dotted, done, paused, item, for_wanted, names_wanted, one_wanted, one_named, other_wanted, both_named, member, labelled, past_member, among, looped_body, condition, guarded, body_end, at_sign, decorator_named, decorator_spaced, decorator_ready, decorated, past_decorators, declaring, declared, typed, headed, existed, between, behind, Next}
-use Rattle.bicep_machine.proofs.Keeping.{keep, keep_list, keep_holes, keep_loop, keep_decorators, keep_body, keep_member, keep_members, keep_statement, keep_file}
+use Rattle.bicep_machine.specs.Stack.{Decorators, Header, header, Front, nothing_before, a_condition}
+use Rattle.bicep_machine.specs.Stack.{loop_and_condition, Assigned, to_metadata, to_scope, to_param, to_var}
+use Rattle.bicep_machine.specs.Stack.{to_output, Frame, grouping, calling, indexing, opened, in_array, in_object}
+use Rattle.bicep_machine.specs.Stack.{in_text, prefixing, left, asked, chosen, valued, assigned, over, body_over}
+use Rattle.bicep_machine.specs.Stack.{in_names, looped, in_condition, bodied, in_file, State, wanted, qualifying}
+use Rattle.bicep_machine.specs.Stack.{qualified, dotted, done, paused, item, for_wanted, names_wanted, one_wanted}
+use Rattle.bicep_machine.specs.Stack.{one_named, other_wanted, both_named, member, labelled, past_member, among}
+use Rattle.bicep_machine.specs.Stack.{looped_body, condition, guarded, body_end, at_sign, decorator_named}
+use Rattle.bicep_machine.specs.Stack.{decorator_spaced, decorator_ready, decorated, past_decorators, declaring}
+use Rattle.bicep_machine.specs.Stack.{declared, typed, headed, existed, between, behind, Next}
+use Rattle.bicep_machine.proofs.Keeping.{keep, keep_list, keep_holes, keep_loop, keep_decorators, keep_body}
+use Rattle.bicep_machine.proofs.Keeping.{keep_member, keep_members, keep_statement, keep_file}
 use Rattle.bicep_machine.proofs.Reading.{ItemsRead, MembersRead, StatementsRead, ArgumentsRead, HolesRead}
 
 -- whether newlines are skipped in what is open
@@ -115,7 +128,8 @@ assigned_form (to_output at n ty) = word_at at (codes "output") ▹ named false 
 module _ (most : ℕ) where
   -- behind this come decorators
   abbrev pub Decorated : List Frame → (List Placed → Type 0) → Decorators → List Placed → Type 0
-  Decorated S P ds m = (flag S ≡ false) × (dts : List DecoratorTree) × (m1 : List Placed) × (ds ≡ keep_decorators most dts) × P m1 × grammar.decorated (decorators dts) m1 m
+  Decorated S P ds m = (flag S ≡ false) × (dts : List DecoratorTree) × (m1 : List Placed)
+      × (ds ≡ keep_decorators most dts) × P m1 × grammar.decorated (decorators dts) m1 m
 
   -- and then this form
   abbrev pub Then : (List Placed → Type 0) → Form → List Placed → Type 0
@@ -125,7 +139,8 @@ module _ (most : ℕ) where
   front_form nothing_before = nothing
   front_form (a_condition at k) = λ x y. (c : Tree) × (k ≡ keep most c) × under at (expression true c) x y
   front_form (s.a_loop k) = λ x y. (l : LoopTree) × (k ≡ keep_loop most l) × grammar.a_loop l x y
-  front_form (loop_and_condition k at j) = λ x y. (l : LoopTree) × (c : Tree) × (k ≡ keep_loop most l) × (j ≡ keep most c) × (grammar.a_loop l ▹ under at (expression true c)) x y
+  front_form (loop_and_condition k at j) = λ x y. (l : LoopTree) × (c : Tree) × (k ≡ keep_loop most l)
+      × (j ≡ keep most c) × (grammar.a_loop l ▹ under at (expression true c)) x y
 
   -- a header that may stand there, and then this form
   abbrev pub Headed : List Frame → (List Placed → Type 0) → Header → Form → List Placed → Type 0
@@ -136,27 +151,44 @@ module _ (most : ℕ) where
   Open [] all m = ⊥
   Open (grouping at was ∷ S) all m = (was ≡ flag S) × Then (Open S all) (token_at (flag S) at t.OpenParen) m
   Open (calling (s.function g) was k ∷ S) all m =
-      (es : List Tree) × (k ≡ keep_list most es) × (was ≡ flag S) × Then (Open S all) ((function (flag S) g ▹ token (flag S) t.OpenParen) ▹ ArgumentsRead es) m
+      (es : List Tree) × (k ≡ keep_list most es) × (was ≡ flag S)
+      × Then (Open S all) ((function (flag S) g ▹ token (flag S) t.OpenParen) ▹ ArgumentsRead es) m
   Open (calling (s.decorating ds at g) was k ∷ S) all m =
-      (es : List Tree) × (k ≡ keep_list most es) × (was ≡ flag S) × Then (Decorated S (Open S all) ds) ((sign_at at t.At ▹ decorating g ▹ sign t.OpenParen) ▹ ArgumentsRead es) m
-  Open (indexing k x ∷ S) all m = (e : Tree) × (k ≡ keep most e) × IsPrimary e × Then (Open S all) (expression (flag S) e ▹ token (flag S) (index_sign x)) m
+      (es : List Tree) × (k ≡ keep_list most es) × (was ≡ flag S)
+      × Then (Decorated S (Open S all) ds)
+      ((sign_at at t.At ▹ decorating g ▹ sign t.OpenParen) ▹ ArgumentsRead es) m
+  Open (indexing k x ∷ S) all m = (e : Tree) × (k ≡ keep most e) × IsPrimary e
+      × Then (Open S all) (expression (flag S) e ▹ token (flag S) (index_sign x)) m
   Open (opened at was ∷ S) all m = (was ≡ flag S) × Then (Open S all) (token_at (flag S) at t.OpenBracket) m
-  Open (in_array at was k ∷ S) all m = (es : List Tree) × (k ≡ keep_list most es) × (was ≡ flag S) × Then (Open S all) (token_at (flag S) at t.OpenBracket ▹ ItemsRead es) m
-  Open (in_object at was k ∷ S) all m = (ms : List MemberTree) × (k ≡ keep_members most ms) × (was ≡ flag S) × Then (Open S all) (token_at (flag S) at t.OpenBrace ▹ MembersRead ms) m
-  Open (in_text at head k ∷ S) all m = (hs : List (Tree × List ℕ)) × (k ≡ keep_holes most hs) × Then (Open S all) (token_at (flag S) at (t.LeftPiece head) ▹ HolesRead (flag S) hs) m
+  Open (in_array at was k ∷ S) all m = (es : List Tree) × (k ≡ keep_list most es) × (was ≡ flag S)
+      × Then (Open S all) (token_at (flag S) at t.OpenBracket ▹ ItemsRead es) m
+  Open (in_object at was k ∷ S) all m = (ms : List MemberTree) × (k ≡ keep_members most ms) × (was ≡ flag S)
+      × Then (Open S all) (token_at (flag S) at t.OpenBrace ▹ MembersRead ms) m
+  Open (in_text at head k ∷ S) all m = (hs : List (Tree × List ℕ)) × (k ≡ keep_holes most hs)
+      × Then (Open S all) (token_at (flag S) at (t.LeftPiece head) ▹ HolesRead (flag S) hs) m
   Open (prefixing at p ∷ S) all m = Then (Open S all) (token_at (flag S) at (prefix_sign p)) m
   Open (left o k ∷ S) all m =
-      (e : Tree) × (k ≡ keep most e) × (level o ≤ rank e) × Takes S (level o) × Then (Open S all) (expression (flag S) e ▹ token (flag S) (t.Operator o) ▹ skipped true) m
-  Open (asked k ∷ S) all m = (c : Tree) × (k ≡ keep most c) × IsOperand c × Takes S 0 × Then (Open S all) (expression (flag S) c ▹ token true t.Question ▹ skipped true) m
+      (e : Tree) × (k ≡ keep most e) × (level o ≤ rank e) × Takes S (level o)
+      × Then (Open S all) (expression (flag S) e ▹ token (flag S) (t.Operator o) ▹ skipped true) m
+  Open (asked k ∷ S) all m = (c : Tree) × (k ≡ keep most c) × IsOperand c × Takes S 0
+      × Then (Open S all) (expression (flag S) c ▹ token true t.Question ▹ skipped true) m
   Open (chosen k j ∷ S) all m =
-      (c : Tree) × (e : Tree) × (k ≡ keep most c) × (j ≡ keep most e) × IsOperand c × Takes S 0 × Then (Open S all) (expression (flag S) c ▹ token true t.Question ▹ skipped true ▹ expression (flag S) e ▹ token true t.Colon ▹ skipped true) m
+      (c : Tree) × (e : Tree) × (k ≡ keep most c) × (j ≡ keep most e) × IsOperand c × Takes S 0
+      × Then (Open S all) (expression (flag S) c ▹ token true t.Question ▹ skipped true ▹ expression
+      (flag S) e ▹ token true t.Colon ▹ skipped true) m
   Open (valued n ∷ S) all m = IsObject S × Then (Open S all) (form.labelled n ▹ sign t.Colon) m
   Open (assigned ds d ∷ S) all m = Then (Decorated S (Open S all) ds) (assigned_form d) m
-  Open (over at ns ∷ S) all m = Then (Open S all) (sign_at at t.OpenBracket ▹ word (codes "for") ▹ loop_names ns ▹ word (codes "in")) m
-  Open (body_over at ns h ∷ S) all m = Then (Headed S (Open S all) h (sign t.Assign)) (sign_at at t.OpenBracket ▹ word (codes "for") ▹ loop_names ns ▹ word (codes "in")) m
-  Open (in_names at ∷ S) all m = IsBody S × Then (Open S all) (token_at (flag S) at t.OpenBracket ▹ word (codes "for") ▹ sign t.OpenParen) m
+  Open (over at ns ∷ S) all m =
+      Then (Open S all) (sign_at at t.OpenBracket ▹ word (codes "for") ▹ loop_names ns ▹ word (codes "in")) m
+  Open (body_over at ns h ∷ S) all m =
+      Then (Headed S (Open S all) h (sign t.Assign))
+      (sign_at at t.OpenBracket ▹ word (codes "for") ▹ loop_names ns ▹ word (codes "in")) m
+  Open (in_names at ∷ S) all m = IsBody S
+      × Then (Open S all) (token_at (flag S) at t.OpenBracket ▹ word (codes "for") ▹ sign t.OpenParen) m
   Open (looped k ∷ S) all m = (l : LoopTree) × (k ≡ keep_loop most l) × Then (Open S all) (grammar.a_loop l) m
-  Open (in_condition at h g ∷ S) all m = Then (Headed S (Open S all) h (sign t.Assign)) (front_form g ▹ sign_at at (t.Name (codes "if")) ▹ sign t.OpenParen) m
+  Open (in_condition at h g ∷ S) all m =
+      Then (Headed S (Open S all) h (sign t.Assign))
+      (front_form g ▹ sign_at at (t.Name (codes "if")) ▹ sign t.OpenParen) m
   Open (bodied h g ∷ S) all m = Then (Headed S (Open S all) h (sign t.Assign)) (front_form g) m
   Open (in_file k ∷ []) all m = (ss : FileTree) × (k ≡ keep_file most ss) × StatementsRead ss all m
   Open (in_file k ∷ (F ∷ S)) all m = ⊥
@@ -178,36 +210,51 @@ module _ (most : ℕ) where
   At (wanted false) S all m = Open S all m
   At s.first S all m = IsFirst S × Open S all m
   At (s.named n) S all m = Then (Open S all) (named (flag S) n) m
-  At (qualifying y n) S all m = (n.text ≡ namespace_word y) × Then (Open S all) (named (flag S) n ▹ token (flag S) (t.Access a.Member)) m
-  At (qualified y n x) S all m = (n.text ≡ namespace_word y) × Then (Open S all) (named (flag S) n ▹ token (flag S) (t.Access a.Member) ▹ named (flag S) x) m
-  At (dotted k j) S all m = (e : Tree) × (j ≡ keep most e) × IsPrimary e × Then (Open S all) (expression (flag S) e ▹ token (flag S) (t.Access k)) m
+  At (qualifying y n) S all m = (n.text ≡ namespace_word y)
+      × Then (Open S all) (named (flag S) n ▹ token (flag S) (t.Access a.Member)) m
+  At (qualified y n x) S all m = (n.text ≡ namespace_word y)
+      × Then (Open S all) (named (flag S) n ▹ token (flag S) (t.Access a.Member) ▹ named (flag S) x) m
+  At (dotted k j) S all m = (e : Tree) × (j ≡ keep most e) × IsPrimary e
+      × Then (Open S all) (expression (flag S) e ▹ token (flag S) (t.Access k)) m
   At (done j) S all m = (e : Tree) × (j ≡ keep most e) × IsPrimary e × Then (Open S all) (expression (flag S) e) m
-  At (paused j) S all m = (e : Tree) × (j ≡ keep most e) × IsPrimary e × (flag S ≡ false) × Then (Open S all) (expression false e ▹ one is_newline ▹ any is_newline) m
+  At (paused j) S all m = (e : Tree) × (j ≡ keep most e) × IsPrimary e × (flag S ≡ false)
+      × Then (Open S all) (expression false e ▹ one is_newline ▹ any is_newline) m
   At item S all m = IsArray S × Open S all m
   At (for_wanted at) S all m = IsBody S × Then (Open S all) (token_at (flag S) at t.OpenBracket) m
-  At (names_wanted at) S all m = IsBody S × Then (Open S all) (token_at (flag S) at t.OpenBracket ▹ word (codes "for")) m
+  At (names_wanted at) S all m = IsBody S
+      × Then (Open S all) (token_at (flag S) at t.OpenBracket ▹ word (codes "for")) m
   At one_wanted S all m = IsNames S × Open S all m
   At (one_named n) S all m = IsNames S × Then (Open S all) (named true n) m
   At (other_wanted n) S all m = IsNames S × Then (Open S all) (named true n ▹ token true t.Comma) m
   At (both_named n i) S all m = IsNames S × Then (Open S all) (named true n ▹ token true t.Comma ▹ named true i) m
   At member S all m = IsObject S × Open S all m
   At (labelled n) S all m = IsObject S × Then (Open S all) (form.labelled n) m
-  At (past_member j) S all m = IsObject S × (d : MemberTree) × (j ≡ keep_member most d) × Then (Open S all) (a_member d) m
-  At (among at ns) S all m = Then (Open S all) (token_at (flag S) at t.OpenBracket ▹ word (codes "for") ▹ loop_names ns) m
+  At (past_member j) S all m = IsObject S × (d : MemberTree) × (j ≡ keep_member most d)
+      × Then (Open S all) (a_member d) m
+  At (among at ns) S all m =
+      Then (Open S all) (token_at (flag S) at t.OpenBracket ▹ word (codes "for") ▹ loop_names ns) m
   At s.body S all m = IsBody S × Open S all m
   At looped_body S all m = IsBody S × Open S all m
   At (condition at) S all m = IsBody S × Then (Open S all) (sign_at at (t.Name (codes "if"))) m
   At guarded S all m = IsBody S × Open S all m
-  At (body_end h j) S all m = (b : BodyTree) × (j ≡ keep_body most b) × Then (Headed S (Open S all) h (sign t.Assign)) (open_body b) m
+  At (body_end h j) S all m = (b : BodyTree) × (j ≡ keep_body most b)
+      × Then (Headed S (Open S all) h (sign t.Assign)) (open_body b) m
   At (at_sign ds at) S all m = Then (Decorated S (Open S all) ds) (sign_at at t.At) m
   At (decorator_named ds at n) S all m = Then (Decorated S (Open S all) ds) (sign_at at t.At ▹ named false n) m
-  At (decorator_spaced ds at from) S all m = Then (Decorated S (Open S all) ds) (sign_at at t.At ▹ sign_at from (t.Name (codes "sys")) ▹ sign (t.Access a.Member)) m
+  At (decorator_spaced ds at from) S all m =
+      Then (Decorated S (Open S all) ds)
+      (sign_at at t.At ▹ sign_at from (t.Name (codes "sys")) ▹ sign (t.Access a.Member)) m
   At (decorator_ready ds at g) S all m = Then (Decorated S (Open S all) ds) (sign_at at t.At ▹ decorating g) m
-  At (decorated ds) S all m = (flag S ≡ false) × (dts : List DecoratorTree) × (d : DecoratorTree) × (m1 : List Placed) × (ds ≡ keep_decorators most (dts ++ d ∷ [])) × Open S all m1 × (grammar.decorated (decorators dts) ▹ a_decorator d) m1 m
+  At (decorated ds) S all m = (flag S ≡ false) × (dts : List DecoratorTree) × (d : DecoratorTree) × (m1 : List Placed)
+      × (ds ≡ keep_decorators most (dts ++ d ∷ [])) × Open S all m1
+      × (grammar.decorated (decorators dts) ▹ a_decorator d) m1 m
   At (past_decorators ds) S all m = Decorated S (Open S all) ds m
-  At (declaring ds at word) S all m = Beginning word S × Then (Decorated S (Open S all) ds) (word_at at (word_text word)) m
-  At (declared ds at word n) S all m = Beginning word S × Then (Decorated S (Open S all) ds) (word_at at (word_text word) ▹ named false n) m
-  At (typed ds at word n ty) S all m = Beginning word S × Then (Decorated S (Open S all) ds) (word_at at (word_text word) ▹ named false n ▹ form.word (type_word ty)) m
+  At (declaring ds at word) S all m = Beginning word S
+      × Then (Decorated S (Open S all) ds) (word_at at (word_text word)) m
+  At (declared ds at word n) S all m = Beginning word S
+      × Then (Decorated S (Open S all) ds) (word_at at (word_text word) ▹ named false n) m
+  At (typed ds at word n ty) S all m = Beginning word S
+      × Then (Decorated S (Open S all) ds) (word_at at (word_text word) ▹ named false n ▹ form.word (type_word ty)) m
   At (headed h) S all m = IsNew h × Headed S (Open S all) h nothing m
   At (existed h) S all m = Headed S (Open S all) h nothing m
   At between S all m = IsFile S × Open S all m

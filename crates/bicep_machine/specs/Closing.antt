@@ -1,14 +1,27 @@
--- The ends of expressions: operators are closed as far as the next token asks, and what is open then takes the expression.
-use Rattle.std.specs.Prelude.{ℕ, max, nat_le, Bool, true, false, List, [], ◌∷◌, bytes_eq, codes, Option, Some, None, if◌then◌else◌}
+-- The ends of expressions: operators are closed as far as the next token asks, and what is open then takes the
+-- expression.
+use Rattle.std.specs.Prelude.{ℕ, max, nat_le, Bool, true, false, List, [], ◌∷◌, bytes_eq, codes, Option, Some, None}
+use Rattle.std.specs.Prelude.{if◌then◌else◌}
 use Rattle.bicep_tree.specs.declared.leaf.Name.{Name}
 use Rattle.bicep_tree.specs.declared.leaf.LoopNames.{LoopNames}
 use Rattle.bicep_tree.specs.declared.leaf.LoopNames.TheVariants as ns
 use Rattle.bicep_tree.specs.declared.leaf.Function.TheVariants as f
-use Rattle.bicep_tree.specs.Tree.{Tree, name, call, none, more, ObjectTree, MemberTree, child, ValueTree, plain, resource, BodyTree, DeclarationTree, metadata, target_scope, param_with, var, output, a_resource, a_module, StatementTree, statement, decorators}
+use Rattle.bicep_tree.specs.Tree.{Tree, name, call, none, more, ObjectTree, MemberTree, child, ValueTree, plain}
+use Rattle.bicep_tree.specs.Tree.{resource, BodyTree, DeclarationTree, metadata, target_scope, param_with, var}
+use Rattle.bicep_tree.specs.Tree.{output, a_resource, a_module, StatementTree, statement, decorators}
 use Rattle.bicep_tree.specs.Precedence.{level}
 use Rattle.bicep_machine.specs.declared.word.Owner.TheVariants as owner
-use Rattle.bicep_machine.specs.Kept.{Kept, put, empty, of_holes, of_members, of_items, of_parentheses, of_call, of_index, of_prefix, of_binary, of_conditional, of_each, of_body_each, of_body_each_if, of_object, of_plain, of_property, of_loop, of_decorator, of_body_plain, of_body_if, of_hole}
-use Rattle.bicep_machine.specs.Stack.{Decorators, Callee, function, decorating, Header, header, Front, nothing_before, a_condition, a_loop, loop_and_condition, Assigned, to_metadata, to_scope, to_param, to_var, to_output, Frame, grouping, calling, indexing, opened, in_array, in_object, in_text, prefixing, left, asked, chosen, valued, assigned, over, body_over, looped, in_condition, bodied, in_file, wanted, done, item, member, past_member, among, looped_body, guarded, body_end, decorated, between, behind, Next}
+use Rattle.bicep_machine.specs.Kept.{Kept, put, empty, of_holes, of_members, of_items, of_parentheses, of_call}
+use Rattle.bicep_machine.specs.Kept.{of_index, of_prefix, of_binary, of_conditional, of_each, of_body_each}
+use Rattle.bicep_machine.specs.Kept.{of_body_each_if, of_object, of_plain, of_property, of_loop, of_decorator}
+use Rattle.bicep_machine.specs.Kept.{of_body_plain, of_body_if, of_hole}
+use Rattle.bicep_machine.specs.Stack.{Decorators, Callee, function, decorating, Header, header, Front, nothing_before}
+use Rattle.bicep_machine.specs.Stack.{a_condition, a_loop, loop_and_condition, Assigned, to_metadata, to_scope}
+use Rattle.bicep_machine.specs.Stack.{to_param, to_var, to_output, Frame, grouping, calling, indexing, opened}
+use Rattle.bicep_machine.specs.Stack.{in_array, in_object, in_text, prefixing, left, asked, chosen, valued, assigned}
+use Rattle.bicep_machine.specs.Stack.{over, body_over, looped, in_condition, bodied, in_file, wanted, done, item}
+use Rattle.bicep_machine.specs.Stack.{member, past_member, among, looped_body, guarded, body_end, decorated, between}
+use Rattle.bicep_machine.specs.Stack.{behind, Next}
 
 -- an expression, and what is open around it
 abbrev pub Closed : Type 0
@@ -45,8 +58,10 @@ member_put m S = None
 
 -- what a resource or a module is
 abbrev pub body_on : Header → Kept BodyTree → List Frame → Next
-body_on (header ds at (owner.Resource x) n p) b S = Some (behind (of_statement ds (a_resource (resource at n p x b.0), b.1)), false, S)
-body_on (header ds at (owner.Child x) n p) b S = Some (past_member (child (decorators ds.0) (resource at n p x b.0), max ds.1 b.1), false, S)
+body_on (header ds at (owner.Resource x) n p) b S =
+    Some (behind (of_statement ds (a_resource (resource at n p x b.0), b.1)), false, S)
+body_on (header ds at (owner.Child x) n p) b S =
+    Some (past_member (child (decorators ds.0) (resource at n p x b.0), max ds.1 b.1), false, S)
 body_on (header ds at owner.Module n p) b S = Some (behind (of_statement ds (a_module at n p b.0, b.1)), false, S)
 
 -- a for-expression stands in its place
@@ -63,7 +78,8 @@ each_on v S = None
 abbrev pub over_on : ℕ → LoopNames → List Frame → Next
 over_on at ns (valued l ∷ S) = Some (wanted false, false, over at ns ∷ valued l ∷ S)
 over_on at ns (assigned ds (to_var w n) ∷ S) = Some (wanted false, false, over at ns ∷ assigned ds (to_var w n) ∷ S)
-over_on at ns (assigned ds (to_output w n ty) ∷ S) = Some (wanted false, false, over at ns ∷ assigned ds (to_output w n ty) ∷ S)
+over_on at ns (assigned ds (to_output w n ty) ∷ S) =
+    Some (wanted false, false, over at ns ∷ assigned ds (to_output w n ty) ∷ S)
 over_on at ns (bodied h nothing_before ∷ S) = Some (wanted false, false, body_over at ns h ∷ S)
 over_on at ns S = None
 

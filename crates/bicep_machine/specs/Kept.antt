@@ -1,4 +1,5 @@
--- What is kept of what was read: the part, and how deep it nests. In the place of an expression that nests above the limit
+-- What is kept of what was read: the part, and how deep it nests. In the place of an expression that nests above the
+-- limit
 -- a leaf is kept, and one more than the limit for its depth.
 use Rattle.std.specs.Prelude.{ℕ, ◌+◌, max, nat_lt, List, [], ◌∷◌, ◌++◌, if◌then◌else◌}
 use Rattle.bicep_tree.specs.declared.leaf.Name.{Name}
@@ -10,7 +11,10 @@ use Rattle.bicep_tree.specs.declared.leaf.Access.{Access}
 use Rattle.bicep_tree.specs.declared.leaf.Indexing.{Indexing}
 use Rattle.bicep_tree.specs.declared.leaf.Prefix.{Prefix}
 use Rattle.bicep_tree.specs.declared.leaf.Operator.{Operator}
-use Rattle.bicep_tree.specs.Tree.{Tree, literal, interpolated, object, array, parentheses, call, access, index, not_null, prefixed, binary, conditional, ObjectTree, braces, MemberTree, property, no_member, ValueTree, plain, each, LoopTree, loop, DecoratorTree, decorator, BodyTree, body_plain, body_if, body_each, body_each_if, trees, holes, members}
+use Rattle.bicep_tree.specs.Tree.{Tree, literal, interpolated, object, array, parentheses, call, access, index}
+use Rattle.bicep_tree.specs.Tree.{not_null, prefixed, binary, conditional, ObjectTree, braces, MemberTree, property}
+use Rattle.bicep_tree.specs.Tree.{no_member, ValueTree, plain, each, LoopTree, loop, DecoratorTree, decorator}
+use Rattle.bicep_tree.specs.Tree.{BodyTree, body_plain, body_if, body_each, body_each_if, trees, holes, members}
 
 abbrev pub Kept : Type 0 → Type 0
 Kept X = X × ℕ

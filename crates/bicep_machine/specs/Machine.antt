@@ -1,5 +1,6 @@
 -- Reading a file, one token after another, with what is open on a stack.
-use Rattle.std.specs.Prelude.{ℕ, ◌&&◌, Bool, true, false, List, [], ◌∷◌, bytes_eq, codes, Option, Some, None, option_and_then, if◌then◌else◌}
+use Rattle.std.specs.Prelude.{ℕ, ◌&&◌, Bool, true, false, List, [], ◌∷◌, bytes_eq, codes, Option, Some, None}
+use Rattle.std.specs.Prelude.{option_and_then, if◌then◌else◌}
 use Rattle.bicep_tree.specs.declared.leaf.Name.{Name}
 use Rattle.bicep_tree.specs.declared.leaf.Quoted.{Quoted}
 use Rattle.bicep_tree.specs.declared.leaf.Label.{Label}
@@ -29,8 +30,19 @@ use Rattle.bicep_machine.specs.declared.word.Word.{Word}
 use Rattle.bicep_machine.specs.declared.word.Word.TheVariants as w
 use Rattle.bicep_machine.specs.declared.word.Owner.TheVariants as owner
 use Rattle.bicep_machine.specs.Kept.{Kept, flat, put, empty, of_access, of_not_null}
-use Rattle.bicep_machine.specs.Stack.{Decorators, function, decorating, Header, header, nothing_before, to_metadata, to_scope, to_param, to_var, to_output, Frame, grouping, calling, indexing, opened, in_object, in_text, prefixing, left, asked, valued, assigned, in_names, in_condition, bodied, in_file, State, wanted, first, named, qualifying, qualified, dotted, done, paused, item, for_wanted, names_wanted, one_wanted, one_named, other_wanted, both_named, member, labelled, past_member, among, body, looped_body, condition, guarded, body_end, at_sign, decorator_named, decorator_spaced, decorator_ready, decorated, past_decorators, declaring, declared, typed, headed, existed, between, behind, Next}
-use Rattle.bicep_machine.specs.Closing.{Closed, of_statement, with_expression, filed, member_put, body_on, over_on, is_for, pair_of, pair_on, item_on, item_parted, closed, members_closed, member_closed, items_closed, call_closed, paren_on, bracket_on, comma_on, brace_on, colon_on, late_colon_on, middle_on, right_on, newline_on}
+use Rattle.bicep_machine.specs.Stack.{Decorators, function, decorating, Header, header, nothing_before, to_metadata}
+use Rattle.bicep_machine.specs.Stack.{to_scope, to_param, to_var, to_output, Frame, grouping, calling, indexing}
+use Rattle.bicep_machine.specs.Stack.{opened, in_object, in_text, prefixing, left, asked, valued, assigned, in_names}
+use Rattle.bicep_machine.specs.Stack.{in_condition, bodied, in_file, State, wanted, first, named, qualifying}
+use Rattle.bicep_machine.specs.Stack.{qualified, dotted, done, paused, item, for_wanted, names_wanted, one_wanted}
+use Rattle.bicep_machine.specs.Stack.{one_named, other_wanted, both_named, member, labelled, past_member, among, body}
+use Rattle.bicep_machine.specs.Stack.{looped_body, condition, guarded, body_end, at_sign, decorator_named}
+use Rattle.bicep_machine.specs.Stack.{decorator_spaced, decorator_ready, decorated, past_decorators, declaring}
+use Rattle.bicep_machine.specs.Stack.{declared, typed, headed, existed, between, behind, Next}
+use Rattle.bicep_machine.specs.Closing.{Closed, of_statement, with_expression, filed, member_put, body_on, over_on}
+use Rattle.bicep_machine.specs.Closing.{is_for, pair_of, pair_on, item_on, item_parted, closed, members_closed}
+use Rattle.bicep_machine.specs.Closing.{member_closed, items_closed, call_closed, paren_on, bracket_on, comma_on}
+use Rattle.bicep_machine.specs.Closing.{brace_on, colon_on, late_colon_on, middle_on, right_on, newline_on}
 
 -- ---- words
 
@@ -51,7 +63,8 @@ is_existing w = bytes_eq w (codes "existing")
 
 -- the name space of a word
 unfoldable pub namespace_of : List ℕ → Option Namespace
-namespace_of w = if bytes_eq w (codes "sys") then Some space.Sys else if bytes_eq w (codes "az") then Some space.Az else None
+namespace_of w = if bytes_eq w (codes "sys") then Some space.Sys else if bytes_eq w (codes "az") then Some space.Az
+    else None
 
 -- the type of a word
 unfoldable pub type_of : List ℕ → Option TypeName
@@ -130,12 +143,15 @@ at_sign_step ds sign S at (t.Name s) = Some (decorator_named ds sign (name_at at
 at_sign_step ds sign S at s = None
 
 abbrev pub decorator_named_step : Decorators → ℕ → Name → List Frame → Terminal → Next
-decorator_named_step ds sign n S t.OpenParen = Some (first, true, calling (decorating ds sign (f.Plain n)) false empty ∷ S)
-decorator_named_step ds sign n S (t.Access a.Member) = if is_sys n.text then Some (decorator_spaced ds sign n.at, false, S) else None
+decorator_named_step ds sign n S t.OpenParen =
+    Some (first, true, calling (decorating ds sign (f.Plain n)) false empty ∷ S)
+decorator_named_step ds sign n S (t.Access a.Member) = if is_sys n.text
+    then Some (decorator_spaced ds sign n.at, false, S) else None
 decorator_named_step ds sign n S s = None
 
 abbrev pub decorator_spaced_step : Decorators → ℕ → ℕ → List Frame → ℕ → Terminal → Next
-decorator_spaced_step ds sign from S at (t.Name s) = Some (decorator_ready ds sign (f.Qualified from space.Sys (name_at at s)), false, S)
+decorator_spaced_step ds sign from S at (t.Name s) =
+    Some (decorator_ready ds sign (f.Qualified from space.Sys (name_at at s)), false, S)
 decorator_spaced_step ds sign from S at s = None
 
 abbrev pub decorator_ready_step : Decorators → ℕ → Function → List Frame → Terminal → Next
@@ -166,9 +182,12 @@ declared_step ds from w.Metadata n S at t.Assign = Some (wanted false, false, as
 declared_step ds from w.Var n S at t.Assign = Some (wanted false, false, assigned ds (to_var from n) ∷ S)
 declared_step ds from w.Param n S at (t.Name s) = type_on ds from w.Param n (type_of s) S
 declared_step ds from w.Output n S at (t.Name s) = type_on ds from w.Output n (type_of s) S
-declared_step ds from w.Resource n S at (t.Literal (l.Text s)) = Some (headed (header ds from (owner.Resource false) n (quoted_at at s)), false, S)
-declared_step ds from w.Child n S at (t.Literal (l.Text s)) = Some (headed (header ds from (owner.Child false) n (quoted_at at s)), false, S)
-declared_step ds from w.Module n S at (t.Literal (l.Text s)) = Some (headed (header ds from owner.Module n (quoted_at at s)), false, S)
+declared_step ds from w.Resource n S at (t.Literal (l.Text s)) =
+    Some (headed (header ds from (owner.Resource false) n (quoted_at at s)), false, S)
+declared_step ds from w.Child n S at (t.Literal (l.Text s)) =
+    Some (headed (header ds from (owner.Child false) n (quoted_at at s)), false, S)
+declared_step ds from w.Module n S at (t.Literal (l.Text s)) =
+    Some (headed (header ds from owner.Module n (quoted_at at s)), false, S)
 declared_step ds from word n S at s = None
 
 abbrev pub typed_step : Decorators → ℕ → Word → Name → TypeName → List Frame → Terminal → Next
@@ -251,7 +270,8 @@ among_step at ns S s = None
 -- the name `resource` and another name begin a nested resource
 abbrev pub labelled_step : Label → List Frame → ℕ → Terminal → Next
 labelled_step n S at t.Colon = Some (wanted false, false, valued n ∷ S)
-labelled_step (label.Name n) S at (t.Name s) = if is_resource n.text then Some (declared empty n.at w.Child (name_at at s), false, S) else None
+labelled_step (label.Name n) S at (t.Name s) = if is_resource n.text
+    then Some (declared empty n.at w.Child (name_at at s), false, S) else None
 labelled_step n S at s = None
 
 module _ (most : ℕ) where
@@ -298,7 +318,8 @@ module _ (most : ℕ) where
   qualifying_step space n i S at s = None
 
   abbrev pub qualified_step : Namespace → Name → Name → Bool → List Frame → Terminal → Next
-  qualified_step space n m i S t.OpenParen = Some (first, true, calling (function (f.Qualified n.at space m)) i empty ∷ S)
+  qualified_step space n m i S t.OpenParen =
+      Some (first, true, calling (function (f.Qualified n.at space m)) i empty ∷ S)
   qualified_step space n m i S s = gone_on (of_access most (flat (name n)) a.Member m) i S s
 
   abbrev pub dotted_step : Access → Kept Tree → Bool → List Frame → ℕ → Terminal → Next

@@ -14,8 +14,10 @@ pub record IsKept (most : ℕ) (f : FileTree) (k : Kept FileTree) : Type 0 where
 
 -- a file that tokens spell is read of them
 abbrev pub SpelledIsRead : Type 0
-SpelledIsRead = (most : ℕ) (f : FileTree) (ts : List Placed) → 1 ≤ most → a_file f ts [] → (k : Kept FileTree) × (parsed most ts ≡ Some k) × IsKept most f k
+SpelledIsRead = (most : ℕ) (f : FileTree) (ts : List Placed) → 1 ≤ most → a_file f ts [] → (k : Kept FileTree)
+    × (parsed most ts ≡ Some k) × IsKept most f k
 
 -- what is read of tokens is a file that they spell
 abbrev pub ReadIsSpelled : Type 0
-ReadIsSpelled = (most : ℕ) (ts : List Placed) (k : Kept FileTree) → parsed most ts ≡ Some k → (f : FileTree) × a_file f ts [] × IsKept most f k
+ReadIsSpelled = (most : ℕ) (ts : List Placed) (k : Kept FileTree) → parsed most ts ≡ Some k → (f : FileTree)
+    × a_file f ts [] × IsKept most f k

@@ -13,8 +13,10 @@ use Rattle.bicep_tree.specs.declared.expr.Object.{Object}
 use Rattle.bicep_tree.specs.declared.expr.Value.{Value}
 use Rattle.bicep_tree.specs.declared.declaration.Declaration.{Declaration}
 use Rattle.bicep_tree.specs.declared.declaration.Statement.{Statement}
-use Rattle.bicep_tree.specs.Tree.{Tree, ObjectTree, MemberTree, ValueTree, LoopTree, DecoratorTree, BodyTree, DeclarationTree, StatementTree}
-use Rattle.bicep_tree.specs.View.{HoleTree, tree_of, body_of, member_of, value_of, decorator_of, hole_of, loop_of, object_of, declaration_of, statement_of, file_of}
+use Rattle.bicep_tree.specs.Tree.{Tree, ObjectTree, MemberTree, ValueTree, LoopTree, DecoratorTree, BodyTree}
+use Rattle.bicep_tree.specs.Tree.{DeclarationTree, StatementTree}
+use Rattle.bicep_tree.specs.View.{HoleTree, tree_of, body_of, member_of, value_of, decorator_of, hole_of, loop_of}
+use Rattle.bicep_tree.specs.View.{object_of, declaration_of, statement_of, file_of}
 use Rattle.bicep_machine.specs.declared.kept.Kept as code
 use Rattle.bicep_machine.specs.declared.frame.Callee as callees
 use Rattle.bicep_machine.specs.declared.frame.Callee.TheVariants as callee
@@ -31,7 +33,16 @@ use Rattle.bicep_machine.specs.declared.state.Next as nexts
 use Rattle.bicep_machine.specs.declared.stop.Stop.{Stop}
 use Rattle.bicep_machine.specs.declared.stop.Stop.TheVariants as stop
 use Rattle.bicep_machine.specs.Kept.{Kept}
-use Rattle.bicep_machine.specs.Stack.{Decorators, Callee, function, decorating, Header, header, Front, nothing_before, a_condition, a_loop, loop_and_condition, Assigned, to_metadata, to_scope, to_param, to_var, to_output, Frame, grouping, calling, indexing, opened, in_array, in_object, in_text, prefixing, left, asked, chosen, valued, assigned, over, body_over, in_names, looped, in_condition, bodied, in_file, State, wanted, first, named, qualifying, qualified, dotted, done, paused, item, for_wanted, names_wanted, one_wanted, one_named, other_wanted, both_named, member, labelled, past_member, among, body, looped_body, condition, guarded, body_end, at_sign, decorator_named, decorator_spaced, decorator_ready, decorated, past_decorators, declaring, declared, typed, headed, existed, between, behind}
+use Rattle.bicep_machine.specs.Stack.{Decorators, Callee, function, decorating, Header, header, Front, nothing_before}
+use Rattle.bicep_machine.specs.Stack.{a_condition, a_loop, loop_and_condition, Assigned, to_metadata, to_scope}
+use Rattle.bicep_machine.specs.Stack.{to_param, to_var, to_output, Frame, grouping, calling, indexing, opened}
+use Rattle.bicep_machine.specs.Stack.{in_array, in_object, in_text, prefixing, left, asked, chosen, valued, assigned}
+use Rattle.bicep_machine.specs.Stack.{over, body_over, in_names, looped, in_condition, bodied, in_file, State, wanted}
+use Rattle.bicep_machine.specs.Stack.{first, named, qualifying, qualified, dotted, done, paused, item, for_wanted}
+use Rattle.bicep_machine.specs.Stack.{names_wanted, one_wanted, one_named, other_wanted, both_named, member, labelled}
+use Rattle.bicep_machine.specs.Stack.{past_member, among, body, looped_body, condition, guarded, body_end, at_sign}
+use Rattle.bicep_machine.specs.Stack.{decorator_named, decorator_spaced, decorator_ready, decorated, past_decorators}
+use Rattle.bicep_machine.specs.Stack.{declaring, declared, typed, headed, existed, between, behind}
 
 -- ---- what is kept
 

@@ -1,5 +1,6 @@
 -- Tokens that end what is open: the tokens, and how the machine reads them.
-use Rattle.std.proofs.Common.{◌≡◌, ◌<◌, ℕ, zero, suc, nat_lt, ◌&&◌, List, [], ◌∷◌, map, Bool, true, false, true≢false, Some, option_and_then, chars, codes, refl, sym, ap, ◌∙◌, arith}
+use Rattle.std.proofs.Common.{◌≡◌, ◌<◌, ℕ, zero, suc, nat_lt, ◌&&◌, List, [], ◌∷◌, map, Bool, true, false, true≢false}
+use Rattle.std.proofs.Common.{Some, option_and_then, chars, codes, refl, sym, ap, ◌∙◌, arith}
 use Rattle.std.specs.List.{list_all}
 use Rattle.std.specs.Str.{IsAscii}
 use Rattle.std.proofs.lemmas.Bool.Decides.{nat_tests}
@@ -18,7 +19,8 @@ use Rattle.bicep_tree.specs.Forms.{is_newline}
 use Rattle.bicep_machine.specs.Kept.{Kept, flat, of_access}
 use Rattle.bicep_machine.specs.Stack as s
 use Rattle.bicep_machine.specs.Stack.{Frame, State, wanted, qualified, done, past_member, behind, in_file, Next}
-use Rattle.bicep_machine.specs.Closing.{Closed, closed, object_on, each_on, members_closed, member_closed, paren_on, bracket_on, brace_on, colon_on, right_on}
+use Rattle.bicep_machine.specs.Closing.{Closed, closed, object_on, each_on, members_closed, member_closed, paren_on}
+use Rattle.bicep_machine.specs.Closing.{bracket_on, brace_on, colon_on, right_on}
 use Rattle.bicep_machine.specs.Machine.{moved, step, ended, ended_by, run}
 use Rattle.bicep_parser.proofs.Fitting.{inside, members, statements, looping, Fits, Value}
 use Rattle.bicep_parser.proofs.Following.{choose}
@@ -137,29 +139,35 @@ no_line true b e h = true≢false (sym h ∙ e)
 no_line false b e h = true≢false (sym h)
 
 -- a token, and then tokens that end what is open
-pub by_token : (x : Standing) (y : Terminal) (st : State) (i : Bool) (S : List Frame) → terminal_of x ≡ y → is_newline y ≡ false → Leads (moved 64 st i S x.1 y) → Completes st i S
+pub by_token : (x : Standing) (y : Terminal) (st : State) (i : Bool) (S : List Frame) → terminal_of x ≡ y
+    → is_newline y ≡ false → Leads (moved 64 st i S x.1 y) → Completes st i S
 by_token x y st i S is stays l =
     record {
       more = x ∷ l.completes.more;
       kept = l.completes.kept;
-      reads = ap (λ z. option_and_then (λ r. run 64 r.0 r.1 r.2 (map placed l.completes.more)) (step 64 st i S (x.1, z))) is
+      reads =
+          ap (λ z. option_and_then (λ r. run 64 r.0 r.1 r.2 (map placed l.completes.more)) (step 64 st i S (x.1, z)))
+          is
           ∙ ap (option_and_then (λ r. run 64 r.0 r.1 r.2 (map placed l.completes.more))) stepped
           ∙ l.completes.reads;
     }
   where
     stepped : step 64 st i S (x.1, y) ≡ Some l.next
-    stepped = choose (λ n. n ≡ Some l.next) (i && is_newline y) (Some (st, i, S)) (moved 64 st i S x.1 y) (λ e. absurd (no_line i (is_newline y) stays e)) (λ e. l.is)
+    stepped = choose (λ n. n ≡ Some l.next) (i && is_newline y) (Some (st, i, S)) (moved 64 st i S x.1 y)
+        (λ e. absurd (no_line i (is_newline y) stays e)) (λ e. l.is)
 
 -- a step that is known
 pub to : (st : State) (i : Bool) (S : List Frame) → Completes st i S → Leads (Some (st, i, S))
 to st i S c = record { next = (st, i, S); is = refl; completes = c }
 
 -- a word that is read as a name
-pub by_word : (u : List ℕ) (st : State) (i : Bool) (S : List Frame) → IsName u → Leads (moved 64 st i S 0 (t.Name u)) → Completes st i S
+pub by_word : (u : List ℕ) (st : State) (i : Bool) (S : List Frame) → IsName u → Leads (moved 64 st i S 0 (t.Name u))
+    → Completes st i S
 by_word u st i S is l = by_token (word u) (t.Name u) st i S is refl l
 
 -- a mark that ends an expression
-pub by_closer : (c : Closer) (st : State) (i : Bool) (S : List Frame) → Leads (moved 64 st i S 0 (closer_terminal c)) → Completes st i S
+pub by_closer : (c : Closer) (st : State) (i : Bool) (S : List Frame) → Leads (moved 64 st i S 0 (closer_terminal c))
+    → Completes st i S
 by_closer colon st i S l = by_token (closer colon) t.Colon st i S refl refl l
 by_closer paren st i S l = by_token (closer paren) t.CloseParen st i S refl refl l
 by_closer bracket st i S l = by_token (closer bracket) t.CloseBracket st i S refl refl l
@@ -177,7 +185,8 @@ done_ends e i S (by bracket l) = by_closer bracket (done e) i S l
 done_ends e i S (by brace l) = by_closer brace (done e) i S l
 done_ends e i S (by piece l) = by_closer piece (done e) i S l
 
-pub named_ends : (n : Name) (i : Bool) (S : List Frame) → Ending (closed 64 0 (flat (name n)) S) i → Completes (s.named n) i S
+pub named_ends : (n : Name) (i : Bool) (S : List Frame) → Ending (closed 64 0 (flat (name n)) S) i
+    → Completes (s.named n) i S
 named_ends n i S (at_end r h) = record { more = []; kept = r; reads = h }
 named_ends n i S (by colon l) = by_closer colon (s.named n) i S l
 named_ends n i S (by paren l) = by_closer paren (s.named n) i S l
@@ -185,7 +194,8 @@ named_ends n i S (by bracket l) = by_closer bracket (s.named n) i S l
 named_ends n i S (by brace l) = by_closer brace (s.named n) i S l
 named_ends n i S (by piece l) = by_closer piece (s.named n) i S l
 
-pub qualified_ends : (q : Namespace) (n m : Name) (i : Bool) (S : List Frame) → Ending (closed 64 0 (of_access 64 (flat (name n)) a.Member m) S) i → Completes (qualified q n m) i S
+pub qualified_ends : (q : Namespace) (n m : Name) (i : Bool) (S : List Frame)
+    → Ending (closed 64 0 (of_access 64 (flat (name n)) a.Member m) S) i → Completes (qualified q n m) i S
 qualified_ends q n m i S (at_end r h) = record { more = []; kept = r; reads = h }
 qualified_ends q n m i S (by colon l) = by_closer colon (qualified q n m) i S l
 qualified_ends q n m i S (by paren l) = by_closer paren (qualified q n m) i S l
@@ -208,7 +218,8 @@ wanted_ends false i S h = by_word (codes "x") (wanted false) i S x_is (to (s.nam
 -- ---- statements and members
 
 -- the file ends behind a statement
-pub file_ends : (S : List Frame) → Fits statements S → (st : Kept StatementTree) → (r : Kept (List StatementTree)) × (ended 64 st S ≡ Some r)
+pub file_ends : (S : List Frame) → Fits statements S → (st : Kept StatementTree) → (r : Kept (List StatementTree))
+    × (ended 64 st S ≡ Some r)
 file_ends [] h st = absurd h
 file_ends (in_file ss ∷ []) h st = (_, refl)
 file_ends (in_file ss ∷ (F ∷ S)) h st = absurd h
@@ -218,5 +229,6 @@ pub behind_ends : (st : Kept StatementTree) (i : Bool) (S : List Frame) → Fits
 behind_ends st i S h = let e = file_ends S h st in record { more = []; kept = e.0; reads = e.1 }
 
 -- an object ends behind a member
-pub past_member_ends : (m : Kept MemberTree) (i : Bool) (S : List Frame) → Leads (member_closed 64 m S) → Completes (past_member m) i S
+pub past_member_ends : (m : Kept MemberTree) (i : Bool) (S : List Frame) → Leads (member_closed 64 m S)
+    → Completes (past_member m) i S
 past_member_ends m i S l = by_closer brace (past_member m) i S l

@@ -4,7 +4,14 @@ use Rattle.bicep_machine.specs.declared.word.Word.{Word}
 use Rattle.bicep_machine.specs.declared.word.Word.TheVariants as w
 use Rattle.bicep_machine.specs.declared.word.Owner.TheVariants as owner
 use Rattle.bicep_machine.specs.Stack as s
-use Rattle.bicep_machine.specs.Stack.{Header, header, Front, nothing_before, Frame, grouping, calling, indexing, opened, in_array, in_object, in_text, prefixing, left, asked, chosen, valued, assigned, over, body_over, in_names, looped, in_condition, bodied, in_file, State, wanted, qualifying, qualified, dotted, done, paused, item, for_wanted, names_wanted, one_wanted, one_named, other_wanted, both_named, member, labelled, past_member, among, looped_body, condition, guarded, body_end, at_sign, decorator_named, decorator_spaced, decorator_ready, decorated, past_decorators, declaring, declared, typed, headed, existed, between, behind, Next}
+use Rattle.bicep_machine.specs.Stack.{Header, header, Front, nothing_before, Frame, grouping, calling, indexing}
+use Rattle.bicep_machine.specs.Stack.{opened, in_array, in_object, in_text, prefixing, left, asked, chosen, valued}
+use Rattle.bicep_machine.specs.Stack.{assigned, over, body_over, in_names, looped, in_condition, bodied, in_file}
+use Rattle.bicep_machine.specs.Stack.{State, wanted, qualifying, qualified, dotted, done, paused, item, for_wanted}
+use Rattle.bicep_machine.specs.Stack.{names_wanted, one_wanted, one_named, other_wanted, both_named, member, labelled}
+use Rattle.bicep_machine.specs.Stack.{past_member, among, looped_body, condition, guarded, body_end, at_sign}
+use Rattle.bicep_machine.specs.Stack.{decorator_named, decorator_spaced, decorator_ready, decorated, past_decorators}
+use Rattle.bicep_machine.specs.Stack.{declaring, declared, typed, headed, existed, between, behind, Next}
 use Rattle.bicep_machine.specs.Closing.{takes_loops}
 
 -- what comes next in what is open

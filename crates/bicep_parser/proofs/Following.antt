@@ -9,8 +9,15 @@ use Rattle.bicep_tree.specs.Precedence.{level}
 use Rattle.bicep_machine.specs.declared.word.Owner.TheVariants as owner
 use Rattle.bicep_machine.specs.Kept.{Kept, of_prefix, of_binary, of_conditional}
 use Rattle.bicep_machine.specs.Stack as s
-use Rattle.bicep_machine.specs.Stack.{Header, header, Front, nothing_before, a_condition, loop_and_condition, to_var, to_output, Frame, grouping, calling, indexing, opened, in_array, in_object, in_text, prefixing, left, asked, chosen, valued, assigned, over, body_over, looped, in_condition, bodied, in_file}
-use Rattle.bicep_machine.specs.Closing.{Closed, filed, member_put, body_on, each_on, over_on, is_for, pair_on, named_on, item_on, takes_loops, item_parted, closed, fronted, object_on, members_closed, member_closed, items_closed, call_closed, paren_on, bracket_on, comma_on, brace_on, colon_on, late_colon_on, middle_on, right_on, newline_on}
+use Rattle.bicep_machine.specs.Stack.{Header, header, Front, nothing_before, a_condition, loop_and_condition, to_var}
+use Rattle.bicep_machine.specs.Stack.{to_output, Frame, grouping, calling, indexing, opened, in_array, in_object}
+use Rattle.bicep_machine.specs.Stack.{in_text, prefixing, left, asked, chosen, valued, assigned, over, body_over}
+use Rattle.bicep_machine.specs.Stack.{looped, in_condition, bodied, in_file}
+use Rattle.bicep_machine.specs.Closing.{Closed, filed, member_put, body_on, each_on, over_on, is_for, pair_on}
+use Rattle.bicep_machine.specs.Closing.{named_on, item_on, takes_loops, item_parted, closed, fronted, object_on}
+use Rattle.bicep_machine.specs.Closing.{members_closed, member_closed, items_closed, call_closed, paren_on}
+use Rattle.bicep_machine.specs.Closing.{bracket_on, comma_on, brace_on, colon_on, late_colon_on, middle_on, right_on}
+use Rattle.bicep_machine.specs.Closing.{newline_on}
 use Rattle.bicep_machine.specs.Machine.{with_operator, with_question}
 use Rattle.bicep_parser.proofs.Fitting.{inside, members, statements, looping, place_of, Fits, Value, Follows}
 
@@ -24,9 +31,11 @@ pub below : (S : List Frame) (n : ℕ) (e : Kept Tree) → Value S → Value (cl
 below [] n e h = absurd h.1
 below (prefixing at p ∷ S) n e h = below S n (of_prefix 64 at p e) h.1
 below (left o a ∷ S) n e h =
-    choose (λ p. Value p.1) (nat_le n (level o)) (closed 64 n (of_binary 64 o a e) S) (e, left o a ∷ S) (λ y. below S n (of_binary 64 o a e) h.1) (λ y. h)
+    choose (λ p. Value p.1) (nat_le n (level o)) (closed 64 n (of_binary 64 o a e) S) (e, left o a ∷ S)
+    (λ y. below S n (of_binary 64 o a e) h.1) (λ y. h)
 below (chosen c a ∷ S) n e h =
-    choose (λ p. Value p.1) (nat_le n 0) (closed 64 n (of_conditional 64 c a e) S) (e, chosen c a ∷ S) (λ y. below S n (of_conditional 64 c a e) h.1) (λ y. h)
+    choose (λ p. Value p.1) (nat_le n 0) (closed 64 n (of_conditional 64 c a e) S) (e, chosen c a ∷ S)
+    (λ y. below S n (of_conditional 64 c a e) h.1) (λ y. h)
 below (F ∷ S) n e h = h
 
 -- ---- statements, members and bodies
@@ -47,7 +56,8 @@ body_follows (header ds at (owner.Resource x) n q) b S h = h
 body_follows (header ds at (owner.Child x) n q) b S h = h
 body_follows (header ds at owner.Module n q) b S h = h
 
-fronted_follows : (hd : Header) (f : Front) (o : Kept ObjectTree) (S : List Frame) → Fits (place_of hd) S → Follows (fronted 64 hd f o S)
+fronted_follows : (hd : Header) (f : Front) (o : Kept ObjectTree) (S : List Frame) → Fits (place_of hd) S
+    → Follows (fronted 64 hd f o S)
 fronted_follows hd nothing_before o S h = body_follows hd _ S h
 fronted_follows hd (a_condition at c) o S h = body_follows hd _ S h
 fronted_follows hd (s.a_loop l) o S h = h
@@ -91,7 +101,8 @@ over_follows at ns (F ∷ S) h = tt
 pub pair_follows : (r : Option (Name × Name × Name)) (S : List Frame) → Value S → Follows (pair_on r S)
 pair_follows None S h = tt
 pair_follows (Some p) [] h = tt
-pair_follows (Some p) (opened at was ∷ S) h = choose Follows (is_for p.0.text) (over_on at (ns.Both p.1 p.2) S) None (λ y. over_follows at (ns.Both p.1 p.2) S h.1.1) (λ y. tt)
+pair_follows (Some p) (opened at was ∷ S) h = choose Follows (is_for p.0.text) (over_on at (ns.Both p.1 p.2) S) None
+    (λ y. over_follows at (ns.Both p.1 p.2) S h.1.1) (λ y. tt)
 pair_follows (Some p) (F ∷ S) h = tt
 
 named_follows : (at : ℕ) (was : Bool) (n : Name) (S : List Frame) → Value S → Follows (named_on at was n S)
@@ -102,7 +113,8 @@ named_follows at was n (F ∷ S) h = tt
 
 pub item_name_follows : (w n : Name) (S : List Frame) → Value S → Follows (item_on w n S)
 item_name_follows w n [] h = tt
-item_name_follows w n (opened at was ∷ S) h = choose Follows (is_for w.text) (named_on at was n S) None (λ y. named_follows at was n S h.1) (λ y. tt)
+item_name_follows w n (opened at was ∷ S) h =
+    choose Follows (is_for w.text) (named_on at was n S) None (λ y. named_follows at was n S h.1) (λ y. tt)
 item_name_follows w n (F ∷ S) h = tt
 
 -- ---- calls and arrays
@@ -133,7 +145,8 @@ operator_follows i o (e, S) h = (tt, h)
 pub question_follows : (i : Bool) (p : Closed) → Value p.1 → Follows (with_question 64 i p)
 question_follows i (e, S) h = (tt, h)
 
-guarded_follows : (at : ℕ) (hd : Header) (f : Front) (e : Kept Tree) (S : List Frame) → Value (in_condition at hd f ∷ S) → Follows (paren_on 64 (e, in_condition at hd f ∷ S))
+guarded_follows : (at : ℕ) (hd : Header) (f : Front) (e : Kept Tree) (S : List Frame)
+    → Value (in_condition at hd f ∷ S) → Follows (paren_on 64 (e, in_condition at hd f ∷ S))
 guarded_follows at hd nothing_before e S h = h.1.1
 guarded_follows at hd (s.a_loop l) e S h = h.1.1
 guarded_follows at hd f e S h = tt

@@ -1,5 +1,7 @@
 -- How far tokens are read, and where they break.
-use Rattle.std.proofs.Common.{◌≡◌, ℕ, zero, suc, ◌-◌, ◌+◌, ◌<◌, ◌≤◌, nat_le, nat_lt, ◌&&◌, List, [], ◌∷◌, ◌++◌, map, drop, length, Bool, true, false, true≢false, Option, Some, None, MatchOption, option_and_then, unwrap_or, ◌⊎◌, inl, inr, refl, sym, ap, ◌∙◌, subst, arith}
+use Rattle.std.proofs.Common.{◌≡◌, ℕ, zero, suc, ◌-◌, ◌+◌, ◌<◌, ◌≤◌, nat_le, nat_lt, ◌&&◌, List, [], ◌∷◌, ◌++◌, map}
+use Rattle.std.proofs.Common.{drop, length, Bool, true, false, true≢false, Option, Some, None, MatchOption}
+use Rattle.std.proofs.Common.{option_and_then, unwrap_or, ◌⊎◌, inl, inr, refl, sym, ap, ◌∙◌, subst, arith}
 use Rattle.std.specs.List.{slice_get}
 use Rattle.std.proofs.lemmas.Bool.Decides.{nat_tests}
 use Rattle.std.proofs.lemmas.List.{drop_all}
@@ -23,7 +25,8 @@ use Rattle.bicep_machine.specs.Views.{frames_of, Stops}
 use Rattle.bicep_parser.specs.declared.fault.ParseFault.TheVariants as fault
 use Rattle.bicep_parser.specs.Answers.{told}
 use Rattle.bicep_parser.specs.Depth.{stack_depth, deepest, top_depth, at_hand, noted}
-use Rattle.bicep_parser.specs.Refused.{BeginNoFile, BeginAFile, BreaksAt, DeepAt, behind, EndsAt, BeginsAStatement, EarlierWithin, TellsPlace}
+use Rattle.bicep_parser.specs.Refused.{BeginNoFile, BeginAFile, BreaksAt, DeepAt, behind, EndsAt, BeginsAStatement}
+use Rattle.bicep_parser.specs.Refused.{EarlierWithin, TellsPlace}
 use Rattle.bicep_machine.proofs.Spelling.{spelled_is_read, read_is_spelled}
 use Rattle.bicep_parser.proofs.Answering.{none_spelled}
 use Rattle.bicep_parser.proofs.AtHand.{kept_low}
@@ -46,11 +49,13 @@ pub record Progress (ts rest : List Standing) (s : State) (i : Bool) (S : List F
 begins : (ts : List Standing) → Progress ts ts between false (in_file empty ∷ [])
 begins ts = record { before = []; split = refl; leads = λ more. refl; stands = tt; marked = tt }
 
-one_more : (before : List Standing) (t : Standing) (more : List Placed) → map placed before ++ placed t ∷ more ≡ map placed (before ++ t ∷ []) ++ more
+one_more : (before : List Standing) (t : Standing) (more : List Placed)
+    → map placed before ++ placed t ∷ more ≡ map placed (before ++ t ∷ []) ++ more
 one_more [] t more = refl
 one_more (b ∷ before) t more = ap (λ xs. placed b ∷ xs) (one_more before t more)
 
-split_more : (before : List Standing) (t : Standing) (rest : List Standing) → before ++ t ∷ rest ≡ (before ++ t ∷ []) ++ rest
+split_more : (before : List Standing) (t : Standing) (rest : List Standing)
+    → before ++ t ∷ rest ≡ (before ++ t ∷ []) ++ rest
 split_more [] t rest = refl
 split_more (b ∷ before) t rest = ap (λ xs. b ∷ xs) (split_more before t rest)
 
@@ -59,16 +64,21 @@ all_mapped [] ys = refl
 all_mapped (x ∷ xs) ys = ap (λ zs. placed x ∷ zs) (all_mapped xs ys)
 
 -- what a token leads to
-leads_on : (ts rest : List Standing) (t : Standing) (s : State) (i : Bool) (S : List Frame) (q : State × Bool × List Frame) (p : Progress ts (t ∷ rest) s i S) → step 64 s i S (placed t) ≡ Some q → (more : List Placed) → run 64 q.0 q.1 q.2 more ≡ parsed 64 (map placed (p.before ++ t ∷ []) ++ more)
-leads_on ts rest t s i S q p e more = sym (ap (λ n. option_and_then (λ r. run 64 r.0 r.1 r.2 more) n) e) ∙ p.leads (placed t ∷ more) ∙ ap (parsed 64) (one_more p.before t more)
+leads_on : (ts rest : List Standing) (t : Standing) (s : State) (i : Bool) (S : List Frame) (q : State × Bool
+    × List Frame) (p : Progress ts (t ∷ rest) s i S) → step 64 s i S (placed t) ≡ Some q → (more : List Placed)
+    → run 64 q.0 q.1 q.2 more ≡ parsed 64 (map placed (p.before ++ t ∷ []) ++ more)
+leads_on ts rest t s i S q p e more = sym (ap (λ n. option_and_then (λ r. run 64 r.0 r.1 r.2 more) n) e)
+    ∙ p.leads (placed t ∷ more) ∙ ap (parsed 64) (one_more p.before t more)
 
-marked_on : (t : Standing) (s : State) (i : Bool) (S : List Frame) (q : State × Bool × List Frame) → Marked s → step 64 s i S (placed t) ≡ Some q → Marked q.0
+marked_on : (t : Standing) (s : State) (i : Bool) (S : List Frame) (q : State × Bool × List Frame) → Marked s
+    → step 64 s i S (placed t) ≡ Some q → Marked q.0
 marked_on t s i S q m e =
     let k : Keeps (deepest s S) (Some q) = subst (Keeps (deepest s S)) e (step_keeps s i S (placed t) m) in
     k.0
 
 -- a token is read
-pub goes_on : (ts rest : List Standing) (t : Standing) (s : State) (i : Bool) (S : List Frame) (q : State × Bool × List Frame) → Progress ts (t ∷ rest) s i S → step 64 s i S (placed t) ≡ Some q → Progress ts rest q.0 q.1 q.2
+pub goes_on : (ts rest : List Standing) (t : Standing) (s : State) (i : Bool) (S : List Frame) (q : State × Bool
+    × List Frame) → Progress ts (t ∷ rest) s i S → step 64 s i S (placed t) ≡ Some q → Progress ts rest q.0 q.1 q.2
 goes_on ts rest t s i S q p e =
     record {
       before = p.before ++ t ∷ [];
@@ -79,27 +89,48 @@ goes_on ts rest t s i S q p e =
     }
 
 -- a file begins with what was read
-begun_by : (ts rest : List Standing) (s : State) (i : Bool) (S : List Frame) (p : Progress ts rest s i S) → BeginAFile p.before
+begun_by : (ts rest : List Standing) (s : State) (i : Bool) (S : List Frame) (p : Progress ts rest s i S)
+    → BeginAFile p.before
 begun_by ts rest s i S p =
     let c = state_ends s i S p.stands in
-    let read = read_is_spelled 64 (map placed (p.before ++ c.more)) c.kept (ap (parsed 64) (all_mapped p.before c.more) ∙ sym (p.leads (map placed c.more)) ∙ c.reads) in
+    let read =
+    read_is_spelled 64 (map placed (p.before ++ c.more)) c.kept (ap (parsed 64) (all_mapped p.before c.more)
+    ∙ sym (p.leads (map placed c.more)) ∙ c.reads) in
     (c.more, read.0, read.1)
 
 -- a token with which the machine does not go on
-pub breaks : (ts rest : List Standing) (t : Standing) (s : State) (i : Bool) (S : List Frame) → Progress ts (t ∷ rest) s i S → step 64 s i S (placed t) ≡ None → BreaksAt ts t.1
+pub breaks : (ts rest : List Standing) (t : Standing) (s : State) (i : Bool) (S : List Frame)
+    → Progress ts (t ∷ rest) s i S → step 64 s i S (placed t) ≡ None → BreaksAt ts t.1
 breaks ts rest t s i S p e =
-    record { before = p.before; token = t; after = rest; split = p.split; place = refl; begun = begun_by ts (t ∷ rest) s i S p; none = none }
+    record {
+      before = p.before;
+      token = t;
+      after = rest;
+      split = p.split;
+      place = refl;
+      begun =
+          begun_by ts (t ∷ rest) s i S p;
+      none = none;
+    }
   where
     none : BeginNoFile (p.before ++ t ∷ [])
-    none more f h = none_spelled ((p.before ++ t ∷ []) ++ more) (ap (parsed 64) (all_mapped (p.before ++ t ∷ []) more ∙ sym (one_more p.before t (map placed more))) ∙ sym (p.leads (placed t ∷ map placed more)) ∙ ap (λ n. option_and_then (λ r. run 64 r.0 r.1 r.2 (map placed more)) n) e) f h
+    none more f h =
+        none_spelled ((p.before ++ t ∷ []) ++ more)
+        (ap (parsed 64) (all_mapped (p.before ++ t ∷ []) more ∙ sym (one_more p.before t (map placed more)))
+        ∙ sym (p.leads (placed t ∷ map placed more))
+        ∙ ap (λ n. option_and_then (λ r. run 64 r.0 r.1 r.2 (map placed more)) n) e) f h
 
 -- a token behind which something nests too deep
-deep_at : (ts rest : List Standing) (t : Standing) (s : State) (i : Bool) (S : List Frame) (q : State × Bool × List Frame) → Progress ts (t ∷ rest) s i S → step 64 s i S (placed t) ≡ Some q → 64 < deepest q.0 q.2 → DeepAt ts t.1
+deep_at : (ts rest : List Standing) (t : Standing) (s : State) (i : Bool) (S : List Frame) (q : State × Bool
+    × List Frame) → Progress ts (t ∷ rest) s i S → step 64 s i S (placed t) ≡ Some q → 64 < deepest q.0 q.2
+    → DeepAt ts t.1
 deep_at ts rest t s i S q p e h =
     record { before = p.before; token = t; after = rest; split = p.split; place = refl; deep = deep }
   where
     deep : (more : List Standing) (f : FileTree) → Spells f ((p.before ++ t ∷ []) ++ more) → 64 < file_nesting f
-    deep more f sp = file_deep ((p.before ++ t ∷ []) ++ more) (map placed more) q.0 q.1 q.2 (leads_on ts rest t s i S q p e (map placed more) ∙ sym (ap (parsed 64) (all_mapped (p.before ++ t ∷ []) more))) (marked_on t s i S q p.marked e) h f sp
+    deep more f sp = file_deep ((p.before ++ t ∷ []) ++ more) (map placed more) q.0 q.1 q.2
+        (leads_on ts rest t s i S q p e (map placed more)
+        ∙ sym (ap (parsed 64) (all_mapped (p.before ++ t ∷ []) more))) (marked_on t s i S q p.marked e) h f sp
 
 nothing_more : {X : Type 0} (xs : List X) → xs ++ [] ≡ xs
 nothing_more [] = refl
@@ -126,7 +157,8 @@ pub settled_first : Settled [] between (in_file empty ∷ [])
 settled_first = record { low = omega arith; earlier = λ before t after f e o sp. absurd (no_tokens before t after e) }
 
 -- a token among those with one more at their end is that one, or one of them
-among_more : (xs before : List Standing) (x t : Standing) (after : List Standing) → xs ++ x ∷ [] ≡ before ++ t ∷ after → ((before ≡ xs) × (t ≡ x)) ⊎ ((rest : List Standing) × (xs ≡ before ++ t ∷ rest))
+among_more : (xs before : List Standing) (x t : Standing) (after : List Standing) → xs ++ x ∷ [] ≡ before ++ t ∷ after
+    → ((before ≡ xs) × (t ≡ x)) ⊎ ((rest : List Standing) × (xs ≡ before ++ t ∷ rest))
 among_more [] [] x t after e = inl (refl, cc)
 among_more [] (b ∷ before) x t after e = absurd (no_tokens before t after cc)
 among_more (y ∷ xs) [] x t after e = let same : y ≡ t = cc in inr (xs, ap (λ z. z ∷ xs) same)
@@ -135,12 +167,16 @@ among_more (y ∷ xs) (b ∷ before) x t after e = by (among_more xs before x t 
     same : y ≡ b
     same = cc
 
-    by : ((before ≡ xs) × (t ≡ x)) ⊎ ((rest : List Standing) × (xs ≡ before ++ t ∷ rest)) → ((b ∷ before ≡ y ∷ xs) × (t ≡ x)) ⊎ ((rest : List Standing) × (y ∷ xs ≡ (b ∷ before) ++ t ∷ rest))
+    by : ((before ≡ xs) × (t ≡ x)) ⊎ ((rest : List Standing) × (xs ≡ before ++ t ∷ rest))
+        → ((b ∷ before ≡ y ∷ xs) × (t ≡ x)) ⊎ ((rest : List Standing) × (y ∷ xs ≡ (b ∷ before) ++ t ∷ rest))
     by (inl h) = inl (cc, h.1)
     by (inr h) = inr (h.0, cc)
 
 -- a file that was read, where the next statement begins with the token
-read_within : (ts rest : List Standing) (t : Standing) (s : State) (i : Bool) (S : List Frame) (q : State × Bool × List Frame) (p : Progress ts (t ∷ rest) s i S) → step 64 s i S (placed t) ≡ Some q → at_hand s S ≤ 64 → at_hand q.0 q.2 ≤ 64 → BeginsAStatement (terminal_of t) → (f : FileTree) → Spells f p.before → file_nesting f ≤ 64
+read_within : (ts rest : List Standing) (t : Standing) (s : State) (i : Bool) (S : List Frame) (q : State × Bool
+    × List Frame) (p : Progress ts (t ∷ rest) s i S) → step 64 s i S (placed t) ≡ Some q → at_hand s S ≤ 64
+    → at_hand q.0 q.2 ≤ 64 → BeginsAStatement (terminal_of t) → (f : FileTree) → Spells f p.before
+    → file_nesting f ≤ 64
 read_within ts rest t s i S q p e low next o f sp = by (nat_le (file_nesting f) 64) refl
   where
     read : (k : Kept FileTree) × (parsed 64 (map placed p.before) ≡ Some k) × IsKept 64 f k
@@ -158,17 +194,22 @@ read_within ts rest t s i S q p e low next o f sp = by (nat_le (file_nesting f) 
         absurd (omega arith)
       where
         moved_so : (y : Terminal) → BeginsAStatement y → step 64 s i S (t.1, y) ≡ Some q → moved 64 s i S t.1 y ≡ Some q
-        moved_so y o e = choose (λ n. n ≡ Some q → moved 64 s i S t.1 y ≡ Some q) (i && is_newline y) (Some (s, i, S)) (moved 64 s i S t.1 y) (λ b h. absurd (no_newline i y o b)) (λ b h. h) e
+        moved_so y o e = choose (λ n. n ≡ Some q → moved 64 s i S t.1 y ≡ Some q) (i && is_newline y) (Some (s, i, S))
+            (moved 64 s i S t.1 y) (λ b h. absurd (no_newline i y o b)) (λ b h. h) e
 
 -- a token is read, and nothing too deep is at hand behind it
-pub settles : (ts rest : List Standing) (t : Standing) (s : State) (i : Bool) (S : List Frame) (q : State × Bool × List Frame) (p : Progress ts (t ∷ rest) s i S) → step 64 s i S (placed t) ≡ Some q → Settled p.before s S → at_hand q.0 q.2 ≤ 64 → Settled (p.before ++ t ∷ []) q.0 q.2
+pub settles : (ts rest : List Standing) (t : Standing) (s : State) (i : Bool) (S : List Frame) (q : State × Bool
+    × List Frame) (p : Progress ts (t ∷ rest) s i S) → step 64 s i S (placed t) ≡ Some q → Settled p.before s S
+    → at_hand q.0 q.2 ≤ 64 → Settled (p.before ++ t ∷ []) q.0 q.2
 settles ts rest t s i S q p e h low = record { low = low; earlier = earlier }
   where
     earlier : EarlierWithin (p.before ++ t ∷ [])
     earlier before u after f is o sp = by (among_more p.before before t u after is)
       where
-        by : ((before ≡ p.before) × (u ≡ t)) ⊎ ((more : List Standing) × (p.before ≡ before ++ u ∷ more)) → file_nesting f ≤ 64
-        by (inl g) = read_within ts rest t s i S q p e h.low low (subst (λ x. BeginsAStatement (terminal_of x)) g.1 o) f (subst (Spells f) g.0 sp)
+        by : ((before ≡ p.before) × (u ≡ t)) ⊎ ((more : List Standing) × (p.before ≡ before ++ u ∷ more))
+            → file_nesting f ≤ 64
+        by (inl g) = read_within ts rest t s i S q p e h.low low (subst (λ x. BeginsAStatement (terminal_of x)) g.1 o)
+            f (subst (Spells f) g.0 sp)
         by (inr g) = h.earlier before u g.0 f g.1 o sp
 
 -- what was read, and where a part that nests too deep was first at hand
@@ -179,11 +220,16 @@ top_low : (S : List Frame) → top_depth S ≤ stack_depth S
 top_low [] = omega arith
 top_low (F ∷ S) = omega arith
 
-pub goes_on_noted : (ts rest : List Standing) (t : Standing) (s : State) (i : Bool) (S : List Frame) (q : State × Bool × List Frame) (deep : Option ℕ) → Noted ts (t ∷ rest) s i S deep → step 64 s i S (placed t) ≡ Some q → Noted ts rest q.0 q.1 q.2 (noted deep q.0 q.2 t.1)
+pub goes_on_noted : (ts rest : List Standing) (t : Standing) (s : State) (i : Bool) (S : List Frame) (q : State × Bool
+    × List Frame) (deep : Option ℕ) → Noted ts (t ∷ rest) s i S deep → step 64 s i S (placed t) ≡ Some q
+    → Noted ts rest q.0 q.1 q.2 (noted deep q.0 q.2 t.1)
 unfolding goes_on
 goes_on_noted ts rest t s i S q (Some d) n e = (goes_on ts rest t s i S q n.0 e, n.1)
-goes_on_noted ts rest t s i S q None n e =
-    (goes_on ts rest t s i S q n.0 e, choose (λ o. MatchOption o (Settled (n.0.before ++ t ∷ []) q.0 q.2) (DeepAt ts)) (nat_lt 64 (at_hand q.0 q.2)) (Some t.1) None deep low)
+goes_on_noted ts rest t s i S q None n e = (
+  goes_on ts rest t s i S q n.0 e,
+  choose (λ o. MatchOption o (Settled (n.0.before ++ t ∷ []) q.0 q.2) (DeepAt ts))
+      (nat_lt 64 (at_hand q.0 q.2)) (Some t.1) None deep low,
+)
   where
     deep : nat_lt 64 (at_hand q.0 q.2) ≡ true → DeepAt ts t.1
     deep h =
@@ -195,7 +241,8 @@ goes_on_noted ts rest t s i S q None n e =
     low h = settles ts rest t s i S q n.0 e n.1 (grind (arith, nat_tests))
 
 -- where all tokens are read
-pub told_deep : (ts : List Standing) (s : State) (i : Bool) (S : List Frame) (deep : Option ℕ) (at : ℕ) → Noted ts [] s i S deep → EndsAt ts at → TellsPlace ts (fault.TooDeep (unwrap_or deep at))
+pub told_deep : (ts : List Standing) (s : State) (i : Bool) (S : List Frame) (deep : Option ℕ) (at : ℕ)
+    → Noted ts [] s i S deep → EndsAt ts at → TellsPlace ts (fault.TooDeep (unwrap_or deep at))
 told_deep ts s i S (Some d) at n e = inl n.1
 told_deep ts s i S None at n e = inr (e, subst EarlierWithin (sym (n.0.split ∙ nothing_more n.0.before)) n.1.earlier)
 
@@ -204,51 +251,77 @@ unfolding begins
 begins_noted ts = (begins ts, settled_first)
 
 -- all tokens are read
-pub ends : (ts : List Standing) (s : State) (i : Bool) (S : List Frame) → Progress ts [] s i S → finished 64 s S ≡ parsed 64 (map placed ts)
-ends ts s i S p = p.leads [] ∙ ap (parsed 64) (nothing_more (map placed p.before) ∙ ap (map placed) (sym (p.split ∙ nothing_more p.before)))
+pub ends : (ts : List Standing) (s : State) (i : Bool) (S : List Frame) → Progress ts [] s i S
+    → finished 64 s S ≡ parsed 64 (map placed ts)
+ends ts s i S p = p.leads []
+    ∙ ap (parsed 64) (nothing_more (map placed p.before) ∙ ap (map placed) (sym (p.split ∙ nothing_more p.before)))
 
 -- where all tokens are read, a file begins with them
 begun_whole : (ts : List Standing) (s : State) (i : Bool) (S : List Frame) → Progress ts [] s i S → BeginAFile ts
 begun_whole ts s i S p = subst BeginAFile (sym (p.split ∙ nothing_more p.before)) (begun_by ts [] s i S p)
 
 -- the machine does not end a file behind the tokens
-breaks_end : (ts : List Standing) (s : State) (i : Bool) (S : List Frame) (why : Stop) (at : ℕ) → Progress ts [] s i S → EndsAt ts at → TellsPlace ts (told why at)
+breaks_end : (ts : List Standing) (s : State) (i : Bool) (S : List Frame) (why : Stop) (at : ℕ) → Progress ts [] s i S
+    → EndsAt ts at → TellsPlace ts (told why at)
 breaks_end ts s i S stop.NotAFile at p e = inr (e, begun_whole ts s i S p)
 breaks_end ts s i S stop.OutOfMemory at p e = tt
 
 -- ---- over the tokens of the code
 
 -- the next token is read
-pub reads_token : (xs : List Token) (i : ℕ) (t : Token) (x : Terminal) (s : State) (f : Bool) (S : List Frame) (q : State × Bool × List Frame) (deep next : Option ℕ) → drop i xs ≡ t ∷ drop (i + 1) xs → x ≡ terminal_of (standing t) → Noted (map standing xs) (map standing (drop i xs)) s f S deep → step 64 s f S (t.at, x) ≡ Some q → next ≡ noted deep q.0 q.2 t.at → Noted (map standing xs) (map standing (drop (i + 1) xs)) q.0 q.1 q.2 next
+pub reads_token : (xs : List Token) (i : ℕ) (t : Token) (x : Terminal) (s : State) (f : Bool) (S : List Frame)
+    (q : State × Bool × List Frame) (deep next : Option ℕ) → drop i xs ≡ t ∷ drop (i + 1) xs
+    → x ≡ terminal_of (standing t) → Noted (map standing xs) (map standing (drop i xs)) s f S deep
+    → step 64 s f S (t.at, x) ≡ Some q → next ≡ noted deep q.0 q.2 t.at
+    → Noted (map standing xs) (map standing (drop (i + 1) xs)) q.0 q.1 q.2 next
 reads_token xs i t x s f S q deep next is has n e so =
-    subst (λ o. Noted (map standing xs) (map standing (drop (i + 1) xs)) q.0 q.1 q.2 o) (sym so) (goes_on_noted (map standing xs) (map standing (drop (i + 1) xs)) (standing t) s f S q deep (subst (λ ys. Noted (map standing xs) (map standing ys) s f S deep) is n) (subst (λ y. step 64 s f S (t.at, y) ≡ Some q) has e))
+    subst (λ o. Noted (map standing xs) (map standing (drop (i + 1) xs)) q.0 q.1 q.2 o) (sym so)
+    (goes_on_noted (map standing xs) (map standing (drop (i + 1) xs)) (standing t) s f S q deep
+    (subst (λ ys. Noted (map standing xs) (map standing ys) s f S deep) is n)
+    (subst (λ y. step 64 s f S (t.at, y) ≡ Some q) has e))
 
 -- the stack as a slice
-pub noted_so : (next deep : Option ℕ) (s : State) (fs gs : List frames.Frame) (at : ℕ) → fs ≡ gs → next ≡ noted deep s (frames_of fs) at → next ≡ noted deep s (frames_of gs) at
+pub noted_so : (next deep : Option ℕ) (s : State) (fs gs : List frames.Frame) (at : ℕ) → fs ≡ gs
+    → next ≡ noted deep s (frames_of fs) at → next ≡ noted deep s (frames_of gs) at
 noted_so next deep s fs gs at e h = subst (λ xs. next ≡ noted deep s (frames_of xs) at) e h
 
 -- the next token is not read
-pub breaks_token : (xs : List Token) (i : ℕ) (t : Token) (x : Terminal) (s : State) (f : Bool) (S : List Frame) (why : Stop) → drop i xs ≡ t ∷ drop (i + 1) xs → x ≡ terminal_of (standing t) → Progress (map standing xs) (map standing (drop i xs)) s f S → Stops why (step 64 s f S (t.at, x)) → TellsPlace (map standing xs) (told why t.at)
+pub breaks_token : (xs : List Token) (i : ℕ) (t : Token) (x : Terminal) (s : State) (f : Bool) (S : List Frame)
+    (why : Stop) → drop i xs ≡ t ∷ drop (i + 1) xs → x ≡ terminal_of (standing t)
+    → Progress (map standing xs) (map standing (drop i xs)) s f S → Stops why (step 64 s f S (t.at, x))
+    → TellsPlace (map standing xs) (told why t.at)
 breaks_token xs i t x s f S stop.NotAFile next is p e =
-    inl (breaks (map standing xs) (map standing (drop (i + 1) xs)) (standing t) s f S (subst (λ ys. Progress (map standing xs) (map standing ys) s f S) next p) (subst (λ y. step 64 s f S (t.at, y) ≡ None) is e))
+    inl (breaks (map standing xs) (map standing (drop (i + 1) xs)) (standing t) s f S
+    (subst (λ ys. Progress (map standing xs) (map standing ys) s f S) next p)
+    (subst (λ y. step 64 s f S (t.at, y) ≡ None) is e))
 breaks_token xs i t x s f S stop.OutOfMemory next is p e = tt
 
 -- all tokens are read, and no file ends behind them
-pub breaks_behind : (xs : List Token) (i : ℕ) (s : State) (f : Bool) (S : List Frame) (why : Stop) (at : ℕ) → length xs ≤ i → Progress (map standing xs) (map standing (drop i xs)) s f S → EndsAt (map standing xs) at → TellsPlace (map standing xs) (told why at)
-breaks_behind xs i s f S why at le p e = breaks_end (map standing xs) s f S why at (subst (λ ys. Progress (map standing xs) (map standing ys) s f S) (drop_all i xs le) p) e
+pub breaks_behind : (xs : List Token) (i : ℕ) (s : State) (f : Bool) (S : List Frame) (why : Stop) (at : ℕ)
+    → length xs ≤ i → Progress (map standing xs) (map standing (drop i xs)) s f S → EndsAt (map standing xs) at
+    → TellsPlace (map standing xs) (told why at)
+breaks_behind xs i s f S why at le p e =
+    breaks_end (map standing xs) s f S why at
+    (subst (λ ys. Progress (map standing xs) (map standing ys) s f S) (drop_all i xs le) p) e
 
 -- all tokens are read, and a file ends behind them
-pub deep_behind : (xs : List Token) (i : ℕ) (s : State) (f : Bool) (S : List Frame) (deep : Option ℕ) (at : ℕ) → length xs ≤ i → Noted (map standing xs) (map standing (drop i xs)) s f S deep → EndsAt (map standing xs) at → TellsPlace (map standing xs) (fault.TooDeep (unwrap_or deep at))
-deep_behind xs i s f S deep at le n e = told_deep (map standing xs) s f S deep at (subst (λ ys. Noted (map standing xs) (map standing ys) s f S deep) (drop_all i xs le) n) e
+pub deep_behind : (xs : List Token) (i : ℕ) (s : State) (f : Bool) (S : List Frame) (deep : Option ℕ) (at : ℕ)
+    → length xs ≤ i → Noted (map standing xs) (map standing (drop i xs)) s f S deep → EndsAt (map standing xs) at
+    → TellsPlace (map standing xs) (fault.TooDeep (unwrap_or deep at))
+deep_behind xs i s f S deep at le n e =
+    told_deep (map standing xs) s f S deep at
+    (subst (λ ys. Noted (map standing xs) (map standing ys) s f S deep) (drop_all i xs le) n) e
 
 -- the last token
-last_at : (ts : List Token) (n : ℕ) (t : Token) → length ts ≡ suc n → slice_get ts n ≡ Some t → EndsAt (map standing ts) (behind (standing t))
+last_at : (ts : List Token) (n : ℕ) (t : Token) → length ts ≡ suc n → slice_get ts n ≡ Some t
+    → EndsAt (map standing ts) (behind (standing t))
 last_at [] n t l e = absurd cc
 last_at (u ∷ []) zero t l e = let same : u ≡ t = cc in ap (λ x. behind (standing x)) (sym same)
 last_at (u ∷ []) (suc n) t l e = absurd cc
 last_at (u ∷ (v ∷ ts)) zero t l e = absurd (omega arith)
 last_at (u ∷ (v ∷ ts)) (suc n) t l e = last_at (v ∷ ts) n t (omega arith) e
 
-pub last_ends : (ts : List Token) (t : Token) → slice_get ts (length ts - 1) ≡ Some t → EndsAt (map standing ts) (behind (standing t))
+pub last_ends : (ts : List Token) (t : Token) → slice_get ts (length ts - 1) ≡ Some t
+    → EndsAt (map standing ts) (behind (standing t))
 last_ends [] t e = absurd cc
 last_ends (u ∷ ts) t e = last_at (u ∷ ts) (length (u ∷ ts) - 1) t (omega arith) e

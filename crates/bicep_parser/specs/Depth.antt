@@ -1,6 +1,11 @@
 -- How deep what was read last nests, and what is open.
 use Rattle.std.specs.Prelude.{ℕ, max, nat_lt, List, [], ◌∷◌, Option, Some, None, if◌then◌else◌}
-use Rattle.bicep_machine.specs.Stack.{Callee, function, decorating, Header, header, Front, nothing_before, a_condition, a_loop, loop_and_condition, Frame, calling, indexing, in_array, in_object, in_text, left, asked, chosen, assigned, body_over, looped, in_condition, bodied, in_file, State, dotted, done, paused, past_member, body_end, at_sign, decorator_named, decorator_spaced, decorator_ready, decorated, past_decorators, declaring, declared, typed, headed, existed, behind}
+use Rattle.bicep_machine.specs.Stack.{Callee, function, decorating, Header, header, Front, nothing_before}
+use Rattle.bicep_machine.specs.Stack.{a_condition, a_loop, loop_and_condition, Frame, calling, indexing, in_array}
+use Rattle.bicep_machine.specs.Stack.{in_object, in_text, left, asked, chosen, assigned, body_over, looped}
+use Rattle.bicep_machine.specs.Stack.{in_condition, bodied, in_file, State, dotted, done, paused, past_member}
+use Rattle.bicep_machine.specs.Stack.{body_end, at_sign, decorator_named, decorator_spaced, decorator_ready}
+use Rattle.bicep_machine.specs.Stack.{decorated, past_decorators, declaring, declared, typed, headed, existed, behind}
 
 abbrev pub callee_depth : Callee → ℕ
 callee_depth (function f) = 0

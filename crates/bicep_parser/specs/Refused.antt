@@ -61,10 +61,12 @@ BeginsAStatement x = ⊥
 
 -- the statements before the last are within the limit: each file behind which a statement begins
 abbrev pub EarlierWithin : List Standing → Type 0
-EarlierWithin ts = (before : List Standing) (token : Standing) (after : List Standing) (f : FileTree) → ts ≡ before ++ token ∷ after → BeginsAStatement (terminal_of token) → Spells f before → file_nesting f ≤ 64
+EarlierWithin ts = (before : List Standing) (token : Standing) (after : List Standing) (f : FileTree)
+    → ts ≡ before ++ token ∷ after → BeginsAStatement (terminal_of token) → Spells f before → file_nesting f ≤ 64
 
 -- the place of a fault: where the tokens are no file, the first token with which no file goes on, or their end, where a
--- file goes on behind them; where a file nests too deep, a token up to which no file within the limit begins, or the end,
+-- file goes on behind them; where a file nests too deep, a token up to which no file within the limit begins, or the
+-- end,
 -- where only the last statement nests too deep
 abbrev pub TellsPlace : List Standing → ParseFault → Type 0
 TellsPlace ts (fault.NotAFile at) = BreaksAt ts at ⊎ (EndsAt ts at × BeginAFile ts)

@@ -4,7 +4,8 @@ use Rattle.bicep_lexer.specs.Reading.{Standing}
 use Rattle.bicep_tree.specs.declared.leaf.TypeName.{TypeName}
 use Rattle.bicep_tree.specs.declared.leaf.TypeName.TheVariants as type
 use Rattle.bicep_tree.specs.declared.terminal.Terminal.TheVariants as t
-use Rattle.bicep_tree.specs.Tree.{DeclarationTree, metadata, target_scope, param, param_with, var, output, a_module, StatementTree, statement, FileTree}
+use Rattle.bicep_tree.specs.Tree.{DeclarationTree, metadata, target_scope, param, param_with, var, output, a_module}
+use Rattle.bicep_tree.specs.Tree.{StatementTree, statement, FileTree}
 use Rattle.bicep_tree.specs.Tree as tree
 use Rattle.bicep_tree.specs.Terminals.{placed}
 use Rattle.bicep_tree.specs.Forms.{Form, ◌▹◌, sign_at, sign, is_newline, one, any, named, word, quoted}
@@ -25,9 +26,11 @@ abbrev pub declaration : DeclarationTree → Form
 declaration (metadata at n e) = word_at at (codes "metadata") ▹ named false n ▹ sign t.Assign ▹ expression false e
 declaration (target_scope at e) = word_at at (codes "targetScope") ▹ sign t.Assign ▹ expression false e
 declaration (param at n ty) = word_at at (codes "param") ▹ named false n ▹ word (type_word ty)
-declaration (param_with at n ty e) = word_at at (codes "param") ▹ named false n ▹ word (type_word ty) ▹ sign t.Assign ▹ expression false e
+declaration (param_with at n ty e) =
+    word_at at (codes "param") ▹ named false n ▹ word (type_word ty) ▹ sign t.Assign ▹ expression false e
 declaration (var at n v) = word_at at (codes "var") ▹ named false n ▹ sign t.Assign ▹ value v
-declaration (output at n ty v) = word_at at (codes "output") ▹ named false n ▹ word (type_word ty) ▹ sign t.Assign ▹ value v
+declaration (output at n ty v) =
+    word_at at (codes "output") ▹ named false n ▹ word (type_word ty) ▹ sign t.Assign ▹ value v
 declaration (tree.a_resource r) = a_resource r
 declaration (a_module at n p b) = word_at at (codes "module") ▹ named false n ▹ quoted p ▹ sign t.Assign ▹ body b
 

@@ -1,14 +1,23 @@
 -- Which tokens spell which expressions, and what stands in their objects (Microsoft Learn, "Bicep file structure and
--- syntax"). `inside` says that newlines are skipped: between `(` and `)`, but not between the braces and the array brackets
--- there. Behind an operator between operands, and on both sides of the `?` and the `:` of a conditional, they are skipped
+-- syntax"). `inside` says that newlines are skipped: between `(` and `)`, but not between the braces and the array
+-- brackets
+-- there. Behind an operator between operands, and on both sides of the `?` and the `:` of a conditional, they are
+-- skipped
 -- everywhere.
 use Rattle.std.specs.Prelude.{ℕ, Bool, true, false, List, codes}
 use Rattle.bicep_tree.specs.declared.leaf.LoopNames.{LoopNames}
 use Rattle.bicep_tree.specs.declared.leaf.LoopNames.TheVariants as ns
 use Rattle.bicep_tree.specs.declared.terminal.Terminal.TheVariants as t
-use Rattle.bicep_tree.specs.Tree.{Tree, name, literal, interpolated, object, array, parentheses, call, access, index, not_null, prefixed, binary, conditional, Trees, none, more, Holes, no_hole, hole, ObjectTree, braces, MemberTree, property, child, MemberTrees, no_member, and_member, ValueTree, plain, each, LoopTree, loop, DecoratorTree, decorator, DecoratorTrees, no_decorator, and_decorator, ResourceTree, resource, BodyTree, body_plain, body_if, body_each, body_each_if}
+use Rattle.bicep_tree.specs.Tree.{Tree, name, literal, interpolated, object, array, parentheses, call, access, index}
+use Rattle.bicep_tree.specs.Tree.{not_null, prefixed, binary, conditional, Trees, none, more, Holes, no_hole, hole}
+use Rattle.bicep_tree.specs.Tree.{ObjectTree, braces, MemberTree, property, child, MemberTrees, no_member, and_member}
+use Rattle.bicep_tree.specs.Tree.{ValueTree, plain, each, LoopTree, loop, DecoratorTree, decorator, DecoratorTrees}
+use Rattle.bicep_tree.specs.Tree.{no_decorator, and_decorator, ResourceTree, resource, BodyTree, body_plain, body_if}
+use Rattle.bicep_tree.specs.Tree.{body_each, body_each_if}
 use Rattle.bicep_tree.specs.Precedence.{Groups, IsPrimary, IsUnary, IsOperand}
-use Rattle.bicep_tree.specs.Forms.{Form, ◌▹◌, provided, nothing, never, sign_at, sign, is_separator, one, any, skipped, token_at, token, named, word, quoted, labelled, index_sign, prefix_sign, function, decorating}
+use Rattle.bicep_tree.specs.Forms.{Form, ◌▹◌, provided, nothing, never, sign_at, sign, is_separator, one, any}
+use Rattle.bicep_tree.specs.Forms.{skipped, token_at, token, named, word, quoted, labelled, index_sign, prefix_sign}
+use Rattle.bicep_tree.specs.Forms.{function, decorating}
 
 -- the names of a loop: `x`, or `(x, i)`
 abbrev pub loop_names : LoopNames → Form
@@ -42,12 +51,16 @@ abbrev mutual
   expression i (parentheses at e) = token_at i at t.OpenParen ▹ expression true e ▹ token true t.CloseParen
   expression i (call f es) = function i f ▹ token i t.OpenParen ▹ arguments es
   expression i (access e k n) = provided (IsPrimary e) (expression i e ▹ token i (t.Access k) ▹ named i n)
-  expression i (index e k x) = provided (IsPrimary e) (expression i e ▹ token i (index_sign k) ▹ expression i x ▹ token i t.CloseBracket)
+  expression i (index e k x) =
+      provided (IsPrimary e) (expression i e ▹ token i (index_sign k) ▹ expression i x ▹ token i t.CloseBracket)
   expression i (not_null e) = provided (IsPrimary e) (expression i e ▹ token i t.Not)
   expression i (prefixed at p e) = provided (IsUnary e) (token_at i at (prefix_sign p) ▹ expression i e)
-  expression i (binary o a b) = provided (Groups o a b) (expression i a ▹ token i (t.Operator o) ▹ skipped true ▹ expression i b)
+  expression i (binary o a b) =
+      provided (Groups o a b) (expression i a ▹ token i (t.Operator o) ▹ skipped true ▹ expression i b)
   expression i (conditional c a b) =
-      provided (IsOperand c) (expression i c ▹ token true t.Question ▹ skipped true ▹ expression i a ▹ token true t.Colon ▹ skipped true ▹ expression i b)
+      provided (IsOperand c)
+      (expression i c ▹ token true t.Question ▹ skipped true ▹ expression i a ▹ token true t.Colon ▹ skipped true
+      ▹ expression i b)
 
   -- arguments, up to the `)`
   pub arguments : Trees → Form
@@ -103,7 +116,8 @@ abbrev mutual
   -- `[for x in xs:`
   pub a_loop : LoopTree → Form
   a_loop (loop at ns e) =
-      sign_at at t.OpenBracket ▹ word (codes "for") ▹ loop_names ns ▹ word (codes "in") ▹ expression false e ▹ sign t.Colon
+      sign_at at t.OpenBracket ▹ word (codes "for") ▹ loop_names ns ▹ word (codes "in") ▹ expression false e ▹ sign
+      t.Colon
 
   -- decorators, each before a newline
   pub decorated : DecoratorTrees → Form

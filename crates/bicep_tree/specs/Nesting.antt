@@ -1,6 +1,12 @@
 -- How deep expressions nest: a leaf 0, and every composite one more than its deepest part.
 use Rattle.std.specs.Prelude.{ℕ, ◌+◌, max, List, [], ◌∷◌}
-use Rattle.bicep_tree.specs.Tree.{Tree, name, literal, interpolated, object, array, parentheses, call, access, index, not_null, prefixed, binary, conditional, Trees, none, more, Holes, no_hole, hole, ObjectTree, braces, MemberTree, property, child, MemberTrees, no_member, and_member, ValueTree, plain, each, LoopTree, loop, DecoratorTree, decorator, DecoratorTrees, no_decorator, and_decorator, ResourceTree, resource, BodyTree, body_plain, body_if, body_each, body_each_if, DeclarationTree, metadata, target_scope, param, param_with, var, output, a_resource, a_module, StatementTree, statement, FileTree}
+use Rattle.bicep_tree.specs.Tree.{Tree, name, literal, interpolated, object, array, parentheses, call, access, index}
+use Rattle.bicep_tree.specs.Tree.{not_null, prefixed, binary, conditional, Trees, none, more, Holes, no_hole, hole}
+use Rattle.bicep_tree.specs.Tree.{ObjectTree, braces, MemberTree, property, child, MemberTrees, no_member, and_member}
+use Rattle.bicep_tree.specs.Tree.{ValueTree, plain, each, LoopTree, loop, DecoratorTree, decorator, DecoratorTrees}
+use Rattle.bicep_tree.specs.Tree.{no_decorator, and_decorator, ResourceTree, resource, BodyTree, body_plain, body_if}
+use Rattle.bicep_tree.specs.Tree.{body_each, body_each_if, DeclarationTree, metadata, target_scope, param, param_with}
+use Rattle.bicep_tree.specs.Tree.{var, output, a_resource, a_module, StatementTree, statement, FileTree}
 
 abbrev mutual
   pub nesting : Tree → ℕ

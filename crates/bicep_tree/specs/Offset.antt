@@ -2,7 +2,8 @@
 use Rattle.std.specs.Prelude.{ℕ}
 use Rattle.bicep_tree.specs.declared.leaf.Function.{Function}
 use Rattle.bicep_tree.specs.declared.leaf.Function.TheVariants as f
-use Rattle.bicep_tree.specs.Tree.{Tree, name, literal, interpolated, object, array, parentheses, call, access, index, not_null, prefixed, binary, conditional, ObjectTree, braces}
+use Rattle.bicep_tree.specs.Tree.{Tree, name, literal, interpolated, object, array, parentheses, call, access, index}
+use Rattle.bicep_tree.specs.Tree.{not_null, prefixed, binary, conditional, ObjectTree, braces}
 
 abbrev pub function_offset : Function → ℕ
 function_offset (f.Plain n) = n.at

@@ -2,7 +2,8 @@
 use Rattle.std.specs.Prelude.{◌≡◌, ℕ, ◌<◌, ◌≤◌}
 use Rattle.bicep_tree.specs.declared.leaf.Operator.{Operator}
 use Rattle.bicep_tree.specs.declared.leaf.Operator.TheVariants as o
-use Rattle.bicep_tree.specs.Tree.{Tree, name, literal, interpolated, object, array, parentheses, call, access, index, not_null, prefixed, binary, conditional}
+use Rattle.bicep_tree.specs.Tree.{Tree, name, literal, interpolated, object, array, parentheses, call, access, index}
+use Rattle.bicep_tree.specs.Tree.{not_null, prefixed, binary, conditional}
 
 -- how tightly an operator binds
 abbrev pub level : Operator → ℕ

@@ -9,24 +9,32 @@ use Rattle.bicep_tree.specs.declared.expr.Member.{Member, fold-Member}
 use Rattle.bicep_tree.specs.declared.expr.Object.{Object, fold-Object}
 use Rattle.bicep_tree.specs.declared.expr.Resource.{Resource, fold-Resource}
 use Rattle.bicep_tree.specs.declared.expr.Value.{Value, fold-Value}
-use Rattle.bicep_tree.specs.declared.expr.Body.TheOpen.{Body-F, Decorator-F, Expr-F, Hole-F, Loop-F, Member-F, Object-F, Resource-F, Value-F}
+use Rattle.bicep_tree.specs.declared.expr.Body.TheOpen.{Body-F, Decorator-F, Expr-F, Hole-F, Loop-F, Member-F}
+use Rattle.bicep_tree.specs.declared.expr.Body.TheOpen.{Object-F, Resource-F, Value-F}
 use Rattle.bicep_tree.specs.declared.declaration.Declaration.{Declaration}
 use Rattle.bicep_tree.specs.declared.declaration.Declaration.TheVariants as d
 use Rattle.bicep_tree.specs.declared.declaration.Statement.{Statement}
-use Rattle.bicep_tree.specs.Tree.{Tree, name, literal, interpolated, object, array, parentheses, call, access, index, not_null, prefixed, binary, conditional, ObjectTree, braces, MemberTree, property, child, ValueTree, plain, each, LoopTree, loop, DecoratorTree, decorator, ResourceTree, resource, BodyTree, body_plain, body_if, body_each, body_each_if, DeclarationTree, metadata, target_scope, param, param_with, var, output, a_resource, a_module, StatementTree, statement, FileTree, trees, holes, members, decorators}
+use Rattle.bicep_tree.specs.Tree.{Tree, name, literal, interpolated, object, array, parentheses, call, access, index}
+use Rattle.bicep_tree.specs.Tree.{not_null, prefixed, binary, conditional, ObjectTree, braces, MemberTree, property}
+use Rattle.bicep_tree.specs.Tree.{child, ValueTree, plain, each, LoopTree, loop, DecoratorTree, decorator}
+use Rattle.bicep_tree.specs.Tree.{ResourceTree, resource, BodyTree, body_plain, body_if, body_each, body_each_if}
+use Rattle.bicep_tree.specs.Tree.{DeclarationTree, metadata, target_scope, param, param_with, var, output, a_resource}
+use Rattle.bicep_tree.specs.Tree.{a_module, StatementTree, statement, FileTree, trees, holes, members, decorators}
 
 -- a hole's value, and the characters behind it
 abbrev pub HoleTree : Type 0
 HoleTree = Tree × List ℕ
 
 -- one layer of each type, where the parts are trees
-abbrev pub body_layer : Body-F BodyTree Tree MemberTree ValueTree DecoratorTree HoleTree LoopTree ObjectTree ResourceTree → BodyTree
+abbrev pub body_layer : Body-F BodyTree Tree MemberTree ValueTree DecoratorTree HoleTree LoopTree ObjectTree
+    ResourceTree → BodyTree
 body_layer (Body-F.Body::Plain o) = body_plain o
 body_layer (Body-F.If at c o) = body_if at c o
 body_layer (Body-F.Body::Each l o) = body_each l o
 body_layer (Body-F.EachIf l at c o) = body_each_if l at c o
 
-abbrev pub expr_layer : Expr-F BodyTree Tree MemberTree ValueTree DecoratorTree HoleTree LoopTree ObjectTree ResourceTree → Tree
+abbrev pub expr_layer : Expr-F BodyTree Tree MemberTree ValueTree DecoratorTree HoleTree LoopTree ObjectTree
+    ResourceTree → Tree
 expr_layer (Expr-F.Name n) = name n
 expr_layer (Expr-F.Literal at v) = literal at v
 expr_layer (Expr-F.Interpolated at first hs) = interpolated at first (holes hs.items)
@@ -41,55 +49,72 @@ expr_layer (Expr-F.Prefix at p e) = prefixed at p e.value
 expr_layer (Expr-F.Binary o a b) = binary o a.value b.value
 expr_layer (Expr-F.Conditional c a b) = conditional c.value a.value b.value
 
-abbrev pub member_layer : Member-F BodyTree Tree MemberTree ValueTree DecoratorTree HoleTree LoopTree ObjectTree ResourceTree → MemberTree
+abbrev pub member_layer : Member-F BodyTree Tree MemberTree ValueTree DecoratorTree HoleTree LoopTree ObjectTree
+    ResourceTree → MemberTree
 member_layer (Member-F.Property l v) = property l v
 member_layer (Member-F.Child ds r) = child (decorators ds.items) r
 
-abbrev pub value_layer : Value-F BodyTree Tree MemberTree ValueTree DecoratorTree HoleTree LoopTree ObjectTree ResourceTree → ValueTree
+abbrev pub value_layer : Value-F BodyTree Tree MemberTree ValueTree DecoratorTree HoleTree LoopTree ObjectTree
+    ResourceTree → ValueTree
 value_layer (Value-F.Value::Plain e) = plain e
 value_layer (Value-F.Value::Each l e) = each l e
 
-abbrev pub decorator_layer : Decorator-F BodyTree Tree MemberTree ValueTree DecoratorTree HoleTree LoopTree ObjectTree ResourceTree → DecoratorTree
+abbrev pub decorator_layer : Decorator-F BodyTree Tree MemberTree ValueTree DecoratorTree HoleTree LoopTree ObjectTree
+    ResourceTree → DecoratorTree
 decorator_layer x = decorator x.at x.function (trees x.arguments.items)
 
-abbrev pub hole_layer : Hole-F BodyTree Tree MemberTree ValueTree DecoratorTree HoleTree LoopTree ObjectTree ResourceTree → HoleTree
+abbrev pub hole_layer : Hole-F BodyTree Tree MemberTree ValueTree DecoratorTree HoleTree LoopTree ObjectTree
+    ResourceTree → HoleTree
 hole_layer x = (x.value, x.after)
 
-abbrev pub loop_layer : Loop-F BodyTree Tree MemberTree ValueTree DecoratorTree HoleTree LoopTree ObjectTree ResourceTree → LoopTree
+abbrev pub loop_layer : Loop-F BodyTree Tree MemberTree ValueTree DecoratorTree HoleTree LoopTree ObjectTree
+    ResourceTree → LoopTree
 loop_layer x = loop x.at x.names x.over
 
-abbrev pub object_layer : Object-F BodyTree Tree MemberTree ValueTree DecoratorTree HoleTree LoopTree ObjectTree ResourceTree → ObjectTree
+abbrev pub object_layer : Object-F BodyTree Tree MemberTree ValueTree DecoratorTree HoleTree LoopTree ObjectTree
+    ResourceTree → ObjectTree
 object_layer x = braces x.at (members x.members.items)
 
-abbrev pub resource_layer : Resource-F BodyTree Tree MemberTree ValueTree DecoratorTree HoleTree LoopTree ObjectTree ResourceTree → ResourceTree
+abbrev pub resource_layer : Resource-F BodyTree Tree MemberTree ValueTree DecoratorTree HoleTree LoopTree ObjectTree
+    ResourceTree → ResourceTree
 resource_layer x = resource x.at x.name x.path x.existing x.body
 
 unfoldable pub tree_of : Expr → Tree
-tree_of = fold-Expr BodyTree Tree MemberTree ValueTree DecoratorTree HoleTree LoopTree ObjectTree ResourceTree body_layer expr_layer member_layer value_layer decorator_layer hole_layer loop_layer object_layer resource_layer
+tree_of = fold-Expr BodyTree Tree MemberTree ValueTree DecoratorTree HoleTree LoopTree ObjectTree ResourceTree
+    body_layer expr_layer member_layer value_layer decorator_layer hole_layer loop_layer object_layer resource_layer
 
 unfoldable pub body_of : Body → BodyTree
-body_of = fold-Body BodyTree Tree MemberTree ValueTree DecoratorTree HoleTree LoopTree ObjectTree ResourceTree body_layer expr_layer member_layer value_layer decorator_layer hole_layer loop_layer object_layer resource_layer
+body_of = fold-Body BodyTree Tree MemberTree ValueTree DecoratorTree HoleTree LoopTree ObjectTree ResourceTree
+    body_layer expr_layer member_layer value_layer decorator_layer hole_layer loop_layer object_layer resource_layer
 
 unfoldable pub member_of : Member → MemberTree
-member_of = fold-Member BodyTree Tree MemberTree ValueTree DecoratorTree HoleTree LoopTree ObjectTree ResourceTree body_layer expr_layer member_layer value_layer decorator_layer hole_layer loop_layer object_layer resource_layer
+member_of = fold-Member BodyTree Tree MemberTree ValueTree DecoratorTree HoleTree LoopTree ObjectTree ResourceTree
+    body_layer expr_layer member_layer value_layer decorator_layer hole_layer loop_layer object_layer resource_layer
 
 unfoldable pub value_of : Value → ValueTree
-value_of = fold-Value BodyTree Tree MemberTree ValueTree DecoratorTree HoleTree LoopTree ObjectTree ResourceTree body_layer expr_layer member_layer value_layer decorator_layer hole_layer loop_layer object_layer resource_layer
+value_of = fold-Value BodyTree Tree MemberTree ValueTree DecoratorTree HoleTree LoopTree ObjectTree ResourceTree
+    body_layer expr_layer member_layer value_layer decorator_layer hole_layer loop_layer object_layer resource_layer
 
 unfoldable pub decorator_of : Decorator → DecoratorTree
-decorator_of = fold-Decorator BodyTree Tree MemberTree ValueTree DecoratorTree HoleTree LoopTree ObjectTree ResourceTree body_layer expr_layer member_layer value_layer decorator_layer hole_layer loop_layer object_layer resource_layer
+decorator_of = fold-Decorator BodyTree Tree MemberTree ValueTree DecoratorTree HoleTree LoopTree ObjectTree
+    ResourceTree body_layer expr_layer member_layer value_layer decorator_layer hole_layer loop_layer object_layer
+    resource_layer
 
 unfoldable pub hole_of : Hole → HoleTree
-hole_of = fold-Hole BodyTree Tree MemberTree ValueTree DecoratorTree HoleTree LoopTree ObjectTree ResourceTree body_layer expr_layer member_layer value_layer decorator_layer hole_layer loop_layer object_layer resource_layer
+hole_of = fold-Hole BodyTree Tree MemberTree ValueTree DecoratorTree HoleTree LoopTree ObjectTree ResourceTree
+    body_layer expr_layer member_layer value_layer decorator_layer hole_layer loop_layer object_layer resource_layer
 
 unfoldable pub loop_of : Loop → LoopTree
-loop_of = fold-Loop BodyTree Tree MemberTree ValueTree DecoratorTree HoleTree LoopTree ObjectTree ResourceTree body_layer expr_layer member_layer value_layer decorator_layer hole_layer loop_layer object_layer resource_layer
+loop_of = fold-Loop BodyTree Tree MemberTree ValueTree DecoratorTree HoleTree LoopTree ObjectTree ResourceTree
+    body_layer expr_layer member_layer value_layer decorator_layer hole_layer loop_layer object_layer resource_layer
 
 unfoldable pub object_of : Object → ObjectTree
-object_of = fold-Object BodyTree Tree MemberTree ValueTree DecoratorTree HoleTree LoopTree ObjectTree ResourceTree body_layer expr_layer member_layer value_layer decorator_layer hole_layer loop_layer object_layer resource_layer
+object_of = fold-Object BodyTree Tree MemberTree ValueTree DecoratorTree HoleTree LoopTree ObjectTree ResourceTree
+    body_layer expr_layer member_layer value_layer decorator_layer hole_layer loop_layer object_layer resource_layer
 
 unfoldable pub resource_of : Resource → ResourceTree
-resource_of = fold-Resource BodyTree Tree MemberTree ValueTree DecoratorTree HoleTree LoopTree ObjectTree ResourceTree body_layer expr_layer member_layer value_layer decorator_layer hole_layer loop_layer object_layer resource_layer
+resource_of = fold-Resource BodyTree Tree MemberTree ValueTree DecoratorTree HoleTree LoopTree ObjectTree ResourceTree
+    body_layer expr_layer member_layer value_layer decorator_layer hole_layer loop_layer object_layer resource_layer
 
 abbrev pub declaration_of : Declaration → DeclarationTree
 declaration_of (d.Metadata at n e) = metadata at n (tree_of e)

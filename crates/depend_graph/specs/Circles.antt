@@ -1,5 +1,6 @@
 -- What a search for circles goes by.
-use Rattle.std.specs.Prelude.{◌≡◌, ◌≢◌, ◌<◌, ◌≤◌, ◌+◌, ◌==◌, ◌&&◌, ℕ, Bool, true, false, not, List, [], ◌∷◌, length, slice_index_or, if◌then◌else◌}
+use Rattle.std.specs.Prelude.{◌≡◌, ◌≢◌, ◌<◌, ◌≤◌, ◌+◌, ◌==◌, ◌&&◌, ℕ, Bool, true, false, not, List, [], ◌∷◌, length}
+use Rattle.std.specs.Prelude.{slice_index_or, if◌then◌else◌}
 use Rattle.depend_graph.specs.Shape.{Shape, times, undone, is_done, IsCircle, Chain}
 
 -- whether a node is undone and has no undone need
@@ -8,7 +9,8 @@ can_start done unmet node = not (slice_index_or done node false) && (slice_index
 
 -- each undone node has an undone need
 abbrev pub IsBlocked : List (List ℕ) → List Bool → Type 0
-IsBlocked needs done = (u : ℕ) → u < length needs → slice_index_or done u false ≡ false → undone done (slice_index_or needs u []) ≢ []
+IsBlocked needs done = (u : ℕ) → u < length needs → slice_index_or done u false ≡ false
+    → undone done (slice_index_or needs u []) ≢ []
 
 -- how many are marked
 abbrev pub marked : List Bool → ℕ

@@ -1,5 +1,7 @@
 -- Puts that are made one after the other.
-use Rattle.std.proofs.Common.{◌≡◌, ℕ, suc, ◌+◌, ◌≤◌, ◌<◌, true, List, [], ◌∷◌, ◌++◌, map, length, slice_get, get_or, nat_lt, Option, Some, None, is_some, unwrap_or, refl, sym, ◌∙◌, ap, subst, arith, true≢false, append_assoc, length-append}
+use Rattle.std.proofs.Common.{◌≡◌, ℕ, suc, ◌+◌, ◌≤◌, ◌<◌, true, List, [], ◌∷◌, ◌++◌, map, length, slice_get, get_or}
+use Rattle.std.proofs.Common.{nat_lt, Option, Some, None, is_some, unwrap_or, refl, sym, ◌∙◌, ap, subst, arith}
+use Rattle.std.proofs.Common.{true≢false, append_assoc, length-append}
 use Rattle.std.proofs.lemmas.Bool.Decides.{nat_tests}
 use Rattle.std.proofs.lemmas.Option.{slice_get_within, slice_get_read}
 use Rattle.arm_value.specs.Json.{Json}
@@ -19,14 +21,19 @@ first_is : (q r : Resource) → Some q ≡ Some r → q ≡ r
 first_is q r e = ap (λ (o : Option Resource). unwrap_or o q) e
 
 -- what the next resource was stored in, behind the states of the first
-pub store_more : (may : May) (place : Place) (rs : List Resource) (ss : List Json) (r : Resource) (s : Json) → MayStore may place rs ss → slice_get rs (length ss) ≡ Some r → MayAnswer may place r (Stored s) → MayStore may place rs (ss ++ s ∷ [])
+pub store_more : (may : May) (place : Place) (rs : List Resource) (ss : List Json) (r : Resource) (s : Json)
+    → MayStore may place rs ss → slice_get rs (length ss) ≡ Some r → MayAnswer may place r (Stored s)
+    → MayStore may place rs (ss ++ s ∷ [])
 store_more may place [] [] r s kept at is = none_is_some at
 store_more may place [] (t ∷ ss) r s kept at is = kept
-store_more may place (q ∷ rs) [] r s kept at is = (subst (λ (x : Resource). MayAnswer may place x (Stored s)) (sym (first_is q r at)) is, tt)
+store_more may place (q ∷ rs) [] r s kept at is =
+    (subst (λ (x : Resource). MayAnswer may place x (Stored s)) (sym (first_is q r at)) is, tt)
 store_more may place (q ∷ rs) (t ∷ ss) r s kept at is = (kept.0, store_more may place rs ss r s kept.1 at is)
 
 -- the next resource was not stored
-pub come_to_stop : (may : May) (place : Place) (rs : List Resource) (ss : List Json) (r : Resource) (e : Ending) → MayStore may place rs ss → slice_get rs (length ss) ≡ Some r → StoresNothing may place r e → ComeTo may place rs ss e
+pub come_to_stop : (may : May) (place : Place) (rs : List Resource) (ss : List Json) (r : Resource) (e : Ending)
+    → MayStore may place rs ss → slice_get rs (length ss) ≡ Some r → StoresNothing may place r e
+    → ComeTo may place rs ss e
 come_to_stop may place rs ss r (ending.Refused code id) kept at is = (kept, (r, at, is.0, is.1))
 come_to_stop may place rs ss r ending.ProviderFault kept at is = (kept, slice_get_within rs (length ss) r at)
 come_to_stop may place rs ss r ending.OutOfMemory kept at is = (kept, slice_get_within rs (length ss) r at)
@@ -58,19 +65,26 @@ one_last ending.BadDeployment = omega arith
 one_last ending.TreeFault = omega arith
 
 -- the call of the next put, behind those of the first
-calls_more : (place : Place) (t k : ℕ) (rs : List Resource) (ss : List Json) (r : Resource) (more : List Gave) → slice_get rs (length ss) ≡ Some r → k ≡ t + length ss → length more ≤ 1
-    → calls_of (puts place t rs) (map stored_in ss ++ more) ≡ calls_of (puts place t rs) (map stored_in ss) ++ calls_of (put_of place k r ∷ []) more
+calls_more : (place : Place) (t k : ℕ) (rs : List Resource) (ss : List Json) (r : Resource) (more : List Gave)
+    → slice_get rs (length ss) ≡ Some r → k ≡ t + length ss → length more ≤ 1
+    → calls_of (puts place t rs) (map stored_in ss ++ more) ≡ calls_of (puts place t rs) (map stored_in ss)
+    ++ calls_of (put_of place k r ∷ []) more
 calls_more place t k [] ss r more at is few = none_is_some at
 calls_more place t k (q ∷ rs) [] r [] at is few = refl
 calls_more place t k (q ∷ rs) [] r (g ∷ []) at is few =
-    ap (λ (x : Resource). calls_of (put_of place t x ∷ []) (g ∷ [])) (first_is q r at) ∙ ap (λ (n : ℕ). calls_of (put_of place n r ∷ []) (g ∷ [])) (omega (arith, is))
+    ap (λ (x : Resource). calls_of (put_of place t x ∷ []) (g ∷ [])) (first_is q r at)
+    ∙ ap (λ (n : ℕ). calls_of (put_of place n r ∷ []) (g ∷ [])) (omega (arith, is))
 calls_more place t k (q ∷ rs) [] r (g ∷ h ∷ more) at is few = absurd (omega (arith, few))
 calls_more place t k (q ∷ rs) (s ∷ ss) r more at is few =
-    ap (λ (l : List Call). calls_of (put_of place t q ∷ []) (stored_in s ∷ []) ++ l) (calls_more place (suc t) k rs ss r more at (omega (arith, is)) few)
+    ap (λ (l : List Call). calls_of (put_of place t q ∷ []) (stored_in s ∷ []) ++ l)
+    (calls_more place (suc t) k rs ss r more at (omega (arith, is)) few)
 
 -- what the calls are after the next put
-pub told_more : (place : Place) (k : ℕ) (rs : List Resource) (ss : List Json) (r : Resource) (more : List Gave) (old middle new : List Call) → slice_get rs (length ss) ≡ Some r → k ≡ 1 + length ss → length more ≤ 1
-    → middle ≡ old ++ calls_of (puts place 1 rs) (map stored_in ss) → new ≡ middle ++ calls_of (put_of place k r ∷ []) more → new ≡ old ++ calls_of (puts place 1 rs) (map stored_in ss ++ more)
+pub told_more : (place : Place) (k : ℕ) (rs : List Resource) (ss : List Json) (r : Resource) (more : List Gave)
+    (old middle new : List Call) → slice_get rs (length ss) ≡ Some r → k ≡ 1 + length ss → length more ≤ 1
+    → middle ≡ old ++ calls_of (puts place 1 rs) (map stored_in ss)
+    → new ≡ middle ++ calls_of (put_of place k r ∷ []) more
+    → new ≡ old ++ calls_of (puts place 1 rs) (map stored_in ss ++ more)
 told_more place k rs ss r more old middle new at is few was step =
     step ∙ ap (λ (l : List Call). l ++ calls_of (put_of place k r ∷ []) more) was
     ∙ append_assoc old (calls_of (puts place 1 rs) (map stored_in ss)) (calls_of (put_of place k r ∷ []) more)
@@ -85,9 +99,19 @@ below : (i n : ℕ) → true ≡ nat_lt i n → i < n
 below i n e = grind (arith, nat_tests)
 
 -- the next resource is the one that was looked up
-pub found_at : (rs : List Resource) (ss : List Json) (i : ℕ) (r : Resource) → true ≡ nat_lt i (length rs) → r ≡ get_or rs i r → i ≡ length ss → slice_get rs (length ss) ≡ Some r
-found_at rs ss i r inside is len = subst (λ (k : ℕ). slice_get rs k ≡ Some r) len (slice_get_read rs (length rs) i r refl (below i (length rs) inside) is)
+pub found_at : (rs : List Resource) (ss : List Json) (i : ℕ) (r : Resource) → true ≡ nat_lt i (length rs)
+    → r ≡ get_or rs i r → i ≡ length ss → slice_get rs (length ss) ≡ Some r
+found_at rs ss i r inside is len =
+    subst (λ (k : ℕ). slice_get rs k ≡ Some r) len
+    (slice_get_read rs (length rs) i r refl (below i (length rs) inside) is)
 
 -- one more is within
-pub one_within : (rs : List Resource) (ss ts : List Json) (s : Json) (r : Resource) → slice_get rs (length ss) ≡ Some r → ts ≡ ss ++ s ∷ [] → length ts ≤ length rs
-one_within rs ss ts s r at is = omega (arith, slice_get_within rs (length ss) r at, ap (λ (l : List Json). length l) is, length-append ss (s ∷ []))
+pub one_within : (rs : List Resource) (ss ts : List Json) (s : Json) (r : Resource)
+    → slice_get rs (length ss) ≡ Some r → ts ≡ ss ++ s ∷ [] → length ts ≤ length rs
+one_within rs ss ts s r at is =
+    omega (
+      arith,
+      slice_get_within rs (length ss) r at,
+      ap (λ (l : List Json). length l) is,
+      length-append ss (s ∷ []),
+    )

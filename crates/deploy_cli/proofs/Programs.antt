@@ -9,11 +9,18 @@ use Rattle.bicep_literal.specs.declared.fault.SourceFault.TheVariants.{NotLitera
 use Rattle.deploy_cli.specs.Program.{IsNotBuilt}
 
 -- the template that a source would give is too large
-pub too_large : (bytes : List ℕ) (declared : List Resource) → DeclareOneList → IsUtf8 bytes → SourceDeclares bytes declared → 4194304 < length (template_bytes declared) → IsNotBuilt bytes
+pub too_large : (bytes : List ℕ) (declared : List Resource) → DeclareOneList → IsUtf8 bytes
+    → SourceDeclares bytes declared → 4194304 < length (template_bytes declared) → IsNotBuilt bytes
 too_large bytes declared one text declares large = record {
   is_text = text;
   file = (declares.0, declares.1, declares.2, declares.3, declares.4);
-  none = λ rs is. omega (arith, large, is.small, ap (λ (l : List Resource). length (template_bytes l)) (one bytes rs declared is.declares declares));
+  none =
+      λ rs is. omega (
+        arith,
+        large,
+        is.small,
+        ap (λ (l : List Resource). length (template_bytes l)) (one bytes rs declared is.declares declares),
+      );
 }
 
 -- the source is in no literal form

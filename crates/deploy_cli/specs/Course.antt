@@ -1,5 +1,6 @@
 -- How the puts of resources go.
-use Rattle.std.specs.Prelude.{◌≡◌, ℕ, ◌≤◌, ◌<◌, List, [], ◌∷◌, ◌++◌, map, length, slice_get, false, Some, Result, Ok, Err}
+use Rattle.std.specs.Prelude.{◌≡◌, ℕ, ◌≤◌, ◌<◌, List, [], ◌∷◌, ◌++◌, map, length, slice_get, false, Some, Result, Ok}
+use Rattle.std.specs.Prelude.{Err}
 use Rattle.arm_edges.specs.Faults.{Rose}
 use Rattle.arm_value.specs.Json.{Json, members_nesting}
 use Rattle.arm_ids.specs.Segments.{is_empty}
@@ -29,11 +30,15 @@ MayStore may place rs [] = Unit {0}
 MayStore may place [] (s ∷ ss) = ⊥
 MayStore may place (r ∷ rs) (s ∷ ss) = MayAnswer may place r (Stored s) × MayStore may place rs ss
 
--- the puts of these resources, of which the first were stored in these states, come to this ending: to success where they are all; to a refusal of the next of them, with its code and its id; to a fault, or want of memory, at the next of them
+-- the puts of these resources, of which the first were stored in these states, come to this ending: to success where
+-- they are all; to a refusal of the next of them, with its code and its id; to a fault, or want of memory, at the
+-- next of them
 abbrev pub ComeTo : May → Place → List Resource → List Json → Ending → Type 0
 ComeTo may place rs states ending.Succeeded = MayStore may place rs states × (length states ≡ length rs)
 ComeTo may place rs states (ending.Refused code id) =
-    MayStore may place rs states × ((r : Resource) × (slice_get rs (length states) ≡ Some r) × MayAnswer may place r (Refused code) × (id ≡ id_of place r))
+    MayStore may place rs states
+    × ((r : Resource) × (slice_get rs (length states) ≡ Some r) × MayAnswer may place r (Refused code)
+    × (id ≡ id_of place r))
 ComeTo may place rs states ending.ProviderFault = MayStore may place rs states × (length states < length rs)
 ComeTo may place rs states ending.OutOfMemory = MayStore may place rs states × (length states < length rs)
 ComeTo may place rs states _ = ⊥
@@ -52,7 +57,8 @@ last_gave _ = []
 abbrev pub gave_by : List Json → Ending → List Gave
 gave_by states end = map stored_in states ++ last_gave end
 
--- why the put of a resource stored nothing: a refusal that the provider may give, with the id of the resource; a fault; or want of memory
+-- why the put of a resource stored nothing: a refusal that the provider may give, with the id of the resource; a
+-- fault; or want of memory
 abbrev pub StoresNothing : May → Place → Resource → Ending → Type 0
 StoresNothing may place r (ending.Refused code id) = MayAnswer may place r (Refused code) × (id ≡ id_of place r)
 StoresNothing may place r ending.ProviderFault = Unit {0}

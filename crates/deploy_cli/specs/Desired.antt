@@ -28,16 +28,21 @@ AreThere may place [] [] = Unit {0}
 AreThere may place (r ∷ rs) (held ∷ others) = IsThere may place r held × AreThere may place rs others
 AreThere may place _ _ = ⊥
 
--- the desired state satisfies the template that the bytes are: it states resources, each of which is there, and nothing else; no two have one key
+-- the desired state satisfies the template that the bytes are: it states resources, each of which is there, and
+-- nothing else; no two have one key
 abbrev pub Satisfies : May → Place → List ℕ → DesiredState → Type 0
-Satisfies may place bytes desired = (rs : List Resource) × StatedBy bytes rs × AreThere may place rs desired × KeysDiffer rs
+Satisfies may place bytes desired = (rs : List Resource) × StatedBy bytes rs × AreThere may place rs desired
+    × KeysDiffer rs
 
--- the desired state is one that the source means: it declares resources, each of which is there, and nothing else; no two have one key
+-- the desired state is one that the source means: it declares resources, each of which is there, and nothing else; no
+-- two have one key
 abbrev pub SourceSatisfies : May → Place → List ℕ → DesiredState → Type 0
-SourceSatisfies may place source desired = (rs : List Resource) × SourceDeclares source rs × AreThere may place rs desired × KeysDiffer rs
+SourceSatisfies may place source desired = (rs : List Resource) × SourceDeclares source rs
+    × AreThere may place rs desired × KeysDiffer rs
 
 -- the desired state of resources that were stored in these states
 abbrev pub desired : Place → List Resource → List Json → DesiredState
 desired place [] states = []
 desired place (r ∷ rs) [] = []
-desired place (r ∷ rs) (s ∷ ss) = record { id = id_of place r; api = r.api; body = body_of r; state = s } ∷ desired place rs ss
+desired place (r ∷ rs) (s ∷ ss) = record { id = id_of place r; api = r.api; body = body_of r; state = s }
+    ∷ desired place rs ss

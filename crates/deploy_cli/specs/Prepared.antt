@@ -28,7 +28,8 @@ IsRefused bytes ending.NotBuilt = IsNotBuilt bytes
 IsRefused bytes ending.OutOfMemory = Unit {0}
 IsRefused bytes _ = ⊥
 
--- the bytes that were read for the command's file are a program of these resources, and its names are in their form; the template that the program gives states these resources
+-- the bytes that were read for the command's file are a program of these resources, and its names are in their form;
+-- the template that the program gives states these resources
 pub record IsReady (folder : Folder) (d : Deploy) (bytes : List ℕ) (rs : List Resource) : Type 0 where
   pub read : WasRead folder d.file bytes
   pub program : IsProgram bytes rs
@@ -45,7 +46,8 @@ IsMissing folder name = folder.tells ≡ true → folder.file name ≡ None
 
 -- the file has more than 4,194,304 bytes, where that is told
 abbrev pub IsTooLarge : Folder → List ℕ → Type 0
-IsTooLarge folder name = folder.tells ≡ true → (bytes : List ℕ) × (folder.file name ≡ Some bytes) × (4194304 < length bytes)
+IsTooLarge folder name = folder.tells ≡ true → (bytes : List ℕ) × (folder.file name ≡ Some bytes)
+    × (4194304 < length bytes)
 
 -- why the file of a name gave no bytes
 abbrev pub FileEnds : Folder → ℕ → ℕ → List ℕ → Ending → Type 0
@@ -59,17 +61,21 @@ FileEnds folder before now name _ = ⊥
 abbrev pub IsRead : Folder → Deploy → Type 0
 IsRead folder d = (bytes : List ℕ) × (rs : List Resource) × WasRead folder d.file bytes × IsProgram bytes rs
 
--- why nothing is deployed: the first that holds of the file, the group's name and the deployment's name, or want of memory before
+-- why nothing is deployed: the first that holds of the file, the group's name and the deployment's name, or want of
+-- memory before
 abbrev pub IsNotPrepared : Folder → ℕ → ℕ → Deploy → Ending → Type 0
 IsNotPrepared folder before now d ending.Missing = IsMissing folder d.file
 IsNotPrepared folder before now d ending.TooLarge = IsTooLarge folder d.file
 IsNotPrepared folder before now d ending.TreeFault = Rose before now
 IsNotPrepared folder before now d ending.NotText = (bytes : List ℕ) × WasRead folder d.file bytes × (¬ IsUtf8 bytes)
-IsNotPrepared folder before now d (ending.Lexical f place) = (bytes : List ℕ) × WasRead folder d.file bytes × IsLexical bytes f place
-IsNotPrepared folder before now d (ending.Syntax f place) = (bytes : List ℕ) × WasRead folder d.file bytes × IsSyntax bytes f place
+IsNotPrepared folder before now d (ending.Lexical f place) = (bytes : List ℕ) × WasRead folder d.file bytes
+    × IsLexical bytes f place
+IsNotPrepared folder before now d (ending.Syntax f place) = (bytes : List ℕ) × WasRead folder d.file bytes
+    × IsSyntax bytes f place
 IsNotPrepared folder before now d ending.NotBuilt = (bytes : List ℕ) × WasRead folder d.file bytes × IsNotBuilt bytes
 IsNotPrepared folder before now d ending.BadGroup = IsRead folder d × (is_group_name d.group ≡ false)
-IsNotPrepared folder before now d ending.BadDeployment = IsRead folder d × (is_group_name d.group ≡ true) × (is_deployment_name d.name ≡ false)
+IsNotPrepared folder before now d ending.BadDeployment = IsRead folder d × (is_group_name d.group ≡ true)
+    × (is_deployment_name d.name ≡ false)
 IsNotPrepared folder before now d ending.OutOfMemory = Unit {0}
 IsNotPrepared folder before now d _ = ⊥
 

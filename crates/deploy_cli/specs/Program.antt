@@ -2,7 +2,8 @@
 use Rattle.std.specs.Prelude.{◌≡◌, ◌≢◌, ℕ, ◌≤◌, List, length, decimal}
 use Rattle.std.specs.Str.{IsUtf8}
 use Rattle.bicep_lexer.specs.declared.fault.LexFault.{LexFault}
-use Rattle.bicep_lexer.specs.declared.fault.LexFault.TheVariants.{BadCharacter, OpenText, BadEscape, OpenComment, BadNumber, OutOfMemory}
+use Rattle.bicep_lexer.specs.declared.fault.LexFault.TheVariants.{BadCharacter, OpenText, BadEscape, OpenComment}
+use Rattle.bicep_lexer.specs.declared.fault.LexFault.TheVariants.{BadNumber, OutOfMemory}
 use Rattle.bicep_lexer.specs.Faults.{Refuses}
 use Rattle.literal_template.specs.Template.{template_bytes}
 use Rattle.literal_template.specs.declared.resource.Resource.{Resource}

@@ -17,7 +17,13 @@ use Rattle.deploy_cli.specs.Words.{Deploy}
 -- where a deployment is made
 abbrev pub place_of : Deploy → Place
 place_of d =
-    record { subscription = codes "00000000-0000-0000-0000-000000000000"; group = chars d.group; location = codes "westeurope"; deployment = chars d.name }
+    record {
+      subscription = codes "00000000-0000-0000-0000-000000000000";
+      group = chars d.group;
+      location =
+          codes "westeurope";
+      deployment = chars d.name;
+    }
 
 -- the id of a resource there
 abbrev pub id_of : Place → Resource → List ℕ
@@ -30,7 +36,9 @@ body_of r = object (pairs r.body)
 -- what the first part of a put's record says: what is put, and who puts it
 unfoldable pub first_members : ℕ → List ℕ → List ℕ → Json → List Member
 first_members task id api body =
-    put (codes "worker") (int (pos 0)) (put (codes "task") (int (pos task)) (put (codes "id") (text id) (put (codes "body") body (put (codes "api") (text api) []))))
+    put (codes "worker") (int (pos 0))
+    (put (codes "task") (int (pos task))
+    (put (codes "id") (text id) (put (codes "body") body (put (codes "api") (text api) []))))
 
 -- that part, as compact JSON
 abbrev pub first_part : ℕ → List ℕ → List ℕ → Json → List ℕ
@@ -39,7 +47,16 @@ first_part task id api body = compact_text (data_of (object (pairs (first_member
 -- the put of a resource that has this id, as that task
 abbrev pub put_with : List ℕ → ℕ → Resource → Work
 put_with id task r =
-    record { task = task; worker = 0; act = Put; id = id; api = r.api; body = body_of r; first = first_part task id r.api (body_of r) }
+    record {
+      task = task;
+      worker = 0;
+      act = Put;
+      id = id;
+      api = r.api;
+      body = body_of r;
+      first =
+          first_part task id r.api (body_of r);
+    }
 
 -- the put of a resource, as that task
 abbrev pub put_of : Place → ℕ → Resource → Work

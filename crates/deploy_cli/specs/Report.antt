@@ -1,5 +1,6 @@
 -- What is printed of an ending, and with which status the program ends.
-use Rattle.std.specs.Prelude.{◌≡◌, ℕ, nat_le, Bool, true, List, ◌++◌, take, encode_utf8_all, codes, Result, Ok, Err, ◌⊎◌, if◌then◌else◌}
+use Rattle.std.specs.Prelude.{◌≡◌, ℕ, nat_le, Bool, true, List, ◌++◌, take, encode_utf8_all, codes, Result, Ok, Err}
+use Rattle.std.specs.Prelude.{◌⊎◌, if◌then◌else◌}
 use Rattle.arm_edges.specs.Faults.{Rose}
 use Rattle.arm_edges.specs.declared.faults.Failed.{Failed}
 use Rattle.bicep_lexer.specs.declared.fault.LexFault.{LexFault}
@@ -7,7 +8,9 @@ use Rattle.bicep_lexer.specs.declared.fault.LexFault.TheVariants as lexical
 use Rattle.bicep_parser.specs.declared.fault.ParseFault.{ParseFault}
 use Rattle.bicep_parser.specs.declared.fault.ParseFault.TheVariants as syntax
 use Rattle.deploy_cli.specs.declared.ending.Ending.{Ending}
-use Rattle.deploy_cli.specs.declared.ending.Ending.TheVariants.{Succeeded, Refused, Missing, TooLarge, NotText, Lexical, Syntax, NotBuilt, BadGroup, BadDeployment, TreeFault, ProviderFault, OutOfMemory}
+use Rattle.deploy_cli.specs.declared.ending.Ending.TheVariants.{Succeeded, Refused, Missing, TooLarge, NotText}
+use Rattle.deploy_cli.specs.declared.ending.Ending.TheVariants.{Lexical, Syntax, NotBuilt, BadGroup, BadDeployment}
+use Rattle.deploy_cli.specs.declared.ending.Ending.TheVariants.{TreeFault, ProviderFault, OutOfMemory}
 use Rattle.deploy_cli.specs.Words.{Deploy}
 
 -- how the line of a fault of the lexer begins
@@ -82,12 +85,14 @@ status_unsaid status = if nat_le status 3 then 5 else status
 abbrev pub IsPart : List ℕ → List ℕ → List ℕ → Type 0
 IsPart old text new = (n : ℕ) × (new ≡ old ++ take n text)
 
--- an output that had this written, and now has that, was given the text: it took the text where the result is Ok, and else a front of it
+-- an output that had this written, and now has that, was given the text: it took the text where the result is Ok, and
+-- else a front of it
 abbrev pub Wrote : Bool → List ℕ → List ℕ → List ℕ → Result (Unit {0}) Failed → Type 0
 Wrote tells old new text (Ok done) = tells ≡ true → new ≡ old ++ text
 Wrote tells old new text (Err failed) = tells ≡ true → IsPart old text new
 
--- an output that had this written and so many faults, and now has that and so many, was given the text, and the status that was wanted became this one: it took the text, or it took a front of it and failed
+-- an output that had this written and so many faults, and now has that and so many, was given the text, and the
+-- status that was wanted became this one: it took the text, or it took a front of it and failed
 abbrev pub Reported : Bool → List ℕ → List ℕ → ℕ → ℕ → List ℕ → ℕ → ℕ → Type 0
 Reported tells old new before now line wanted status =
     ((status ≡ wanted) × (now ≡ before) × (tells ≡ true → new ≡ old ++ line))

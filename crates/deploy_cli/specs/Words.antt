@@ -1,5 +1,6 @@
 -- Which words are a command. Words are their bytes in UTF-8.
-use Rattle.std.specs.Prelude.{ℕ, ◌==◌, ◌&&◌, not, Bool, false, List, [], ◌∷◌, bytes_eq, Option, Some, None, codes, if◌then◌else◌}
+use Rattle.std.specs.Prelude.{ℕ, ◌==◌, ◌&&◌, not, Bool, false, List, [], ◌∷◌, bytes_eq, Option, Some, None, codes}
+use Rattle.std.specs.Prelude.{if◌then◌else◌}
 use Rattle.deploy_cli.specs.declared.words.Command.{Command}
 
 -- what is to be deployed: the name of the source's file, and the names of the group and of the deployment
@@ -27,5 +28,7 @@ are_arguments file group name = is_argument file && (is_argument group && is_arg
 -- the words `deploy FILE --group GROUP --name NAME`
 abbrev pub command_of : List (List ℕ) → Option Deploy
 command_of (c ∷ file ∷ g ∷ group ∷ n ∷ name ∷ []) =
-    if are_fixed c g n then (if are_arguments file group name then Some (record { file = file; group = group; name = name }) else None) else None
+    if are_fixed c g n
+    then (if are_arguments file group name then Some (record { file = file; group = group; name = name })
+    else None) else None
 command_of _ = None

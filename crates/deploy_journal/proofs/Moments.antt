@@ -1,5 +1,6 @@
 -- How runs of disk calls go on.
-use Rattle.std.proofs.Common.{Result, Ok, Err, OnOk, ◌≡◌, ◌⊎◌, inl, inr, ⊎_elim, ℕ, ◌≤◌, ◌<◌, min, List, length, take, refl, sym, ◌∙◌, ap, subst, arith}
+use Rattle.std.proofs.Common.{Result, Ok, Err, OnOk, ◌≡◌, ◌⊎◌, inl, inr, ⊎_elim, ℕ, ◌≤◌, ◌<◌, min, List, length, take}
+use Rattle.std.proofs.Common.{refl, sym, ◌∙◌, ap, subst, arith}
 use Rattle.std.proofs.lemmas.List.{take-take}
 use Rattle.std.proofs.lemmas.Bool.{cases_lt}
 use Rattle.arm_edges.specs.Disk.{Parts, At, Torn, GoesOn, Unchanged}
@@ -14,7 +15,8 @@ torn_keeps n at m below d c step =
     let h = step.here in
     record {
       front = λ within. (
-        sym (take-take n (min at (length d.a)) c.a (omega arith)) ∙ ap (λ (l : List ℕ). take n l) h.before ∙ take-take n at d.a below,
+        sym (take-take n (min at (length d.a)) c.a (omega arith)) ∙ ap (λ (l : List ℕ). take n l) h.before
+            ∙ take-take n at d.a below,
         omega (arith, h.no_shorter),
       );
       part_b = step.there;
@@ -36,7 +38,8 @@ keeps_then n e d c x y = record {
 }
 
 module _ {D : Type 0} (moment : D → ℕ) (left : D → ℕ → Parts → Type 0) where
-  pub wider : (s t : Parts → Parts → Type 0) (old new : D) → GoesOn moment left s old new → ((d c : Parts) → s d c → t d c) → GoesOn moment left t old new
+  pub wider : (s t : Parts → Parts → Type 0) (old new : D) → GoesOn moment left s old new
+      → ((d c : Parts) → s d c → t d c) → GoesOn moment left t old new
   wider s t old new x w = record {
     later = x.later;
     past = x.past;
@@ -45,23 +48,28 @@ module _ {D : Type 0} (moment : D → ℕ) (left : D → ℕ → Parts → Type 
   }
 
   -- a step that can be made twice as one is made twice
-  pub goes_then : (s : Parts → Parts → Type 0) → ((e d c : Parts) → s e d → s d c → s e c) → (old mid new : D) → GoesOn moment left s old mid → GoesOn moment left s mid new → GoesOn moment left s old new
+  pub goes_then : (s : Parts → Parts → Type 0) → ((e d c : Parts) → s e d → s d c → s e c) → (old mid new : D)
+      → GoesOn moment left s old mid → GoesOn moment left s mid new → GoesOn moment left s old new
   goes_then s joined old mid new x y = record {
     later = omega (arith, x.later, y.later);
     past = λ t c le l. x.past t c le (y.past t c (omega (arith, le, x.later)) l);
     keeps = λ t c le l. y.keeps t c (omega (arith, le, x.later)) (x.keeps t c le l);
-    during = λ t c from to l. ⊎_elim (λ early. x.during t c from early (y.past t c early l)) (λ late. later_on t c late to l) (total t (moment mid));
+    during = λ t c from to l. ⊎_elim (λ early. x.during t c from early (y.past t c early l))
+        (λ late. later_on t c late to l) (total t (moment mid));
   }
     where
-      later_on : (t : ℕ) (c : Parts) → moment mid ≤ t → t ≤ moment new → left new t c → (d : Parts) × left old (moment old) d × s d c
+      later_on : (t : ℕ) (c : Parts) → moment mid ≤ t → t ≤ moment new → left new t c → (d : Parts)
+          × left old (moment old) d × s d c
       later_on t c from to l =
           let h = y.during t c from to l in
           let k = x.during (moment mid) h.0 x.later (omega arith) h.1 in (k.0, k.1, joined k.0 h.0 c k.2 h.2)
 
-  pub go_on : (n : ℕ) (old mid new : D) → GoesOn moment left (KeepsFront n) old mid → GoesOn moment left (KeepsFront n) mid new → GoesOn moment left (KeepsFront n) old new
+  pub go_on : (n : ℕ) (old mid new : D) → GoesOn moment left (KeepsFront n) old mid
+      → GoesOn moment left (KeepsFront n) mid new → GoesOn moment left (KeepsFront n) old new
   go_on n = goes_then (KeepsFront n) (keeps_then n)
 
-  pub b_goes_on : (old mid new : D) → GoesOn moment left KeepsB old mid → GoesOn moment left KeepsB mid new → GoesOn moment left KeepsB old new
+  pub b_goes_on : (old mid new : D) → GoesOn moment left KeepsB old mid → GoesOn moment left KeepsB mid new
+      → GoesOn moment left KeepsB old new
   b_goes_on = goes_then KeepsB (λ e d c x y. y ∙ x)
 
   -- after no call at all
@@ -70,7 +78,8 @@ module _ {D : Type 0} (moment : D → ℕ) (left : D → ℕ → Parts → Type 
     later = omega arith;
     past = λ t c le l. l;
     keeps = λ t c le l. l;
-    during = λ t c from to l. let same : t ≡ moment disk = omega arith in (c, subst (λ (n : ℕ). left disk n c) same l, refl);
+    during = λ t c from to l. let same : t ≡ moment disk = omega arith in
+        (c, subst (λ (n : ℕ). left disk n c) same l, refl);
   }
 
   -- calls that change nothing, or part A alone, change nothing of part B
@@ -80,7 +89,8 @@ module _ {D : Type 0} (moment : D → ℕ) (left : D → ℕ → Parts → Type 
   pub b_kept : (n : ℕ) (old new : D) → GoesOn moment left (KeepsFront n) old new → GoesOn moment left KeepsB old new
   b_kept n old new x = wider (KeepsFront n) KeepsB old new x (λ d c k. k.part_b)
 
-  pub b_torn : (at m : ℕ) (old new : D) → GoesOn moment left (At A (Torn at m)) old new → GoesOn moment left KeepsB old new
+  pub b_torn : (at m : ℕ) (old new : D) → GoesOn moment left (At A (Torn at m)) old new
+      → GoesOn moment left KeepsB old new
   b_torn at m old new x = wider (At A (Torn at m)) KeepsB old new x (λ d c step. step.there)
 
   pub since_first : (s : Parts → Parts → Type 0) (P : Parts → Type 0) (old new : D) → GoesOn moment left s old new
@@ -92,12 +102,14 @@ module _ {D : Type 0} (moment : D → ℕ) (left : D → ℕ → Parts → Type 
     during = λ t c from to l. let h = x.during t c from to l in here h.0 c h.1 h.2;
   }
 
-  pub since_then : (P : Parts → Type 0) (old mid new : D) → Since moment left old mid P → Since moment left mid new P → Since moment left old new P
+  pub since_then : (P : Parts → Type 0) (old mid new : D) → Since moment left old mid P → Since moment left mid new P
+      → Since moment left old new P
   since_then P old mid new x y = record {
     later = omega (arith, x.later, y.later);
     past = λ t c le l. x.past t c le (y.past t c (omega (arith, le, x.later)) l);
     keeps = λ t c le l. y.keeps t c (omega (arith, le, x.later)) (x.keeps t c le l);
-    during = λ t c from to l. ⊎_elim (λ early. x.during t c from early (y.past t c early l)) (λ late. y.during t c late to l) (total t (moment mid));
+    during = λ t c from to l. ⊎_elim (λ early. x.during t c from early (y.past t c early l))
+        (λ late. y.during t c late to l) (total t (moment mid));
   }
 
 pub on_ok : {T E P Q : Type 0} (r : Result T E) → (P → Q) → OnOk r P → OnOk r Q

@@ -6,7 +6,8 @@ use Rattle.deploy_journal.specs.declared.read.OpenFault.{OpenFault}
 use Rattle.deploy_journal.specs.declared.read.OpenFault.TheVariants.{OutOfMemory, Damaged, DiskFault}
 use Rattle.deploy_journal.specs.Records.{body, IsCutShort, IsDamagedAt}
 
--- at the front of these bytes stands a record behind an open gate, a closed gate, or an open gate and less than a record
+-- at the front of these bytes stands a record behind an open gate, a closed gate, or an open gate and less than a
+-- record
 abbrev pub NextMeans : Next → List ℕ → Type 0
 NextMeans (Entry r) rest = rest ≡ 1 ∷ body r (drop (18 + length r.first + length r.second) rest)
 NextMeans End rest = (gate : ℕ) × (k : List ℕ) × (gate ≢ 1) × (rest ≡ gate ∷ k)

@@ -6,12 +6,14 @@ use Rattle.deploy_journal.specs.declared.read.OpenFault.{OpenFault}
 use Rattle.deploy_journal.specs.declared.read.OpenFault.TheVariants.{OutOfMemory, Damaged, DiskFault}
 
 -- the disk reads as before, and a crash leaves nothing new
-pub record Still {D : Type 0} (tells : Bool) (reads : D → Parts) (moment : D → ℕ) (left : D → ℕ → Parts → Type 0) (reach : D → ℕ) (old new : D) : Type 0 where
+pub record Still {D : Type 0} (tells : Bool) (reads : D → Parts) (moment : D → ℕ) (left : D → ℕ → Parts → Type 0)
+    (reach : D → ℕ) (old new : D) : Type 0 where
   pub reads_same : reads new ≡ reads old
   pub reach_same : reach new ≡ reach old
   pub images : tells ≡ true → GoesOn moment left Unchanged old new
 
--- why a journal is not opened: a fault of the disk comes only where the count rose, and every other one leaves the count
+-- why a journal is not opened: a fault of the disk comes only where the count rose, and every other one leaves the
+-- count
 abbrev pub FaultCause : ℕ → ℕ → OpenFault → Type 0
 FaultCause before now OutOfMemory = now ≡ before
 FaultCause before now (Damaged at) = now ≡ before

@@ -14,7 +14,8 @@ eight n = to_be_bytes w64 n
 
 -- the bytes of a record behind its gate, and then rest
 abbrev pub body_bytes : ℕ → List ℕ → List ℕ → List ℕ → List ℕ
-body_bytes kind first second rest = kind ∷ (eight (length first) ++ (eight (length second) ++ (first ++ (second ++ rest))))
+body_bytes kind first second rest =
+    kind ∷ (eight (length first) ++ (eight (length second) ++ (first ++ (second ++ rest))))
 
 -- the same of a record
 abbrev pub body : Record → List ℕ → List ℕ
@@ -57,7 +58,8 @@ EndsBadly rest = (rest ≡ []) ⊎ ((cut : List ℕ) × (rest ≡ 1 ∷ cut) × 
 abbrev pub IsDamagedAt : List ℕ → ℕ → Type 0
 IsDamagedAt file at =
     ((at ≡ 0) × ((rest : List ℕ) → file ≡ beginning ++ rest → ⊥))
-    ⊎ ((records : List Record) × (rest : List ℕ) × (file ≡ beginning ++ spelled records rest) × (at + length rest ≡ length file) × EndsBadly rest)
+    ⊎ ((records : List Record) × (rest : List ℕ) × (file ≡ beginning ++ spelled records rest)
+    × (at + length rest ≡ length file) × EndsBadly rest)
 
 -- part B is unchanged
 abbrev pub KeepsB : Parts → Parts → Type 0
@@ -69,7 +71,8 @@ pub record KeepsFront (n : ℕ) (old new : Parts) : Type 0 where
   pub part_b : KeepsB old new
 
 -- each image from the old moment to the new has P, and earlier moments keep theirs
-pub record Since {D : Type 0} (moment : D → ℕ) (left : D → ℕ → Parts → Type 0) (old new : D) (P : Parts → Type 0) : Type 0 where
+pub record Since {D : Type 0} (moment : D → ℕ) (left : D → ℕ → Parts → Type 0) (old new : D) (P : Parts
+    → Type 0) : Type 0 where
   pub later : moment old ≤ moment new
   pub past : (t : ℕ) (c : Parts) → t ≤ moment old → left new t c → left old t c
   pub keeps : (t : ℕ) (c : Parts) → t ≤ moment old → left old t c → left new t c

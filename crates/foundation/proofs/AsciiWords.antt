@@ -1,5 +1,6 @@
 -- Words of ASCII characters: their bytes are their characters.
-use Rattle.std.proofs.Common.{◌≡◌, ◌<◌, ℕ, zero, suc, Bool, true, nat_lt, List, [], ◌∷◌, chars, IsUtf8, refl, ap, ◌∙◌, ◌||◌, arith, lit<}
+use Rattle.std.proofs.Common.{◌≡◌, ◌<◌, ℕ, zero, suc, Bool, true, nat_lt, List, [], ◌∷◌, chars, IsUtf8, refl, ap, ◌∙◌}
+use Rattle.std.proofs.Common.{◌||◌, arith, lit<}
 use Rattle.std.specs.List.{list_all, list_any}
 use Rattle.std.specs.Str.{IsAscii}
 use Rattle.std.proofs.lemmas.Str.{chars-IsAscii, IsUtf8-from_ascii}
@@ -31,7 +32,8 @@ pub word : (bs : List ℕ) → list_all (λ b. nat_lt b 128) bs ≡ true → cha
 word bs e = chars-IsAscii bs (ascii_word bs e)
 
 -- a test of the characters of any of the words is a test of their bytes
-pub any_word : (q : List ℕ → Bool) (ws : List (List ℕ)) → list_all (λ w. list_all (λ b. nat_lt b 128) w) ws ≡ true → list_any (λ w. q (chars w)) ws ≡ list_any q ws
+pub any_word : (q : List ℕ → Bool) (ws : List (List ℕ)) → list_all (λ w. list_all (λ b. nat_lt b 128) w) ws ≡ true
+    → list_any (λ w. q (chars w)) ws ≡ list_any q ws
 any_word q [] e = refl
 any_word q (w ∷ ws) e =
     let p = both (list_all (λ b. nat_lt b 128) w) (list_all (λ w. list_all (λ b. nat_lt b 128) w) ws) e in

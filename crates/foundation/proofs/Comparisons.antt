@@ -28,4 +28,8 @@ le_of_false m n h = grind (arith, nat_tests)
 
 -- what holds on both sides of a test holds of its answer
 pub by_le : (m n : ℕ) (P : Bool → Type 0) → (m ≤ n → P true) → (n < m → P false) → P (nat_le m n)
-by_le m n P f g = elim (nat_le m n) as (λ b. nat_le m n ≡ b → P b) [ true ↦ λ y. f (le_of_true m n y) | false ↦ λ y. g (lt_of_false m n y) ] refl
+by_le m n P f g = elim (nat_le m n) as (λ b. nat_le m n ≡ b → P b) [
+  | true ↦ λ y. f (le_of_true m n y)
+  | false ↦
+      λ y. g (lt_of_false m n y)
+] refl

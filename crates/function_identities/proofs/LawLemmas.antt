@@ -1,5 +1,7 @@
 -- Base64 back to texts.
-use Rattle.std.proofs.Common.{◌≡◌, ◌<◌, ◌+◌, ◌++◌, ◌∙◌, ℕ, zero, suc, List, [], ◌∷◌, Bool, true, false, cond, ◌/◌, ◌%◌, Option, Some, None, option_map, option_and_then, Result, Ok, Err, chars, encode_utf8_all, refl, sym, ap, subst, inl, inr, arith, true≢false}
+use Rattle.std.proofs.Common.{◌≡◌, ◌<◌, ◌+◌, ◌++◌, ◌∙◌, ℕ, zero, suc, List, [], ◌∷◌, Bool, true, false, cond, ◌/◌}
+use Rattle.std.proofs.Common.{◌%◌, Option, Some, None, option_map, option_and_then, Result, Ok, Err, chars}
+use Rattle.std.proofs.Common.{encode_utf8_all, refl, sym, ap, subst, inl, inr, arith, true≢false}
 use Rattle.std.specs.Prelude.{◌&&◌, if◌then◌else◌}
 use Rattle.std.specs.Str.{all_scalars, is_utf8}
 use Rattle.std.proofs.Math.Dec.{ltb}
@@ -52,9 +54,12 @@ character_bytes c h =
     let second : 128 + c / 64 % 64 < 256 = omega arith in
     let third : 128 + c / 4096 % 64 < 256 = omega arith in
     chosen (ltb c 128) _ _ (λ e. let l = ltb-true c 128 e in one_more c [] (omega arith) none)
-    (λ _. chosen (ltb c 2048) _ _ (λ e. let l = ltb-true c 2048 e in two (192 + c / 64) (128 + c % 64) (omega arith) last)
-    (λ _. chosen (ltb c 65536) _ _ (λ e. let l = ltb-true c 65536 e in three (224 + c / 4096) (128 + c / 64 % 64) (128 + c % 64) (omega arith) second last)
-    (λ _. four (240 + c / 262144) (128 + c / 4096 % 64) (128 + c / 64 % 64) (128 + c % 64) (omega arith) third second last)))
+    (λ _. chosen (ltb c 2048) _ _ (λ e. let l = ltb-true c 2048 e in
+    two (192 + c / 64) (128 + c % 64) (omega arith) last)
+    (λ _. chosen (ltb c 65536) _ _ (λ e. let l = ltb-true c 65536 e in
+    three (224 + c / 4096) (128 + c / 64 % 64) (128 + c % 64) (omega arith) second last)
+    (λ _. four (240 + c / 262144) (128 + c / 4096 % 64) (128 + c / 64 % 64) (128 + c % 64) (omega arith) third second
+    last)))
 
 text_bytes : (s : List ℕ) → all_scalars s ≡ true → IsBytes (encode_utf8_all s)
 text_bytes [] h = none
@@ -71,10 +76,12 @@ decoded_encoded : (t : List ℕ) → all_scalars t ≡ true → decoded (encoded
 decoded_encoded t h =
     let bytes = encode_utf8_all t in
     let read : decoded_of standard (encode_utf8_all (encoded t)) ≡ Some bytes =
-    ap (decoded_of standard) (encoded_bytes t) ∙ decodes (encoded t) bytes (decode_of-encode_of standard bytes refl (text_bytes t h)) in
+    ap (decoded_of standard) (encoded_bytes t)
+    ∙ decodes (encoded t) bytes (decode_of-encode_of standard bytes refl (text_bytes t h)) in
     ap (option_and_then text_of_bytes) read ∙ is_text bytes (t, (h, refl)) ∙ ap Some (chars-encodes t h)
 
-pub back : (t : List ℕ) → all_scalars t ≡ true → option_and_then (λ s. base64_to_string (s ∷ [])) (to_base64 (text t ∷ [])) ≡ Some (text t)
+pub back : (t : List ℕ) → all_scalars t ≡ true
+    → option_and_then (λ s. base64_to_string (s ∷ [])) (to_base64 (text t ∷ [])) ≡ Some (text t)
 back t h = ap (option_map text) (decoded_encoded t h)
 
 -- ---- and the other way
@@ -83,11 +90,13 @@ text_given : (o : Option (List ℕ)) (j : Json) → option_map text o ≡ Some j
 text_given None j e = absurd (cc e)
 text_given (Some t) j e = (t, refl, cc e)
 
-bytes_read : (o : Option (List ℕ)) (t : List ℕ) → option_and_then text_of_bytes o ≡ Some t → (bytes : List ℕ) × (o ≡ Some bytes) × (text_of_bytes bytes ≡ Some t)
+bytes_read : (o : Option (List ℕ)) (t : List ℕ) → option_and_then text_of_bytes o ≡ Some t → (bytes : List ℕ)
+    × (o ≡ Some bytes) × (text_of_bytes bytes ≡ Some t)
 bytes_read None t e = absurd (cc e)
 bytes_read (Some bytes) t e = (bytes, refl, e)
 
-text_by : (b : Bool) (cs t : List ℕ) → ◌≡◌ {A = Option (List ℕ)} (if b then Some cs else None) (Some t) → (b ≡ true) × (cs ≡ t)
+text_by : (b : Bool) (cs t : List ℕ) → ◌≡◌ {A = Option (List ℕ)} (if b then Some cs else None) (Some t) → (b ≡ true)
+    × (cs ≡ t)
 text_by true cs t e = (refl, cc e)
 text_by false cs t e = absurd (cc e)
 
@@ -104,12 +113,20 @@ encoded_decoded s t h e =
     let found = bytes_read (decoded_of standard (encode_utf8_all s)) t e in
     let bytes = found.0 in
     let read = text_by (is_utf8 bytes) (chars bytes) t found.2 in
-    let spelled : bytes ≡ encode_utf8_all t = sym (encodes-chars bytes (IsUtf8-from_is_utf8 bytes read.0)) ∙ ap encode_utf8_all read.1 in
-    let strict : encode_utf8_all s ≡ encode_of standard bytes = decode_of_strict standard (encode_utf8_all s) bytes (refl, refl) (text_bytes s h) (decoded_ok (encode_utf8_all s) bytes found.1) in
-    let scalars_read : all_scalars t ≡ true = subst (λ cs. all_scalars cs ≡ true) read.1 (scalars-chars bytes (IsUtf8-from_is_utf8 bytes read.0)) in
-    (scalars_read, sym (sym (chars-encodes s h) ∙ ap chars (strict ∙ ap (encode_of standard) spelled) ∙ encoded_characters (encode_utf8_all t)))
+    let spelled : bytes ≡ encode_utf8_all t = sym (encodes-chars bytes (IsUtf8-from_is_utf8 bytes read.0))
+    ∙ ap encode_utf8_all read.1 in
+    let strict : encode_utf8_all s ≡ encode_of standard bytes =
+    decode_of_strict standard (encode_utf8_all s) bytes (refl, refl) (text_bytes s h)
+    (decoded_ok (encode_utf8_all s) bytes found.1) in
+    let scalars_read : all_scalars t ≡ true =
+    subst (λ cs. all_scalars cs ≡ true) read.1 (scalars-chars bytes (IsUtf8-from_is_utf8 bytes read.0)) in (
+      scalars_read,
+      sym (sym (chars-encodes s h) ∙ ap chars (strict ∙ ap (encode_of standard) spelled)
+          ∙ encoded_characters (encode_utf8_all t)),
+    )
 
-pub alone : (s : List ℕ) (j : Json) → all_scalars s ≡ true → base64_to_string (text s ∷ []) ≡ Some j → (t : List ℕ) × (all_scalars t ≡ true) × (j ≡ text t) × (to_base64 (text t ∷ []) ≡ Some (text s))
+pub alone : (s : List ℕ) (j : Json) → all_scalars s ≡ true → base64_to_string (text s ∷ []) ≡ Some j → (t : List ℕ)
+    × (all_scalars t ≡ true) × (j ≡ text t) × (to_base64 (text t ∷ []) ≡ Some (text s))
 alone s j h e =
     let given = text_given (decoded s) j e in
     let found = encoded_decoded s given.0 h given.1 in

@@ -1,5 +1,6 @@
 -- Texts of bytes, and texts of ASCII characters.
-use Rattle.std.proofs.Common.{◌≡◌, ℕ, List, true, false, Option, Some, None, Ok, Err, chars, IsUtf8, refl, sym, ap, inl, inr, true≢false}
+use Rattle.std.proofs.Common.{◌≡◌, ℕ, List, true, false, Option, Some, None, Ok, Err, chars, IsUtf8, refl, sym, ap}
+use Rattle.std.proofs.Common.{inl, inr, true≢false}
 use Rattle.std.specs.Result.{result_ok}
 use Rattle.std.specs.Str.{is_utf8}
 use Rattle.std.proofs.lemmas.Bool.{cases_Bool}

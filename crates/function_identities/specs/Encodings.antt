@@ -1,5 +1,6 @@
 -- The functions on base64 (Microsoft Learn: ARM template functions, string; RFC 4648, section 4).
-use Rattle.std.specs.Prelude.{ℕ, List, Option, Some, None, option_map, option_and_then, chars, encode_utf8_all, if◌then◌else◌}
+use Rattle.std.specs.Prelude.{ℕ, List, Option, Some, None, option_map, option_and_then, chars, encode_utf8_all}
+use Rattle.std.specs.Prelude.{if◌then◌else◌}
 use Rattle.std.specs.Str.{is_utf8}
 use Rattle.base64.specs.Engines.{standard}
 use Rattle.base64.specs.GeneralPurpose.{encode_of, decoded_of}

@@ -1,5 +1,6 @@
 -- The functions that make names of texts (Microsoft Learn: ARM template functions, string).
-use Rattle.std.specs.Prelude.{ℕ, List, [], ◌∷◌, ◌++◌, take, Option, Some, None, option_map, option_and_then, encode_utf8_all}
+use Rattle.std.specs.Prelude.{ℕ, List, [], ◌∷◌, ◌++◌, take, Option, Some, None, option_map, option_and_then}
+use Rattle.std.specs.Prelude.{encode_utf8_all}
 use Rattle.sha1.specs.Sha1.{sha1}
 use Rattle.sha2.specs.Sha256.{sha256}
 use Rattle.uuid.specs.Uuid.{namespace_dns}

@@ -1,5 +1,6 @@
 -- Values that are found by their compact texts.
-use Rattle.std.proofs.Common.{◌≡◌, ℕ, ℤ, pos, negsuc, Bool, true, false, ◌||◌, List, [], ◌∷◌, ◌++◌, Some, bytes_eq, refl, ap, ap₂, sym, ◌∙◌}
+use Rattle.std.proofs.Common.{◌≡◌, ℕ, ℤ, pos, negsuc, Bool, true, false, ◌||◌, List, [], ◌∷◌, ◌++◌, Some, bytes_eq}
+use Rattle.std.proofs.Common.{refl, ap, ap₂, sym, ◌∙◌}
 use Rattle.std.specs.Prelude.{cond}
 use Rattle.std.specs.Cmp.{both_ways}
 use Rattle.std.specs.List.{AllByRecursion, list_any}
@@ -35,7 +36,8 @@ mutual
   same_data : (j k : Json) → data_of j ≡ data_of k → j ≡ k
   same_data null null e = refl
   same_data (bool a) (bool b) e = let same : a ≡ b = cc in ap bool same
-  same_data (int x) (int y) e = let same : of_integer x ≡ of_integer y = cc in ap int (sym (integer_back x) ∙ ap integer_in same ∙ integer_back y)
+  same_data (int x) (int y) e = let same : of_integer x ≡ of_integer y = cc in
+      ap int (sym (integer_back x) ∙ ap integer_in same ∙ integer_back y)
   same_data (text s) (text t) e = ap text (encodes_same s t (cc))
   same_data (array js) (array ks) e = ap array (same_row js ks (cc))
   same_data (object ms) (object ns) e = ap object (same_pairs ms ns (cc))
@@ -48,7 +50,8 @@ mutual
 
   same_pairs : (ms ns : Pairs) → pairs_data ms ≡ pairs_data ns → ms ≡ ns
   same_pairs no_pairs no_pairs e = refl
-  same_pairs (pair s j ms) (pair t k ns) e = λ i. pair (encodes_same s t (cc) i) (same_data j k (cc) i) (same_pairs ms ns (cc) i)
+  same_pairs (pair s j ms) (pair t k ns) e =
+      λ i. pair (encodes_same s t (cc) i) (same_data j k (cc) i) (same_pairs ms ns (cc) i)
   same_pairs _ _ e = absurd (cc)
 
 -- ---- a text and its value
@@ -66,14 +69,16 @@ texts_tell j k a b =
     (λ t. equal.1 (same_value j k a b ((bytes_eq-Decides (text_of j) (text_of k)).0 t)))
     (λ t. (bytes_eq-Decides (text_of j) (text_of k)).1 (ap text_of (equal.0 t)))
 
-among_texts : (j : Json) (js : List Json) → ReadsBack j → AllByRecursion ReadsBack js → list_any (λ k. bytes_eq (text_of j) (text_of k)) js ≡ is_among js j
+among_texts : (j : Json) (js : List Json) → ReadsBack j → AllByRecursion ReadsBack js
+    → list_any (λ k. bytes_eq (text_of j) (text_of k)) js ≡ is_among js j
 among_texts j [] a h = refl
 among_texts j (k ∷ js) a h = ap₂ (λ x y. x || y) (texts_tell j k a h.0) (among_texts j js a h.1)
 
 -- ---- the set
 
 -- what the set says of a text, it says of the value
-pub is_indexed : (texts : BTreeSet (Vec ℕ Global)) (key : Vec ℕ Global) (js : List Json) (j : Json) → IsIndexOf texts js → key.items ≡ text_of j → ReadsBack j → contains text_cmp texts key ≡ is_among js j
+pub is_indexed : (texts : BTreeSet (Vec ℕ Global)) (key : Vec ℕ Global) (js : List Json) (j : Json)
+    → IsIndexOf texts js → key.items ≡ text_of j → ReadsBack j → contains text_cmp texts key ≡ is_among js j
 is_indexed texts key js j h e a =
     h.has key ∙ ap (λ s. list_any (λ k. bytes_eq s (text_of k)) js) e ∙ among_texts j js a h.read_back
 
@@ -82,7 +87,8 @@ index_empty texts e = record { has = λ s. ap (list_any _) e; read_back = tt }
 
 swapped : (s t : List ℕ) → bytes_eq s t ≡ bytes_eq t s
 swapped s t =
-    both_ways (bytes_eq s t) (bytes_eq t s) (λ h. (bytes_eq-Decides t s).1 (sym ((bytes_eq-Decides s t).0 h))) (λ h. (bytes_eq-Decides s t).1 (sym ((bytes_eq-Decides t s).0 h)))
+    both_ways (bytes_eq s t) (bytes_eq t s) (λ h. (bytes_eq-Decides t s).1 (sym ((bytes_eq-Decides s t).0 h)))
+    (λ h. (bytes_eq-Decides s t).1 (sym ((bytes_eq-Decides t s).0 h)))
 
 last_or : (a b : Bool) → cond a true b ≡ (b || (a || false))
 last_or true true = refl
@@ -90,15 +96,20 @@ last_or true false = refl
 last_or false true = refl
 last_or false false = refl
 
-all_push : (js : List Json) (j : Json) → AllByRecursion ReadsBack js → ReadsBack j → AllByRecursion ReadsBack (js ++ j ∷ [])
+all_push : (js : List Json) (j : Json) → AllByRecursion ReadsBack js → ReadsBack j
+    → AllByRecursion ReadsBack (js ++ j ∷ [])
 all_push [] j h a = (a, tt)
 all_push (k ∷ js) j h a = (h.0, all_push js j h.1 a)
 
 -- one more value
-pub index_more : (old new : BTreeSet (Vec ℕ Global)) (key : Vec ℕ Global) (js : List Json) (j : Json) → IsIndexOf old js → key.items ≡ text_of j → ReadsBack j → Updates text_cmp old new key true → IsIndexOf new (js ++ j ∷ [])
+pub index_more : (old new : BTreeSet (Vec ℕ Global)) (key : Vec ℕ Global) (js : List Json) (j : Json)
+    → IsIndexOf old js → key.items ≡ text_of j → ReadsBack j → Updates text_cmp old new key true
+    → IsIndexOf new (js ++ j ∷ [])
 index_more old new key js j h e a u = record {
   has = λ s.
       let here = is_eq-slice_cmp key.items s.items ∙ swapped key.items s.items ∙ ap (bytes_eq s.items) e in
-      u.0 s ∙ ap₂ (λ x y. cond x true y) here (h.has s) ∙ last_or (bytes_eq s.items (text_of j)) (list_any (λ k. bytes_eq s.items (text_of k)) js) ∙ sym (list_any-append (λ k. bytes_eq s.items (text_of k)) js (j ∷ []));
+      u.0 s ∙ ap₂ (λ x y. cond x true y) here (h.has s)
+      ∙ last_or (bytes_eq s.items (text_of j)) (list_any (λ k. bytes_eq s.items (text_of k)) js)
+      ∙ sym (list_any-append (λ k. bytes_eq s.items (text_of k)) js (j ∷ []));
   read_back = all_push js j h.read_back a;
 }

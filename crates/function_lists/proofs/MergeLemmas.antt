@@ -1,12 +1,15 @@
 -- Two objects united member by member, both in the order of their keys.
-use Rattle.std.proofs.Common.{◌≡◌, ◌<◌, ℕ, Bool, true, false, List, [], ◌∷◌, ◌++◌, length, map, append_assoc, append-nil, Some, None, option_and_then, Ordering, Less, Equal, Greater, encode_utf8_all, bytes_eq, refl, ap, sym, ◌∙◌, subst, arith}
+use Rattle.std.proofs.Common.{◌≡◌, ◌<◌, ℕ, Bool, true, false, List, [], ◌∷◌, ◌++◌, length, map, append_assoc}
+use Rattle.std.proofs.Common.{append-nil, Some, None, option_and_then, Ordering, Less, Equal, Greater}
+use Rattle.std.proofs.Common.{encode_utf8_all, bytes_eq, refl, ap, sym, ◌∙◌, subst, arith}
 use Rattle.std.proofs.lemmas.Bool.{false_from_ne_true}
 use Rattle.std.proofs.lemmas.Cmp.{nat_list_cmp_total}
 use Rattle.std.proofs.lemmas.Slice.Eq.{bytes_eq-Decides}
 use Rattle.std.specs.Ordering.{ordering_reverse, is_lt}
 use Rattle.std.specs.List.{AllByRecursion}
 use Rattle.std.specs.List.Sorted.{IsStrictlySortedBy}
-use Rattle.arm_value.specs.Json.{Json, Pairs, no_pairs, pair, Member, keys, pair_keys, key_cmp, put, put_each, IsInOrder}
+use Rattle.arm_value.specs.Json.{Json, Pairs, no_pairs, pair, Member, keys, pair_keys, key_cmp, put, put_each}
+use Rattle.arm_value.specs.Json.{IsInOrder}
 use Rattle.arm_value.proofs.SetLemmas.{equal_keys, in_order}
 use Rattle.arm_value.specs.View.{member}
 use Rattle.arm_value.specs.declared.value.Field.{Field}
@@ -34,28 +37,40 @@ none_below_itself Greater e h = cc
 -- a key that is below another differs from it, whichever comes first
 pub differs : (k l : List ℕ) → key_cmp k l ≡ Less → bytes_eq k l ≡ false
 differs k l h = false_from_ne_true (bytes_eq k l) (λ t.
-    none_below_itself (key_cmp k k) (nat_list_cmp_total.antisymm (encode_utf8_all k) (encode_utf8_all k)) (ap (key_cmp k) ((bytes_eq-Decides k l).0 t) ∙ h))
+    none_below_itself (key_cmp k k) (nat_list_cmp_total.antisymm (encode_utf8_all k) (encode_utf8_all k))
+    (ap (key_cmp k) ((bytes_eq-Decides k l).0 t) ∙ h))
 
 pub differs_from : (k l : List ℕ) → key_cmp k l ≡ Less → bytes_eq l k ≡ false
 differs_from k l h = false_from_ne_true (bytes_eq l k) (λ t.
-    none_below_itself (key_cmp k k) (nat_list_cmp_total.antisymm (encode_utf8_all k) (encode_utf8_all k)) (ap (key_cmp k) (sym ((bytes_eq-Decides l k).0 t)) ∙ h))
+    none_below_itself (key_cmp k k) (nat_list_cmp_total.antisymm (encode_utf8_all k) (encode_utf8_all k))
+    (ap (key_cmp k) (sym ((bytes_eq-Decides l k).0 t)) ∙ h))
 
 pub same_key : (k l : List ℕ) → key_cmp k l ≡ Equal → bytes_eq k l ≡ true
 same_key k l h = (bytes_eq-Decides k l).1 (equal_keys k l h)
 
 -- what is above a key is above those below it, and above those equal to it
-pub after : (a b : List ℕ) (ks : List (List ℕ)) → key_cmp a b ≡ Less → AllByRecursion (λ y. key_cmp b y ≡ Less) ks → AllByRecursion (λ y. key_cmp a y ≡ Less) ks
+pub after : (a b : List ℕ) (ks : List (List ℕ)) → key_cmp a b ≡ Less → AllByRecursion (λ y. key_cmp b y ≡ Less) ks
+    → AllByRecursion (λ y. key_cmp a y ≡ Less) ks
 after a b [] l h = tt
-after a b (k ∷ ks) l h = (nat_list_cmp_total.trans (encode_utf8_all a) (encode_utf8_all b) (encode_utf8_all k) l h.0, after a b ks l h.1)
+after a b (k ∷ ks) l h = (
+  nat_list_cmp_total.trans (encode_utf8_all a) (encode_utf8_all b) (encode_utf8_all k) l h.0,
+  after a b ks l h.1,
+)
 
-pub same_after : (a b : List ℕ) (ks : List (List ℕ)) → key_cmp a b ≡ Equal → AllByRecursion (λ y. key_cmp b y ≡ Less) ks → AllByRecursion (λ y. key_cmp a y ≡ Less) ks
+pub same_after : (a b : List ℕ) (ks : List (List ℕ)) → key_cmp a b ≡ Equal
+    → AllByRecursion (λ y. key_cmp b y ≡ Less) ks → AllByRecursion (λ y. key_cmp a y ≡ Less) ks
 same_after a b [] l h = tt
-same_after a b (k ∷ ks) l h = (nat_list_cmp_total.congr (encode_utf8_all a) (encode_utf8_all b) (encode_utf8_all k) l ∙ h.0, same_after a b ks l h.1)
+same_after a b (k ∷ ks) l h = (
+  nat_list_cmp_total.congr (encode_utf8_all a) (encode_utf8_all b) (encode_utf8_all k) l
+      ∙ h.0,
+  same_after a b ks l h.1,
+)
 
 -- ---- one member of either object
 
 -- a member whose key is below all that are put stays in front
-front_stays : (m : Member) (ms us : List Member) → AllByRecursion (λ y. key_cmp m.0 y ≡ Less) (keys us) → put_each (m ∷ ms) us ≡ m ∷ put_each ms us
+front_stays : (m : Member) (ms us : List Member) → AllByRecursion (λ y. key_cmp m.0 y ≡ Less) (keys us)
+    → put_each (m ∷ ms) us ≡ m ∷ put_each ms us
 front_stays m ms [] h = refl
 front_stays m ms (u ∷ us) h = rw (above m.0 u.0 h.0) (front_stays m (put u.0 u.1 ms) us h.1)
 
@@ -63,7 +78,8 @@ keys_updated : (ms : List Member) (ns : Pairs) → keys (updated ms ns) ≡ pair
 keys_updated ms no_pairs = refl
 keys_updated ms (pair k j ns) = ap (λ r. k ∷ r) (keys_updated ms ns)
 
-updated_above : (k : List ℕ) (ms : List Member) (ns : Pairs) → AllByRecursion (λ y. key_cmp k y ≡ Less) (pair_keys ns) → AllByRecursion (λ y. key_cmp k y ≡ Less) (keys (updated ms ns))
+updated_above : (k : List ℕ) (ms : List Member) (ns : Pairs) → AllByRecursion (λ y. key_cmp k y ≡ Less) (pair_keys ns)
+    → AllByRecursion (λ y. key_cmp k y ≡ Less) (keys (updated ms ns))
 updated_above k ms ns h = subst (AllByRecursion (λ y. key_cmp k y ≡ Less)) (sym (keys_updated ms ns)) h
 
 absent : (k : List ℕ) (ms : List Member) → AllByRecursion (λ y. key_cmp k y ≡ Less) (keys ms) → value_at k ms ≡ None
@@ -84,9 +100,11 @@ unfolding value_at
 at_none k = refl
 
 -- a first member below the second's keys meets none of them
-updated_skips : (m : Member) (ms : List Member) (ns : Pairs) → AllByRecursion (λ y. key_cmp m.0 y ≡ Less) (pair_keys ns) → updated (m ∷ ms) ns ≡ updated ms ns
+updated_skips : (m : Member) (ms : List Member) (ns : Pairs)
+    → AllByRecursion (λ y. key_cmp m.0 y ≡ Less) (pair_keys ns) → updated (m ∷ ms) ns ≡ updated ms ns
 updated_skips m ms no_pairs h = refl
-updated_skips m ms (pair k j ns) h = λ i. (k, under (option_and_then members_of (at_later k m ms h.0 i)) j) ∷ updated_skips m ms ns h.1 i
+updated_skips m ms (pair k j ns) h = λ i. (k, under (option_and_then members_of (at_later k m ms h.0 i)) j)
+    ∷ updated_skips m ms ns h.1 i
 
 -- the first's members, among which those of the second are put
 abbrev pub merged : List Member → Pairs → List Member
@@ -118,15 +136,21 @@ from-stops k m ms h = rw h refl
 
 -- what is merged before and at a key of the second, and what is merged after it
 abbrev Steps : List ℕ → Json → List Member → Pairs → Type 0
-Steps k j ms ns = merged ms (pair k j ns) ≡ below k ms ++ (k, under (object_first k (from k ms)) j) ∷ merged (without_first k (from k ms)) ns
+Steps k j ms ns = merged ms (pair k j ns) ≡ below k ms ++ (k, under (object_first k (from k ms)) j)
+    ∷ merged (without_first k (from k ms)) ns
 
-step_less : (k : List ℕ) (j : Json) (m : Member) (ms : List Member) (ns : Pairs) → key_cmp m.0 k ≡ Less → AllByRecursion (λ y. key_cmp k y ≡ Less) (pair_keys ns) → Steps k j ms ns → Steps k j (m ∷ ms) ns
+step_less : (k : List ℕ) (j : Json) (m : Member) (ms : List Member) (ns : Pairs) → key_cmp m.0 k ≡ Less
+    → AllByRecursion (λ y. key_cmp k y ≡ Less) (pair_keys ns) → Steps k j ms ns → Steps k j (m ∷ ms) ns
 step_less k j m ms ns e h rest =
-    let over : AllByRecursion (λ y. key_cmp m.0 y ≡ Less) (pair_keys (pair k j ns)) = (e, after m.0 k (pair_keys ns) e h) in
-    ap (put_each (m ∷ ms)) (updated_skips m ms (pair k j ns) over) ∙ front_stays m ms (updated ms (pair k j ns)) (updated_above m.0 ms (pair k j ns) over) ∙ ap (λ r. m ∷ r) rest
-    ∙ sym (λ i. below-less k m ms e i ++ (k, under (object_first k (from-less k m ms e i)) j) ∷ merged (without_first k (from-less k m ms e i)) ns)
+    let over : AllByRecursion (λ y. key_cmp m.0 y ≡ Less) (pair_keys (pair k j ns)) =
+    (e, after m.0 k (pair_keys ns) e h) in
+    ap (put_each (m ∷ ms)) (updated_skips m ms (pair k j ns) over)
+    ∙ front_stays m ms (updated ms (pair k j ns)) (updated_above m.0 ms (pair k j ns) over) ∙ ap (λ r. m ∷ r) rest
+    ∙ sym (λ i. below-less k m ms e i ++ (k, under (object_first k (from-less k m ms e i)) j)
+    ∷ merged (without_first k (from-less k m ms e i)) ns)
 
-step_equal : (k : List ℕ) (j : Json) (m : Member) (ms : List Member) (ns : Pairs) → key_cmp m.0 k ≡ Equal → AllByRecursion (λ y. key_cmp k y ≡ Less) (pair_keys ns) → Steps k j (m ∷ ms) ns
+step_equal : (k : List ℕ) (j : Json) (m : Member) (ms : List Member) (ns : Pairs) → key_cmp m.0 k ≡ Equal
+    → AllByRecursion (λ y. key_cmp k y ≡ Less) (pair_keys ns) → Steps k j (m ∷ ms) ns
 step_equal k j m ms ns e h =
     let over : AllByRecursion (λ y. key_cmp m.0 y ≡ Less) (pair_keys ns) = same_after m.0 k (pair_keys ns) e h in
     let here : bytes_eq k m.0 ≡ true = same_key k m.0 (alike m.0 k e) in
@@ -134,33 +158,51 @@ step_equal k j m ms ns e h =
     let none : is_lt (key_cmp m.0 k) ≡ false = ap is_lt e in
     let placed : put k value (m ∷ ms) ≡ (k, value) ∷ ms = rw (alike m.0 k e) refl in
     let left : put_each (put k value (m ∷ ms)) (updated (m ∷ ms) ns) ≡ (k, value) ∷ merged ms ns =
-    (λ i. put_each (placed i) (updated_skips m ms ns over i)) ∙ front_stays (k, value) ms (updated ms ns) (updated_above k ms ns h) in
-    let right : (k, under (object_first k (m ∷ ms)) j) ∷ merged (without_first k (m ∷ ms)) ns ≡ (k, value) ∷ merged ms ns = rw here refl in
-    ap (λ o. put_each (put k (under (option_and_then members_of o) j) (m ∷ ms)) (updated (m ∷ ms) ns)) (at_first k m ms here) ∙ left ∙ sym right
-    ∙ sym (λ i. below-stops k m ms none i ++ (k, under (object_first k (from-stops k m ms none i)) j) ∷ merged (without_first k (from-stops k m ms none i)) ns)
+    (λ i. put_each (placed i) (updated_skips m ms ns over i))
+    ∙ front_stays (k, value) ms (updated ms ns) (updated_above k ms ns h) in
+    let right : (k, under (object_first k (m ∷ ms)) j) ∷ merged (without_first k (m ∷ ms)) ns ≡ (k, value)
+    ∷ merged ms ns = rw here refl in
+    ap (λ o. put_each (put k (under (option_and_then members_of o) j) (m ∷ ms)) (updated (m ∷ ms) ns))
+    (at_first k m ms here) ∙ left ∙ sym right
+    ∙ sym (λ i. below-stops k m ms none i ++ (k, under (object_first k (from-stops k m ms none i)) j)
+    ∷ merged (without_first k (from-stops k m ms none i)) ns)
 
-step_greater : (k : List ℕ) (j : Json) (m : Member) (ms : List Member) (ns : Pairs) → key_cmp m.0 k ≡ Greater → AllByRecursion (λ y. key_cmp m.0 y ≡ Less) (keys ms) → AllByRecursion (λ y. key_cmp k y ≡ Less) (pair_keys ns) → Steps k j (m ∷ ms) ns
+step_greater : (k : List ℕ) (j : Json) (m : Member) (ms : List Member) (ns : Pairs) → key_cmp m.0 k ≡ Greater
+    → AllByRecursion (λ y. key_cmp m.0 y ≡ Less) (keys ms) → AllByRecursion (λ y. key_cmp k y ≡ Less) (pair_keys ns)
+    → Steps k j (m ∷ ms) ns
 step_greater k j m ms ns e o h =
     let less : key_cmp k m.0 ≡ Less = beneath m.0 k e in
     let none : is_lt (key_cmp m.0 k) ≡ false = ap is_lt e in
     let placed : put k j (m ∷ ms) ≡ (k, j) ∷ m ∷ ms = rw less refl in
     let left : put_each (put k j (m ∷ ms)) (updated (m ∷ ms) ns) ≡ (k, j) ∷ merged (m ∷ ms) ns =
-    ap (λ r. put_each r (updated (m ∷ ms) ns)) placed ∙ front_stays (k, j) (m ∷ ms) (updated (m ∷ ms) ns) (updated_above k (m ∷ ms) ns h) in
-    let right : (k, under (object_first k (m ∷ ms)) j) ∷ merged (without_first k (m ∷ ms)) ns ≡ (k, j) ∷ merged (m ∷ ms) ns = rw (differs k m.0 less) refl in
-    ap (λ v. put_each (put k (under (option_and_then members_of v) j) (m ∷ ms)) (updated (m ∷ ms) ns)) (absent k (m ∷ ms) (less, after k m.0 (keys ms) less o)) ∙ left ∙ sym right
-    ∙ sym (λ i. below-stops k m ms none i ++ (k, under (object_first k (from-stops k m ms none i)) j) ∷ merged (without_first k (from-stops k m ms none i)) ns)
+    ap (λ r. put_each r (updated (m ∷ ms) ns)) placed
+    ∙ front_stays (k, j) (m ∷ ms) (updated (m ∷ ms) ns) (updated_above k (m ∷ ms) ns h) in
+    let right : (k, under (object_first k (m ∷ ms)) j) ∷ merged (without_first k (m ∷ ms)) ns ≡ (k, j)
+    ∷ merged (m ∷ ms) ns = rw (differs k m.0 less) refl in
+    ap (λ v. put_each (put k (under (option_and_then members_of v) j) (m ∷ ms)) (updated (m ∷ ms) ns))
+    (absent k (m ∷ ms) (less, after k m.0 (keys ms) less o)) ∙ left ∙ sym right
+    ∙ sym (λ i. below-stops k m ms none i ++ (k, under (object_first k (from-stops k m ms none i)) j)
+    ∷ merged (without_first k (from-stops k m ms none i)) ns)
 
-step_by : (o : Ordering) (k : List ℕ) (j : Json) (m : Member) (ms : List Member) (ns : Pairs) → key_cmp m.0 k ≡ o → AllByRecursion (λ y. key_cmp m.0 y ≡ Less) (keys ms) → AllByRecursion (λ y. key_cmp k y ≡ Less) (pair_keys ns) → Steps k j ms ns → Steps k j (m ∷ ms) ns
+step_by : (o : Ordering) (k : List ℕ) (j : Json) (m : Member) (ms : List Member) (ns : Pairs) → key_cmp m.0 k ≡ o
+    → AllByRecursion (λ y. key_cmp m.0 y ≡ Less) (keys ms) → AllByRecursion (λ y. key_cmp k y ≡ Less) (pair_keys ns)
+    → Steps k j ms ns → Steps k j (m ∷ ms) ns
 step_by Less k j m ms ns e o h rest = step_less k j m ms ns e h rest
 step_by Equal k j m ms ns e o h rest = step_equal k j m ms ns e h
 step_by Greater k j m ms ns e o h rest = step_greater k j m ms ns e o h
 
-step_empty : (k : List ℕ) (j : Json) (ns : Pairs) → AllByRecursion (λ y. key_cmp k y ≡ Less) (pair_keys ns) → Steps k j [] ns
+step_empty : (k : List ℕ) (j : Json) (ns : Pairs) → AllByRecursion (λ y. key_cmp k y ≡ Less) (pair_keys ns)
+    → Steps k j [] ns
 step_empty k j ns h =
-    ap (λ v. put_each [] ((k, under (option_and_then members_of v) j) ∷ updated [] ns)) (at_none k) ∙ front_stays (k, j) [] (updated [] ns) (updated_above k [] ns h)
-    ∙ sym (λ i. below-nil k i ++ (k, under (object_first k (from-nil k i)) j) ∷ merged (without_first k (from-nil k i)) ns)
+    ap (λ v. put_each [] ((k, under (option_and_then members_of v) j) ∷ updated [] ns)) (at_none k)
+    ∙ front_stays (k, j) [] (updated [] ns) (updated_above k [] ns h)
+    ∙ sym (λ i. below-nil k i ++ (k, under (object_first k (from-nil k i)) j)
+    ∷ merged (without_first k (from-nil k i)) ns)
 
-pub steps : (k : List ℕ) (j : Json) (ms : List Member) (ns : Pairs) → IsInOrder ms → AllByRecursion (λ y. key_cmp k y ≡ Less) (pair_keys ns) → merged ms (pair k j ns) ≡ below k ms ++ (k, under (object_first k (from k ms)) j) ∷ merged (without_first k (from k ms)) ns
+pub steps : (k : List ℕ) (j : Json) (ms : List Member) (ns : Pairs) → IsInOrder ms
+    → AllByRecursion (λ y. key_cmp k y ≡ Less) (pair_keys ns)
+    → merged ms (pair k j ns) ≡ below k ms ++ (k, under (object_first k (from k ms)) j)
+    ∷ merged (without_first k (from k ms)) ns
 unfolding IsStrictlySortedBy
 steps k j [] ns o h = step_empty k j ns h
 steps k j (m ∷ ms) ns o h = step_by (key_cmp m.0 k) k j m ms ns refl o.0 h (steps k j ms ns o.1 h)
@@ -177,7 +219,8 @@ put_each-ordered [] o = refl
 put_each-ordered (m ∷ ms) o = front_stays m [] ms o.0 ∙ ap (λ r. m ∷ r) (put_each-ordered ms o.1)
 
 pub starts : (ms : List Member) (ns : Pairs) → IsInOrder ms → merged ms ns ≡ united ms ns
-starts ms ns o = sym (put_each-append [] ms (updated ms ns) ∙ ap (λ r. put_each r (updated ms ns)) (put_each-ordered ms o))
+starts ms ns o =
+    sym (put_each-append [] ms (updated ms ns) ∙ ap (λ r. put_each r (updated ms ns)) (put_each-ordered ms o))
 
 pub put_each_in_order : (ms ns : List Member) → IsInOrder ms → IsInOrder (put_each ms ns)
 put_each_in_order ms [] o = o
@@ -188,7 +231,8 @@ united_in_order ms ns = put_each_in_order [] (ms ++ updated ms ns) IsInOrder-nil
 
 -- ---- what is left stays in order
 
-from_by : (b : Bool) (k : List ℕ) (m : Member) (ms : List Member) → is_lt (key_cmp m.0 k) ≡ b → IsInOrder (m ∷ ms) → IsInOrder (from k ms) → IsInOrder (from k (m ∷ ms))
+from_by : (b : Bool) (k : List ℕ) (m : Member) (ms : List Member) → is_lt (key_cmp m.0 k) ≡ b → IsInOrder (m ∷ ms)
+    → IsInOrder (from k ms) → IsInOrder (from k (m ∷ ms))
 unfolding from
 from_by true k m ms e o rest = rw e rest
 from_by false k m ms e o rest = rw e o
@@ -198,7 +242,8 @@ unfolding IsStrictlySortedBy
 from_in_order k [] o = subst IsInOrder (sym (from-nil k)) o
 from_in_order k (m ∷ ms) o = from_by (is_lt (key_cmp m.0 k)) k m ms refl o (from_in_order k ms o.1)
 
-without_by : (b : Bool) (k : List ℕ) (m : Member) (ms : List Member) → bytes_eq k m.0 ≡ b → IsInOrder (m ∷ ms) → IsInOrder (without_first k (m ∷ ms))
+without_by : (b : Bool) (k : List ℕ) (m : Member) (ms : List Member) → bytes_eq k m.0 ≡ b → IsInOrder (m ∷ ms)
+    → IsInOrder (without_first k (m ∷ ms))
 unfolding IsStrictlySortedBy
 without_by true k m ms e o = rw e o.1
 without_by false k m ms e o = rw e o
@@ -209,7 +254,8 @@ without_in_order k (m ∷ ms) o = without_by (bytes_eq k m.0) k m ms refl o
 
 -- ---- members that are moved from the front
 
-below-on : (k : List ℕ) (m : Member) (ms : List Member) → is_lt (key_cmp m.0 k) ≡ true → below k (m ∷ ms) ≡ m ∷ below k ms
+below-on : (k : List ℕ) (m : Member) (ms : List Member) → is_lt (key_cmp m.0 k) ≡ true
+    → below k (m ∷ ms) ≡ m ∷ below k ms
 unfolding below
 below-on k m ms h = rw h refl
 
@@ -225,19 +271,26 @@ IsRest fs rest = (x : Field) (xs : List Field) → fs ≡ x ∷ xs → rest ≡ 
 abbrev pub HasFirst : List Field → List Field → List Field → Type 0
 HasFirst fs list more = (x : Field) (xs : List Field) → fs ≡ x ∷ xs → more ≡ list ++ x ∷ []
 
-pub rest_is_shorter : (k : List ℕ) (fs rest : List Field) → starts_below k (map member fs) ≡ true → IsRest fs rest → length rest < length fs
+pub rest_is_shorter : (k : List ℕ) (fs rest : List Field) → starts_below k (map member fs) ≡ true → IsRest fs rest
+    → length rest < length fs
 rest_is_shorter k [] rest t h = absurd (cc)
 rest_is_shorter k (f ∷ fs) rest t h = omega (arith, ap length (h f fs refl))
 
-pub moved_more : (k : List ℕ) (fs rest list more : List Field) (all : List Member) → starts_below k (map member fs) ≡ true → IsRest fs rest → HasFirst fs list more → map member list ++ below k (map member fs) ≡ all → map member more ++ below k (map member rest) ≡ all
+pub moved_more : (k : List ℕ) (fs rest list more : List Field) (all : List Member)
+    → starts_below k (map member fs) ≡ true → IsRest fs rest → HasFirst fs list more
+    → map member list ++ below k (map member fs) ≡ all → map member more ++ below k (map member rest) ≡ all
 moved_more k [] rest list more all t h g before = absurd (cc)
 moved_more k (f ∷ fs) rest list more all t h g before =
-    (λ i. map member (g f fs refl i) ++ below k (map member (h f fs refl i))) ∙ ap (λ r. r ++ below k (map member fs)) (map-push member list f)
-    ∙ append_assoc (map member list) (member f ∷ []) (below k (map member fs)) ∙ ap (λ r. map member list ++ r) (sym (below-on k (member f) (map member fs) t)) ∙ before
+    (λ i. map member (g f fs refl i) ++ below k (map member (h f fs refl i)))
+    ∙ ap (λ r. r ++ below k (map member fs)) (map-push member list f)
+    ∙ append_assoc (map member list) (member f ∷ []) (below k (map member fs))
+    ∙ ap (λ r. map member list ++ r) (sym (below-on k (member f) (map member fs) t)) ∙ before
 
-pub left_more : (k : List ℕ) (fs rest : List Field) (all : List Member) → starts_below k (map member fs) ≡ true → IsRest fs rest → from k (map member fs) ≡ all → from k (map member rest) ≡ all
+pub left_more : (k : List ℕ) (fs rest : List Field) (all : List Member) → starts_below k (map member fs) ≡ true
+    → IsRest fs rest → from k (map member fs) ≡ all → from k (map member rest) ≡ all
 left_more k [] rest all t h before = absurd (cc)
-left_more k (f ∷ fs) rest all t h before = ap (λ r. from k (map member r)) (h f fs refl) ∙ sym (from-on k (member f) (map member fs) t) ∙ before
+left_more k (f ∷ fs) rest all t h before = ap (λ r. from k (map member r)) (h f fs refl)
+    ∙ sym (from-on k (member f) (map member fs) t) ∙ before
 
 below-none : (k : List ℕ) (ms : List Member) → starts_below k ms ≡ false → below k ms ≡ []
 below-none k [] t = below-nil k
@@ -247,7 +300,8 @@ from-all : (k : List ℕ) (ms : List Member) → starts_below k ms ≡ false →
 from-all k [] t = from-nil k
 from-all k (m ∷ ms) t = from-stops k m ms t
 
-pub moved_all : (k : List ℕ) (list ms all : List Member) → starts_below k ms ≡ false → list ++ below k ms ≡ all → list ≡ all
+pub moved_all : (k : List ℕ) (list ms all : List Member) → starts_below k ms ≡ false → list ++ below k ms ≡ all
+    → list ≡ all
 moved_all k list ms all t before = sym (append-nil list) ∙ ap (λ r. list ++ r) (sym (below-none k ms t)) ∙ before
 
 pub left_all : (k : List ℕ) (ms all : List Member) → starts_below k ms ≡ false → from k ms ≡ all → ms ≡ all

@@ -1,8 +1,10 @@
 -- Arrays and objects that nest at most 120.
-use Rattle.std.proofs.Common.{◌≡◌, ◌<◌, ◌≤◌, ℕ, suc, Bool, true, false, List, [], ◌∷◌, ◌++◌, Some, None, refl, ap, sym, ◌∙◌, arith}
+use Rattle.std.proofs.Common.{◌≡◌, ◌<◌, ◌≤◌, ℕ, suc, Bool, true, false, List, [], ◌∷◌, ◌++◌, Some, None, refl, ap}
+use Rattle.std.proofs.Common.{sym, ◌∙◌, arith}
 use Rattle.std.specs.Prelude.{nat_le, if◌then◌else◌}
 use Rattle.std.proofs.lemmas.Bool.Decides.{nat_tests}
-use Rattle.arm_value.specs.Json.{Json, array, object, row, items, pairs, nesting, items_nesting, members_nesting, Member, put_each}
+use Rattle.arm_value.specs.Json.{Json, array, object, row, items, pairs, nesting, items_nesting, members_nesting}
+use Rattle.arm_value.specs.Json.{Member, put_each}
 use Rattle.function_numbers.proofs.RowLemmas.{items_of_row}
 use Rattle.function_lists.specs.Values.{array_of, object_of, capped}
 
@@ -34,10 +36,12 @@ deep_among : (ms ns : List Member) (m : Member) → nesting m.1 ≤ members_nest
 deep_among [] ns m = omega arith
 deep_among (n ∷ ms) ns m = omega (arith, deep_among ms ns m)
 
-pub nests_among : (all ms ns : List Member) (m : Member) → members_nesting all ≤ 119 → all ≡ ms ++ m ∷ ns → nesting m.1 ≤ 119
+pub nests_among : (all ms ns : List Member) (m : Member) → members_nesting all ≤ 119 → all ≡ ms ++ m ∷ ns
+    → nesting m.1 ≤ 119
 nests_among all ms ns m h e = omega (arith, h, deep_among ms ns m, ap members_nesting e)
 
-array_is_by : (b : Bool) (js ks : List Json) → (if b then Some (array (row js)) else None) ≡ Some (array (row ks)) → ks ≡ js
+array_is_by : (b : Bool) (js ks : List Json) → (if b then Some (array (row js)) else None) ≡ Some (array (row ks))
+    → ks ≡ js
 array_is_by true js ks e = let rows : row ks ≡ row js = cc in sym (items_of_row ks) ∙ ap items rows ∙ items_of_row js
 array_is_by false js ks e = absurd (cc)
 

@@ -1,5 +1,6 @@
 -- The functions on the items of arrays (Microsoft Learn: ARM template functions, array).
-use Rattle.std.specs.Prelude.{ℕ, pos, negsuc, Bool, true, false, List, [], ◌∷◌, ◌++◌, ◌+◌, Option, Some, None, option_map, option_and_then, if◌then◌else◌}
+use Rattle.std.specs.Prelude.{ℕ, pos, negsuc, Bool, true, false, List, [], ◌∷◌, ◌++◌, ◌+◌, Option, Some, None}
+use Rattle.std.specs.Prelude.{option_map, option_and_then, if◌then◌else◌}
 use Rattle.std.specs.List.{list_any, list_all, filter}
 use Rattle.arm_value.specs.Json.{Json, int, array, items}
 use Rattle.arm_value.specs.Same.{is_same}
@@ -38,7 +39,8 @@ is_among js j = list_any (is_same j) js
 -- the items that are equal to none of these and none before
 unfoldable pub distinct : List Json → List Json → List Json
 distinct before [] = []
-distinct before (j ∷ js) = if is_among before j then distinct (before ++ j ∷ []) js else j ∷ distinct (before ++ j ∷ []) js
+distinct before (j ∷ js) = if is_among before j then distinct (before ++ j ∷ []) js
+    else j ∷ distinct (before ++ j ∷ []) js
 
 -- `union` of arrays: the items in the order of their first appearance, equal ones once
 abbrev pub union_of_arrays : List Json → Option Json
@@ -55,7 +57,8 @@ is_item_of j _ = false
 
 -- `intersection` of arrays: the items of the first that are in all others, equal ones once
 abbrev pub intersection_of_arrays : List Json → List Json → Option Json
-intersection_of_arrays js others = if list_all is_array others then array_of (filter (λ j. list_all (is_item_of j) others) (distinct [] js)) else None
+intersection_of_arrays js others = if list_all is_array others
+    then array_of (filter (λ j. list_all (is_item_of j) others) (distinct [] js)) else None
 
 abbrev pub or_found : Option ℕ → Option ℕ → Option ℕ
 or_found None o = o

@@ -1,7 +1,9 @@
 -- The functions on objects (Microsoft Learn: ARM template functions, object).
-use Rattle.std.specs.Prelude.{ℕ, ℤ, pos, negsuc, bytes_eq, ◌&&◌, codes, Bool, true, false, List, [], ◌∷◌, ◌++◌, map, slice_get, Option, Some, None, option_map, option_and_then, if◌then◌else◌}
+use Rattle.std.specs.Prelude.{ℕ, ℤ, pos, negsuc, bytes_eq, ◌&&◌, codes, Bool, true, false, List, [], ◌∷◌, ◌++◌, map}
+use Rattle.std.specs.Prelude.{slice_get, Option, Some, None, option_map, option_and_then, if◌then◌else◌}
 use Rattle.std.specs.List.{list_any, list_all, filter}
-use Rattle.arm_value.specs.Json.{Json, null, int, text, array, object, Pairs, no_pairs, pair, Member, items, members, pairs, put, put_each}
+use Rattle.arm_value.specs.Json.{Json, null, int, text, array, object, Pairs, no_pairs, pair, Member, items, members}
+use Rattle.arm_value.specs.Json.{pairs, put, put_each}
 use Rattle.arm_value.specs.Look.{look_in, is_same_folded}
 use Rattle.arm_value.specs.Same.{is_same}
 use Rattle.function_numbers.specs.Kinds.{text_of, members_of, of_one}
@@ -79,7 +81,8 @@ is_member_of m _ = false
 
 -- the members that are equal in all these objects
 abbrev pub intersection_of_objects : List Member → List Json → Option Json
-intersection_of_objects ms others = if list_all is_object others then object_of (filter (λ m. list_all (is_member_of m) others) ms) else None
+intersection_of_objects ms others = if list_all is_object others
+    then object_of (filter (λ m. list_all (is_member_of m) others) ms) else None
 
 -- the intersection of a value and others: of arrays, or of objects
 abbrev pub intersection_with : Json → List Json → Option Json

@@ -1,5 +1,6 @@
 -- Items and members, listed and back, and what is left of a list of values.
-use Rattle.std.proofs.Common.{◌≡◌, ◌<◌, ◌≤◌, ◌+◌, ◌-◌, ℕ, suc, List, [], ◌∷◌, length, get_or, drop, take, map, refl, ap, sym, add-one, arith}
+use Rattle.std.proofs.Common.{◌≡◌, ◌<◌, ◌≤◌, ◌+◌, ◌-◌, ℕ, suc, List, [], ◌∷◌, length, get_or, drop, take, map, refl}
+use Rattle.std.proofs.Common.{ap, sym, add-one, arith}
 use Rattle.std.proofs.Math.Seq.{drop-cons}
 use Rattle.std.proofs.lemmas.List.{drop_all, take_all}
 use Rattle.arm_value.specs.Json.{Json, Member, row, pairs, items, members}
@@ -15,7 +16,8 @@ members_of_pairs [] = refl
 members_of_pairs (m ∷ ms) = ap (λ ns. m ∷ ns) (members_of_pairs ms)
 
 -- the next of what is left, and what is left behind it
-pub next_in : (vs : List Value) (i : ℕ) (v : Value) → i < length vs → v ≡ get_or vs i v → map json (drop i vs) ≡ json v ∷ map json (drop (i + 1) vs)
+pub next_in : (vs : List Value) (i : ℕ) (v : Value) → i < length vs → v ≡ get_or vs i v
+    → map json (drop i vs) ≡ json v ∷ map json (drop (i + 1) vs)
 next_in vs i v h e = rw (add-one, drop-cons vs i v h) (ap (λ (w : Value). json w ∷ map json (drop (suc i) vs)) (sym e))
 
 pub none_left : (vs : List Value) (i : ℕ) → length vs ≤ i → map json (drop i vs) ≡ []

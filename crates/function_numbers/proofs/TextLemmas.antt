@@ -1,5 +1,7 @@
 -- Characters and digits.
-use Rattle.std.proofs.Common.{◌≡◌, ℕ, suc, ◌+◌, ◌*◌, ◌-◌, ◌^◌, ◌<◌, ◌≤◌, Bool, true, false, Option, Some, None, option_and_then, nat_lt, List, [], ◌∷◌, ◌++◌, length, get_or, drop, IsUtf8, refl, ap, sym, ◌∙◌, arith, add-one}
+use Rattle.std.proofs.Common.{◌≡◌, ℕ, suc, ◌+◌, ◌*◌, ◌-◌, ◌^◌, ◌<◌, ◌≤◌, Bool, true, false, Option, Some, None}
+use Rattle.std.proofs.Common.{option_and_then, nat_lt, List, [], ◌∷◌, ◌++◌, length, get_or, drop, IsUtf8, refl, ap}
+use Rattle.std.proofs.Common.{sym, ◌∙◌, arith, add-one}
 use Rattle.std.specs.Str.{chars}
 use Rattle.std.specs.Prelude.{◌==◌, if◌then◌else◌}
 use Rattle.std.proofs.Math.Seq.{drop-cons}
@@ -52,23 +54,27 @@ not_small n e = fits_by (nat_lt n (2 ^ 64)) n refl e
 large : (n : ℕ) → 2 ^ 64 ≤ n → small n ≡ None
 large n h = let t : nat_lt n (2 ^ 64) ≡ false = grind (arith, nat_tests) in rw t refl
 
-too_big_by : (b : Bool) (m : ℕ) (cs : List ℕ) → option_and_then small (read_on m cs) ≡ None → option_and_then small (option_and_then (λ k. read_on k cs) (if b then Some m else None)) ≡ None
+too_big_by : (b : Bool) (m : ℕ) (cs : List ℕ) → option_and_then small (read_on m cs) ≡ None
+    → option_and_then small (option_and_then (λ k. read_on k cs) (if b then Some m else None)) ≡ None
 too_big_by true m cs h = h
 too_big_by false m cs h = refl
 
 too_big : (n : ℕ) (cs : List ℕ) → 2 ^ 64 ≤ n → option_and_then small (read_on n cs) ≡ None
 too_big n [] h = ap (option_and_then small) (read_on-nil n) ∙ large n h
-too_big n (c ∷ cs) h = ap (option_and_then small) (read_on-cons n c cs) ∙ too_big_by (is_digit c) (n * 10 + (c - 48)) cs (too_big (n * 10 + (c - 48)) cs (omega arith))
+too_big n (c ∷ cs) h = ap (option_and_then small) (read_on-cons n c cs)
+    ∙ too_big_by (is_digit c) (n * 10 + (c - 48)) cs (too_big (n * 10 + (c - 48)) cs (omega arith))
 
 small_stays : (o : Option ℕ) (m : ℕ) → Some m ≡ option_and_then small o → small m ≡ Some m
 small_stays None m e = absurd (cc)
 small_stays (Some k) m e = rw (small_is k m e) (sym e ∙ ap Some (small_is k m e))
 
-digit_by : (o : Option ℕ) (m : ℕ) (cs : List ℕ) → Some m ≡ option_and_then small o → option_and_then (λ k. read_on k cs) o ≡ read_on m cs
+digit_by : (o : Option ℕ) (m : ℕ) (cs : List ℕ) → Some m ≡ option_and_then small o
+    → option_and_then (λ k. read_on k cs) o ≡ read_on m cs
 digit_by None m cs e = absurd (cc)
 digit_by (Some k) m cs e = ap (λ x. read_on x cs) (sym (small_is k m e))
 
-no_digit_by : (o : Option ℕ) (cs : List ℕ) → None ≡ option_and_then small o → option_and_then small (option_and_then (λ k. read_on k cs) o) ≡ None
+no_digit_by : (o : Option ℕ) (cs : List ℕ) → None ≡ option_and_then small o
+    → option_and_then small (option_and_then (λ k. read_on k cs) o) ≡ None
 no_digit_by None cs e = refl
 no_digit_by (Some k) cs e = too_big k cs (not_small k e)
 
@@ -76,21 +82,33 @@ next_character : (cs : List ℕ) (i c : ℕ) → i < length cs → c ≡ get_or 
 next_character cs i c h e = rw (add-one, drop-cons cs i c h) (ap (λ x. x ∷ drop (suc i) cs) (sym e))
 
 -- one more digit
-pub read_more : (n m c : ℕ) (cs ys : List ℕ) (all : Option ℕ) → (length ys < length cs) × (c ≡ get_or cs (length ys) c) → Some m ≡ option_and_then small (with_digit n c) → (read_on n (drop (length ys) cs) ≡ all) × (small n ≡ Some n)
+pub read_more : (n m c : ℕ) (cs ys : List ℕ) (all : Option ℕ) → (length ys < length cs)
+    × (c ≡ get_or cs (length ys) c) → Some m ≡ option_and_then small (with_digit n c)
+    → (read_on n (drop (length ys) cs) ≡ all) × (small n ≡ Some n)
     → (read_on m (drop (length (ys ++ c ∷ [])) cs) ≡ all) × (small m ≡ Some m)
-read_more n m c cs ys all t d before =
-    (rw (length_push ys c) (sym (read_on-cons n c (drop (length ys + 1) cs) ∙ digit_by (with_digit n c) m (drop (length ys + 1) cs) d) ∙ ap (read_on n) (sym (next_character cs (length ys) c t.0 t.1)) ∙ before.0), small_stays (with_digit n c) m d)
+read_more n m c cs ys all t d before = (
+  rw (length_push ys c)
+      (sym (read_on-cons n c (drop (length ys + 1) cs) ∙ digit_by (with_digit n c) m (drop (length ys + 1) cs) d)
+      ∙ ap (read_on n) (sym (next_character cs (length ys) c t.0 t.1)) ∙ before.0),
+  small_stays (with_digit n c) m d,
+)
 
 -- no digit, or more than fits
-pub read_fails : (n c : ℕ) (cs ys : List ℕ) → (length cs == 0) ≡ false → (length ys < length cs) × (c ≡ get_or cs (length ys) c) → None ≡ option_and_then small (with_digit n c) → read_on n (drop (length ys) cs) ≡ read_on 0 cs
+pub read_fails : (n c : ℕ) (cs ys : List ℕ) → (length cs == 0) ≡ false → (length ys < length cs)
+    × (c ≡ get_or cs (length ys) c) → None ≡ option_and_then small (with_digit n c)
+    → read_on n (drop (length ys) cs) ≡ read_on 0 cs
     → None ≡ option_and_then small (numeral cs)
 read_fails n c cs ys some t d before =
-    sym (ap (option_and_then small) (is_numeral cs some ∙ sym before ∙ ap (read_on n) (next_character cs (length ys) c t.0 t.1) ∙ read_on-cons n c (drop (length ys + 1) cs))
+    sym (ap (option_and_then small) (is_numeral cs some ∙ sym before
+    ∙ ap (read_on n) (next_character cs (length ys) c t.0 t.1) ∙ read_on-cons n c (drop (length ys + 1) cs))
     ∙ no_digit_by (with_digit n c) (drop (length ys + 1) cs) d)
 
-pub read_ends : (n : ℕ) (cs ys : List ℕ) → (length cs == 0) ≡ false → length ys ≡ length cs → (read_on n (drop (length ys) cs) ≡ read_on 0 cs) × (small n ≡ Some n) → Some n ≡ option_and_then small (numeral cs)
+pub read_ends : (n : ℕ) (cs ys : List ℕ) → (length cs == 0) ≡ false → length ys ≡ length cs
+    → (read_on n (drop (length ys) cs) ≡ read_on 0 cs) × (small n ≡ Some n)
+    → Some n ≡ option_and_then small (numeral cs)
 read_ends n cs ys some l before =
-    sym (ap (option_and_then small) (is_numeral cs some ∙ sym before.0 ∙ ap (read_on n) (drop_all (length ys) cs (omega arith)) ∙ read_on-nil n) ∙ before.1)
+    sym (ap (option_and_then small) (is_numeral cs some ∙ sym before.0
+    ∙ ap (read_on n) (drop_all (length ys) cs (omega arith)) ∙ read_on-nil n) ∙ before.1)
 
 pub is_behind_minus : (cs rest : List ℕ) (c : ℕ) → cs ≡ c ∷ rest → c ≡ 45 → Some rest ≡ behind_minus cs
 is_behind_minus cs rest c e m = let t : (c == 45) ≡ true = grind (arith, nat_tests) in rw (e, t) refl

@@ -12,7 +12,9 @@ both_ways false false f g = refl
 
 -- a test that holds where two texts are equal folded
 pub is_folded : (r : Bool) (s t : List ℕ) → IsTrue r ↔ (fold s ≡ fold t) → r ≡ is_same_folded s t
-is_folded r s t h = both_ways r _ (λ e. (bytes_eq-Decides (fold s) (fold t)).1 (h.0 e)) (λ e. h.1 ((bytes_eq-Decides (fold s) (fold t)).0 e))
+is_folded r s t h =
+    both_ways r _ (λ e. (bytes_eq-Decides (fold s) (fold t)).1 (h.0 e))
+    (λ e. h.1 ((bytes_eq-Decides (fold s) (fold t)).0 e))
 
 pub chars_true : chars (codes "true") ≡ codes "true"
 unfolding chars

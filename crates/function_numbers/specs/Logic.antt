@@ -1,5 +1,6 @@
 -- The functions on truth values and comparisons (Microsoft Learn: ARM template functions, logical and comparison).
-use Rattle.std.specs.Prelude.{ℕ, ℤ, pos, Bool, true, false, codes, List, [], ◌∷◌, Option, Some, None, option_map, option_and_then, if◌then◌else◌}
+use Rattle.std.specs.Prelude.{ℕ, ℤ, pos, Bool, true, false, codes, List, [], ◌∷◌, Option, Some, None, option_map}
+use Rattle.std.specs.Prelude.{option_and_then, if◌then◌else◌}
 use Rattle.std.specs.Prelude as prelude
 use Rattle.std.specs.declared.cmp.Ordering.{Ordering}
 use Rattle.std.specs.Ordering.{int_cmp, is_lt, is_le, is_gt, is_ge}
@@ -26,7 +27,8 @@ always_null args = of_none null args
 
 -- the truth value that a text names, whatever the case of its letters
 abbrev pub truth_named : List ℕ → Option Bool
-truth_named s = if is_same_folded s (codes "true") then Some true else if is_same_folded s (codes "false") then Some false else None
+truth_named s = if is_same_folded s (codes "true") then Some true else if is_same_folded s (codes "false")
+    then Some false else None
 
 -- a truth value, a number that is not 0, or the name of a truth value
 abbrev pub truth : Json → Option Bool

@@ -1,5 +1,8 @@
 -- Format texts, character by character.
-use Rattle.std.proofs.Common.{◌≡◌, ◌<◌, ◌≤◌, ◌+◌, ◌*◌, ◌-◌, ℕ, zero, suc, Bool, true, false, eqb, nat_lt, ◌==◌, List, [], ◌∷◌, ◌++◌, length, get_or, take, drop, map, slice_get, Option, Some, None, option_map, option_and_then, refl, ap, sym, ◌∙◌, append_assoc, append-nil, arith, add-one, length-drop}
+use Rattle.std.proofs.Common.{◌≡◌, ◌<◌, ◌≤◌, ◌+◌, ◌*◌, ◌-◌, ℕ, zero, suc, Bool, true, false, eqb, nat_lt, ◌==◌, List}
+use Rattle.std.proofs.Common.{[], ◌∷◌, ◌++◌, length, get_or, take, drop, map, slice_get, Option, Some, None}
+use Rattle.std.proofs.Common.{option_map, option_and_then, refl, ap, sym, ◌∙◌, append_assoc, append-nil, arith}
+use Rattle.std.proofs.Common.{add-one, length-drop}
 use Rattle.std.specs.Prelude.{if◌then◌else◌}
 use Rattle.std.proofs.Math.Seq.{drop-cons}
 use Rattle.std.proofs.lemmas.List.{drop_all}
@@ -11,7 +14,8 @@ use Rattle.arm_value.specs.Json.{Json}
 use Rattle.arm_value.specs.View.{json}
 use Rattle.arm_value.specs.declared.value.Value.{Value}
 use Rattle.function_prints.specs.Printed.{printed}
-use Rattle.function_prints.specs.Format.{Field, before_closing, argument, argument_field, is_brace, field, filled_behind, filled}
+use Rattle.function_prints.specs.Format.{Field, before_closing, argument, argument_field, is_brace, field}
+use Rattle.function_prints.specs.Format.{filled_behind, filled}
 use Rattle.function_prints.specs.Filling.{below, number_before_closing, put_behind, ending, filled_after, filled_on}
 
 -- ---- the number of a field
@@ -24,7 +28,8 @@ pub closing-here : (cs : List ℕ) → before_closing (125 ∷ cs) ≡ Some []
 unfolding before_closing
 closing-here cs = refl
 
-pub closing-more : (c : ℕ) (cs : List ℕ) → eqb c 125 ≡ false → before_closing (c ∷ cs) ≡ option_map (λ s. c ∷ s) (before_closing cs)
+pub closing-more : (c : ℕ) (cs : List ℕ) → eqb c 125 ≡ false
+    → before_closing (c ∷ cs) ≡ option_map (λ s. c ∷ s) (before_closing cs)
 unfolding before_closing
 closing-more c cs e = rw e refl
 
@@ -47,7 +52,8 @@ read-grows : (n m : ℕ) (cs : List ℕ) → read_on n cs ≡ Some m → n ≤ m
 read-grows n m [] e = let is : n ≡ m = cc (read-nil n) in omega arith
 read-grows n m (c ∷ cs) e = by_digit (with_digit n c) refl (λ k. read-grows k m cs) (sym (read-more n c cs) ∙ e)
   where
-    by_digit : (o : Option ℕ) → with_digit n c ≡ o → ((k : ℕ) → read_on k cs ≡ Some m → k ≤ m) → option_and_then (λ k. read_on k cs) o ≡ Some m → n ≤ m
+    by_digit : (o : Option ℕ) → with_digit n c ≡ o → ((k : ℕ) → read_on k cs ≡ Some m → k ≤ m)
+        → option_and_then (λ k. read_on k cs) o ≡ Some m → n ≤ m
     by_digit None d h f = absurd (cc)
     by_digit (Some k) d h f = omega (arith, with_digit-grows n c k d, h k f)
 
@@ -67,23 +73,32 @@ too_great bound n cs h = by_number (read_on n cs) refl
 
 -- what the digits behind a number that is read so far give
 abbrev number_of : ℕ → ℕ → ℕ → List ℕ → Option (ℕ × ℕ)
-number_of bound i n digits = if i + length digits == 0 then None else option_map (λ m. (m, i + length digits)) (option_and_then (below bound) (read_on n digits))
+number_of bound i n digits = if i + length digits == 0 then None
+    else option_map (λ m. (m, i + length digits)) (option_and_then (below bound) (read_on n digits))
 
 abbrev pub numbered_from : ℕ → ℕ → ℕ → List ℕ → Option (ℕ × ℕ)
 numbered_from bound i n cs = option_and_then (number_of bound i n) (before_closing cs)
 
 number_of-all : (bound k : ℕ) (digits : List ℕ) → k ≡ length digits
-    → (if k == 0 then None else option_map (λ m. (m, k)) (option_and_then (below bound) (read_on 0 digits))) ≡ option_map {U = ℕ × ℕ} (λ n. (n, length digits)) (option_and_then (below bound) (numeral digits))
+    → (if k == 0 then None else option_map (λ m. (m, k)) (option_and_then (below bound) (read_on 0 digits)))
+    ≡ option_map {U = ℕ × ℕ} (λ n. (n, length digits)) (option_and_then (below bound) (numeral digits))
 number_of-all bound k digits e = rw e (by_length (length digits == 0))
   where
-    by_length : (b : Bool) → (if b then None else option_map (λ m. (m, length digits)) (option_and_then (below bound) (read_on 0 digits))) ≡ option_map {U = ℕ × ℕ} (λ n. (n, length digits)) (option_and_then (below bound) (if b then None else read_on 0 digits))
+    by_length : (b : Bool)
+        → (if b then None
+        else option_map (λ m. (m, length digits)) (option_and_then (below bound) (read_on 0 digits)))
+        ≡ option_map {U = ℕ × ℕ} (λ n. (n, length digits))
+        (option_and_then (below bound) (if b then None else read_on 0 digits))
     by_length true = refl
     by_length false = refl
 
 pub numbered-all : (bound : ℕ) (cs : List ℕ) → numbered_from bound 0 0 cs ≡ number_before_closing bound cs
 numbered-all bound cs = by_digits (before_closing cs)
   where
-    by_digits : (o : Option (List ℕ)) → option_and_then (number_of bound 0 0) o ≡ option_and_then (λ digits. option_map {U = ℕ × ℕ} (λ n. (n, length digits)) (option_and_then (below bound) (numeral digits))) o
+    by_digits : (o : Option (List ℕ))
+        → option_and_then (number_of bound 0 0) o ≡ option_and_then
+        (λ digits. option_map {U = ℕ × ℕ} (λ n. (n, length digits)) (option_and_then (below bound) (numeral digits)))
+        o
     by_digits None = refl
     by_digits (Some digits) = number_of-all bound (0 + length digits) digits (omega arith)
 
@@ -91,7 +106,8 @@ numbered-all bound cs = by_digits (before_closing cs)
 next_left : (cs : List ℕ) (i c : ℕ) → i < length cs → c ≡ get_or cs i c → drop i cs ≡ c ∷ drop (i + 1) cs
 next_left cs i c h e = rw (add-one, drop-cons cs i c h) (ap (λ x. x ∷ drop (suc i) cs) (sym e))
 
-pub number_closes : (bound i n c : ℕ) (cs : List ℕ) (all : Option (ℕ × ℕ)) → i < length cs → c ≡ get_or cs i c → c ≡ 125 → 0 < i → n < bound
+pub number_closes : (bound i n c : ℕ) (cs : List ℕ) (all : Option (ℕ × ℕ)) → i < length cs → c ≡ get_or cs i c
+    → c ≡ 125 → 0 < i → n < bound
     → numbered_from bound i n (drop i cs) ≡ all → Some (n, i) ≡ all
 number_closes bound i n c cs all h e is p w before =
     let left : drop i cs ≡ 125 ∷ drop (i + 1) cs = next_left cs i c h e ∙ ap (λ x. x ∷ drop (i + 1) cs) is in
@@ -99,7 +115,8 @@ number_closes bound i n c cs all h e is p w before =
     let same : i + 0 ≡ i = omega arith in
     sym (rw (left, closing-here, some, read-nil, below-some bound n w, same) refl) ∙ before
 
-pub number_is_empty : (bound i n c : ℕ) (cs : List ℕ) (all : Option (ℕ × ℕ)) → i < length cs → c ≡ get_or cs i c → c ≡ 125 → i ≤ 0
+pub number_is_empty : (bound i n c : ℕ) (cs : List ℕ) (all : Option (ℕ × ℕ)) → i < length cs → c ≡ get_or cs i c
+    → c ≡ 125 → i ≤ 0
     → numbered_from bound i n (drop i cs) ≡ all → None ≡ all
 number_is_empty bound i n c cs all h e is p before =
     let left : drop i cs ≡ 125 ∷ drop (i + 1) cs = next_left cs i c h e ∙ ap (λ x. x ∷ drop (i + 1) cs) is in
@@ -107,7 +124,8 @@ number_is_empty bound i n c cs all h e is p before =
     sym (rw (left, closing-here, none) refl) ∙ before
 
 step_by : (bound i n c : ℕ) (o : Option (List ℕ)) (w : Option ℕ) → with_digit n c ≡ w
-    → option_and_then (number_of bound i n) (option_map (λ s. c ∷ s) o) ≡ option_and_then (λ k. option_and_then (number_of bound (i + 1) k) o) w
+    → option_and_then (number_of bound i n) (option_map (λ s. c ∷ s) o) ≡ option_and_then
+    (λ k. option_and_then (number_of bound (i + 1) k) o) w
 step_by bound i n c None None e = refl
 step_by bound i n c None (Some k) e = refl
 step_by bound i n c (Some ds) None e =
@@ -120,14 +138,18 @@ step_by bound i n c (Some ds) (Some k) e =
     rw (some, read-more, e, more, same) refl
 
 -- the number with the next character
-number_step : (bound i n c : ℕ) (cs : List ℕ) → eqb c 125 ≡ false → numbered_from bound i n (c ∷ cs) ≡ option_and_then (λ k. numbered_from bound (i + 1) k cs) (with_digit n c)
-number_step bound i n c cs e = ap (option_and_then (number_of bound i n)) (closing-more c cs e) ∙ step_by bound i n c (before_closing cs) (with_digit n c) refl
+number_step : (bound i n c : ℕ) (cs : List ℕ) → eqb c 125 ≡ false
+    → numbered_from bound i n (c ∷ cs) ≡ option_and_then (λ k. numbered_from bound (i + 1) k cs) (with_digit n c)
+number_step bound i n c cs e = ap (option_and_then (number_of bound i n)) (closing-more c cs e)
+    ∙ step_by bound i n c (before_closing cs) (with_digit n c) refl
 
-goes_on_by : (bound i m : ℕ) (cs : List ℕ) (w : Option ℕ) → Some m ≡ option_and_then (below bound) w → option_and_then (λ k. numbered_from bound i k cs) w ≡ numbered_from bound i m cs
+goes_on_by : (bound i m : ℕ) (cs : List ℕ) (w : Option ℕ) → Some m ≡ option_and_then (below bound) w
+    → option_and_then (λ k. numbered_from bound i k cs) w ≡ numbered_from bound i m cs
 goes_on_by bound i m cs None e = absurd (cc)
 goes_on_by bound i m cs (Some k) e = by_test (nat_lt k bound) e
   where
-    by_test : (b : Bool) → ◌≡◌ {A = Option ℕ} (Some m) (if b then Some k else None) → numbered_from bound i k cs ≡ numbered_from bound i m cs
+    by_test : (b : Bool) → ◌≡◌ {A = Option ℕ} (Some m) (if b then Some k else None)
+        → numbered_from bound i k cs ≡ numbered_from bound i m cs
     by_test true f = let is : k ≡ m = cc in ap (λ x. numbered_from bound i x cs) is
     by_test false f = absurd (cc)
 
@@ -136,36 +158,45 @@ none_from bound i k cs h = by_digits (before_closing cs)
   where
     by_digits : (o : Option (List ℕ)) → option_and_then (number_of bound i k) o ≡ None
     by_digits None = refl
-    by_digits (Some ds) = ap (λ r. if i + length ds == 0 then None else option_map {U = ℕ × ℕ} (λ m. (m, i + length ds)) r) (too_great bound k ds h) ∙ by_length (i + length ds == 0)
+    by_digits (Some ds) =
+        ap (λ r. if i + length ds == 0 then None else option_map {U = ℕ × ℕ} (λ m. (m, i + length ds)) r)
+        (too_great bound k ds h) ∙ by_length (i + length ds == 0)
       where
         by_length : (b : Bool) → ◌≡◌ {A = Option (ℕ × ℕ)} (if b then None else None) None
         by_length true = refl
         by_length false = refl
 
-stops_by : (bound i : ℕ) (cs : List ℕ) (w : Option ℕ) → ◌≡◌ {A = Option ℕ} None (option_and_then (below bound) w) → option_and_then (λ k. numbered_from bound i k cs) w ≡ None
+stops_by : (bound i : ℕ) (cs : List ℕ) (w : Option ℕ) → ◌≡◌ {A = Option ℕ} None (option_and_then (below bound) w)
+    → option_and_then (λ k. numbered_from bound i k cs) w ≡ None
 stops_by bound i cs None e = refl
 stops_by bound i cs (Some k) e = by_test (nat_lt k bound) refl e
   where
-    by_test : (b : Bool) → nat_lt k bound ≡ b → ◌≡◌ {A = Option ℕ} None (if b then Some k else None) → numbered_from bound i k cs ≡ None
+    by_test : (b : Bool) → nat_lt k bound ≡ b → ◌≡◌ {A = Option ℕ} None (if b then Some k else None)
+        → numbered_from bound i k cs ≡ None
     by_test true t f = absurd (cc)
     by_test false t f = none_from bound i k cs (grind (arith, nat_tests))
 
 is_other : (c : ℕ) → (c ≡ 125 → ⊥) → eqb c 125 ≡ false
 is_other c n = grind (arith, nat_tests)
 
-pub number_goes_on : (bound i n m c : ℕ) (cs : List ℕ) (all : Option (ℕ × ℕ)) → i < length cs → c ≡ get_or cs i c → (c ≡ 125 → ⊥) → Some m ≡ option_and_then (below bound) (with_digit n c)
+pub number_goes_on : (bound i n m c : ℕ) (cs : List ℕ) (all : Option (ℕ × ℕ)) → i < length cs → c ≡ get_or cs i c
+    → (c ≡ 125 → ⊥) → Some m ≡ option_and_then (below bound) (with_digit n c)
     → numbered_from bound i n (drop i cs) ≡ all → numbered_from bound (i + 1) m (drop (i + 1) cs) ≡ all
 number_goes_on bound i n m c cs all h e is d before =
     let rest = drop (i + 1) cs in
-    sym (ap (numbered_from bound i n) (next_left cs i c h e) ∙ number_step bound i n c rest (is_other c is) ∙ goes_on_by bound (i + 1) m rest (with_digit n c) d) ∙ before
+    sym (ap (numbered_from bound i n) (next_left cs i c h e) ∙ number_step bound i n c rest (is_other c is)
+    ∙ goes_on_by bound (i + 1) m rest (with_digit n c) d) ∙ before
 
-pub number_stops : (bound i n c : ℕ) (cs : List ℕ) (all : Option (ℕ × ℕ)) → i < length cs → c ≡ get_or cs i c → (c ≡ 125 → ⊥) → ◌≡◌ {A = Option ℕ} None (option_and_then (below bound) (with_digit n c))
+pub number_stops : (bound i n c : ℕ) (cs : List ℕ) (all : Option (ℕ × ℕ)) → i < length cs → c ≡ get_or cs i c
+    → (c ≡ 125 → ⊥) → ◌≡◌ {A = Option ℕ} None (option_and_then (below bound) (with_digit n c))
     → numbered_from bound i n (drop i cs) ≡ all → ◌≡◌ {A = Option (ℕ × ℕ)} None all
 number_stops bound i n c cs all h e is d before =
     let rest = drop (i + 1) cs in
-    sym (ap (numbered_from bound i n) (next_left cs i c h e) ∙ number_step bound i n c rest (is_other c is) ∙ stops_by bound (i + 1) rest (with_digit n c) d) ∙ before
+    sym (ap (numbered_from bound i n) (next_left cs i c h e) ∙ number_step bound i n c rest (is_other c is)
+    ∙ stops_by bound (i + 1) rest (with_digit n c) d) ∙ before
 
-pub number_ends : (bound i n : ℕ) (cs : List ℕ) (all : Option (ℕ × ℕ)) → length cs ≤ i → numbered_from bound i n (drop i cs) ≡ all → ◌≡◌ {A = Option (ℕ × ℕ)} None all
+pub number_ends : (bound i n : ℕ) (cs : List ℕ) (all : Option (ℕ × ℕ)) → length cs ≤ i
+    → numbered_from bound i n (drop i cs) ≡ all → ◌≡◌ {A = Option (ℕ × ℕ)} None all
 number_ends bound i n cs all h before =
     let left : drop i cs ≡ [] = drop_all i cs h in
     sym (rw (left, closing-nil) refl) ∙ before
@@ -181,16 +212,20 @@ is_below bound m (Some n) e = by_test (nat_lt n bound) refl e
 -- ---- the argument of a field
 
 -- the argument at a number below their count, as a tree
-argument_at : (vs : List Value) (n : ℕ) (v : Value) → n < length vs → v ≡ get_or vs n v → slice_get (map json vs) n ≡ Some (json v)
+argument_at : (vs : List Value) (n : ℕ) (v : Value) → n < length vs → v ≡ get_or vs n v
+    → slice_get (map json vs) n ≡ Some (json v)
 argument_at vs n v h e = slice_get-map json vs n ∙ ap (option_map json) (slice_get_read vs (length vs) n v refl h e)
 
-field_by : (js : List Json) (digits : List ℕ) (n k : ℕ) (w : Option ℕ) → Some (n, k) ≡ option_map {U = ℕ × ℕ} (λ m. (m, length digits)) (option_and_then (below (length js)) w)
-    → option_map {U = Field} (λ j. (printed j, suc (length digits))) (option_and_then (slice_get js) w) ≡ option_map {U = Field} (λ j. (printed j, k + 1)) (slice_get js n)
+field_by : (js : List Json) (digits : List ℕ) (n k : ℕ) (w : Option ℕ)
+    → Some (n, k) ≡ option_map {U = ℕ × ℕ} (λ m. (m, length digits)) (option_and_then (below (length js)) w)
+    → option_map {U = Field} (λ j. (printed j, suc (length digits))) (option_and_then (slice_get js) w)
+    ≡ option_map {U = Field} (λ j. (printed j, k + 1)) (slice_get js n)
 field_by js digits n k None e = absurd (cc)
 field_by js digits n k (Some m) e = by_test (nat_lt m (length js)) e
   where
     by_test : (b : Bool) → Some (n, k) ≡ option_map {U = ℕ × ℕ} (λ m. (m, length digits)) (if b then Some m else None)
-        → option_map {U = Field} (λ j. (printed j, suc (length digits))) (slice_get js m) ≡ option_map {U = Field} (λ j. (printed j, k + 1)) (slice_get js n)
+        → option_map {U = Field} (λ j. (printed j, suc (length digits))) (slice_get js m) ≡ option_map {U = Field}
+        (λ j. (printed j, k + 1)) (slice_get js n)
     by_test true f =
         let same : (n, k) ≡ (m, length digits) = cc in
         let number : m ≡ n = ap (λ (p : ℕ × ℕ). p.0) (sym same) in
@@ -198,33 +233,51 @@ field_by js digits n k (Some m) e = by_test (nat_lt m (length js)) e
         rw (number, count) refl
     by_test false f = absurd (cc)
 
-field_is : (js : List Json) (cs : List ℕ) (n k : ℕ) (o : Option (List ℕ)) → Some (n, k) ≡ option_and_then (λ digits. option_map {U = ℕ × ℕ} (λ m. (m, length digits)) (option_and_then (below (length js)) (numeral digits))) o
-    → option_and_then (λ digits. option_map {U = Field} (λ j. (printed j, suc (length digits))) (argument js digits)) o ≡ option_map {U = Field} (λ j. (printed j, k + 1)) (slice_get js n)
+field_is : (js : List Json) (cs : List ℕ) (n k : ℕ) (o : Option (List ℕ))
+    → Some (n, k) ≡ option_and_then
+    (λ digits. option_map {U = ℕ × ℕ} (λ m. (m, length digits))
+    (option_and_then (below (length js)) (numeral digits))) o
+    → option_and_then (λ digits. option_map {U = Field} (λ j. (printed j, suc (length digits))) (argument js digits))
+    o ≡ option_map {U = Field} (λ j. (printed j, k + 1)) (slice_get js n)
 field_is js cs n k None e = absurd (cc)
 field_is js cs n k (Some digits) e = field_by js digits n k (numeral digits) e
 
-pub puts_argument : (vs : List Value) (cs old new s : List ℕ) (n k : ℕ) (v : Value) → Some (n, k) ≡ number_before_closing (length vs) cs → n < length vs → v ≡ get_or vs n v → s ≡ printed (json v) → new ≡ old ++ s
+pub puts_argument : (vs : List Value) (cs old new s : List ℕ) (n k : ℕ) (v : Value)
+    → Some (n, k) ≡ number_before_closing (length vs) cs → n < length vs → v ≡ get_or vs n v → s ≡ printed (json v)
+    → new ≡ old ++ s
     → ending new (Some (k + 1)) ≡ put_behind old (argument_field (map json vs) cs)
 puts_argument vs cs old new s n k v e h at is grown =
     let count : length (map json vs) ≡ length vs = length-map vs json in
     let read : Some (n, k) ≡ number_before_closing (length (map json vs)) cs = rw count e in
-    let here : argument_field (map json vs) cs ≡ option_map {U = Field} (λ j. (printed j, k + 1)) (slice_get (map json vs) n) = field_is (map json vs) cs n k (before_closing cs) read in
+    let here : argument_field (map json vs) cs ≡ option_map {U = Field} (λ j. (printed j, k + 1))
+    (slice_get (map json vs) n) = field_is (map json vs) cs n k (before_closing cs) read in
     rw (here, argument_at vs n v h at, grown, is) refl
 
-none_by : (js : List Json) (digits : List ℕ) (w : Option ℕ) → ◌≡◌ {A = Option (ℕ × ℕ)} None (option_map (λ m. (m, length digits)) (option_and_then (below (length js)) w)) → option_map {U = Field} (λ j. (printed j, suc (length digits))) (option_and_then (slice_get js) w) ≡ None
+none_by : (js : List Json) (digits : List ℕ) (w : Option ℕ)
+    → ◌≡◌ {A = Option (ℕ × ℕ)} None (option_map (λ m. (m, length digits)) (option_and_then (below (length js)) w))
+    → option_map {U = Field} (λ j. (printed j, suc (length digits))) (option_and_then (slice_get js) w) ≡ None
 none_by js digits None e = refl
 none_by js digits (Some m) e = by_test (nat_lt m (length js)) refl e
   where
-    by_test : (b : Bool) → nat_lt m (length js) ≡ b → ◌≡◌ {A = Option (ℕ × ℕ)} None (option_map (λ m. (m, length digits)) (if b then Some m else None)) → option_map {U = Field} (λ j. (printed j, suc (length digits))) (slice_get js m) ≡ None
+    by_test : (b : Bool) → nat_lt m (length js) ≡ b
+        → ◌≡◌ {A = Option (ℕ × ℕ)} None (option_map (λ m. (m, length digits)) (if b then Some m else None))
+        → option_map {U = Field} (λ j. (printed j, suc (length digits))) (slice_get js m) ≡ None
     by_test true t f = absurd (cc)
-    by_test false t f = let past : slice_get js m ≡ None = slice_get_past js m (grind (arith, nat_tests)) in rw past refl
+    by_test false t f = let past : slice_get js m ≡ None = slice_get_past js m (grind (arith, nat_tests)) in
+        rw past refl
 
-none_is : (js : List Json) (o : Option (List ℕ)) → ◌≡◌ {A = Option (ℕ × ℕ)} None (option_and_then (λ digits. option_map (λ m. (m, length digits)) (option_and_then (below (length js)) (numeral digits))) o)
-    → option_and_then (λ digits. option_map {U = Field} (λ j. (printed j, suc (length digits))) (argument js digits)) o ≡ None
+none_is : (js : List Json) (o : Option (List ℕ))
+    → ◌≡◌ {A = Option (ℕ × ℕ)} None
+    (option_and_then
+    (λ digits. option_map (λ m. (m, length digits)) (option_and_then (below (length js)) (numeral digits))) o)
+    → option_and_then (λ digits. option_map {U = Field} (λ j. (printed j, suc (length digits))) (argument js digits))
+    o ≡ None
 none_is js None e = refl
 none_is js (Some digits) e = none_by js digits (numeral digits) e
 
-pub no_argument : (vs : List Value) (cs old new : List ℕ) → ◌≡◌ {A = Option (ℕ × ℕ)} None (number_before_closing (length vs) cs) → ending new None ≡ put_behind old (argument_field (map json vs) cs)
+pub no_argument : (vs : List Value) (cs old new : List ℕ)
+    → ◌≡◌ {A = Option (ℕ × ℕ)} None (number_before_closing (length vs) cs)
+    → ending new None ≡ put_behind old (argument_field (map json vs) cs)
 no_argument vs cs old new e =
     let count : length (map json vs) ≡ length vs = length-map vs json in
     let read : ◌≡◌ {A = Option (ℕ × ℕ)} None (number_before_closing (length (map json vs)) cs) = rw count e in
@@ -242,11 +295,14 @@ unfolding filled_behind
 filled-taken js n c cs = refl
 
 pub filled-here : (js : List Json) (c : ℕ) (cs : List ℕ)
-    → filled_behind js 0 (c ∷ cs) ≡ (if is_brace c then option_and_then (λ f. option_map (λ rest. f.0 ++ rest) (filled_behind js f.1 cs)) (field js c cs) else option_map (λ rest. c ∷ rest) (filled_behind js 0 cs))
+    → filled_behind js 0 (c ∷ cs)
+    ≡ (if is_brace c then option_and_then (λ f. option_map (λ rest. f.0 ++ rest) (filled_behind js f.1 cs))
+    (field js c cs) else option_map (λ rest. c ∷ rest) (filled_behind js 0 cs))
 unfolding filled_behind
 filled-here js c cs = refl
 
-pub fill_takes : (js : List Json) (out rest : List ℕ) (k : ℕ) → 0 < length rest → 0 < k → filled_after out js (k - 1) (drop 1 rest) ≡ filled_after out js k rest
+pub fill_takes : (js : List Json) (out rest : List ℕ) (k : ℕ) → 0 < length rest → 0 < k
+    → filled_after out js (k - 1) (drop 1 rest) ≡ filled_after out js k rest
 fill_takes js out [] k h p = absurd (omega arith)
 fill_takes js out (c ∷ cs) zero h p = absurd (omega arith)
 fill_takes js out (c ∷ cs) (suc k) h p =
@@ -254,23 +310,31 @@ fill_takes js out (c ∷ cs) (suc k) h p =
     ap (λ m. filled_after out js m cs) n ∙ ap (option_map (λ s. out ++ s)) (sym (filled-taken js k c cs))
 
 -- one text behind another, before what is filled behind both
-two_fronts : (front s : List ℕ) (o : Option (List ℕ)) → option_map (λ rest. (front ++ s) ++ rest) o ≡ option_map (λ rest. front ++ rest) (option_map (λ rest. s ++ rest) o)
+two_fronts : (front s : List ℕ) (o : Option (List ℕ))
+    → option_map (λ rest. (front ++ s) ++ rest) o ≡ option_map (λ rest. front ++ rest)
+    (option_map (λ rest. s ++ rest) o)
 two_fronts front s None = refl
 two_fronts front s (Some rest) = ap Some (append_assoc front s rest)
 
-character_front : (front : List ℕ) (c : ℕ) (o : Option (List ℕ)) → option_map (λ rest. (front ++ c ∷ []) ++ rest) o ≡ option_map (λ rest. front ++ rest) (option_map (λ rest. c ∷ rest) o)
+character_front : (front : List ℕ) (c : ℕ) (o : Option (List ℕ))
+    → option_map (λ rest. (front ++ c ∷ []) ++ rest) o ≡ option_map (λ rest. front ++ rest)
+    (option_map (λ rest. c ∷ rest) o)
 character_front front c None = refl
 character_front front c (Some rest) = ap Some (append_assoc front (c ∷ []) rest)
 
-pub fill_keeps : (js : List Json) (out more rest : List ℕ) (c k : ℕ) → 0 < length rest → k ≤ 0 → c ≡ get_or rest 0 c → false ≡ is_brace c → more ≡ out ++ c ∷ []
+pub fill_keeps : (js : List Json) (out more rest : List ℕ) (c k : ℕ) → 0 < length rest → k ≤ 0 → c ≡ get_or rest 0 c
+    → false ≡ is_brace c → more ≡ out ++ c ∷ []
     → filled_after more js 0 (drop 1 rest) ≡ filled_after out js k rest
 fill_keeps js out more [] c k h z e is grown = absurd (omega arith)
 fill_keeps js out more (d ∷ cs) c k h z e is grown =
     let none_taken : k ≡ 0 = omega arith in
-    rw (grown, none_taken, ← e) (character_front out c (filled_behind js 0 cs) ∙ ap (option_map (λ s. out ++ s)) (sym (filled-here js c cs ∙ rw (sym is) refl)))
+    rw (grown, none_taken, ← e) (character_front out c (filled_behind js 0 cs)
+    ∙ ap (option_map (λ s. out ++ s)) (sym (filled-here js c cs ∙ rw (sym is) refl)))
 
-by_field : (js : List Json) (out more cs : List ℕ) (next : Option ℕ) (o : Option Field) → ending more next ≡ put_behind out o
-    → option_and_then (λ n. filled_after more js n cs) next ≡ option_map (λ s. out ++ s) (option_and_then (λ f. option_map (λ rest. f.0 ++ rest) (filled_behind js f.1 cs)) o)
+by_field : (js : List Json) (out more cs : List ℕ) (next : Option ℕ) (o : Option Field)
+    → ending more next ≡ put_behind out o
+    → option_and_then (λ n. filled_after more js n cs) next ≡ option_map (λ s. out ++ s)
+    (option_and_then (λ f. option_map (λ rest. f.0 ++ rest) (filled_behind js f.1 cs)) o)
 by_field js out more cs None None e = refl
 by_field js out more cs (Some n) None e = absurd (cc)
 by_field js out more cs None (Some f) e = absurd (cc)
@@ -280,34 +344,48 @@ by_field js out more cs (Some n) (Some f) e =
     let count : n ≡ f.1 = ap (λ (p : Field). p.1) same in
     rw (grown, count) (two_fronts out f.0 (filled_behind js f.1 cs))
 
-pub fill_puts : (js : List Json) (out more rest behind : List ℕ) (c k : ℕ) (next : Option ℕ) → 0 < length rest → k ≤ 0 → c ≡ get_or rest 0 c → true ≡ is_brace c → behind ≡ drop 1 rest → ending more next ≡ put_behind out (field js c behind)
+pub fill_puts : (js : List Json) (out more rest behind : List ℕ) (c k : ℕ) (next : Option ℕ) → 0 < length rest → k ≤ 0
+    → c ≡ get_or rest 0 c → true ≡ is_brace c → behind ≡ drop 1 rest
+    → ending more next ≡ put_behind out (field js c behind)
     → option_and_then (λ n. filled_after more js n (drop 1 rest)) next ≡ filled_after out js k rest
 fill_puts js out more [] behind c k next h z e is r f = absurd (omega arith)
 fill_puts js out more (d ∷ cs) behind c k next h z e is r f =
     let none_taken : k ≡ 0 = omega arith in
     let read : ending more next ≡ put_behind out (field js c cs) = rw r at f in
-    rw (none_taken, ← e) (by_field js out more cs next (field js c cs) read ∙ ap (option_map (λ s. out ++ s)) (sym (filled-here js c cs ∙ rw (sym is) refl)))
+    rw (none_taken, ← e) (by_field js out more cs next (field js c cs) read
+    ∙ ap (option_map (λ s. out ++ s)) (sym (filled-here js c cs ∙ rw (sym is) refl)))
 
 -- the rest from a place on, as a slice
 pub whole_rest : (cs : List ℕ) (i : ℕ) → take (length cs - i) (drop i cs) ≡ drop i cs
 whole_rest cs i = take_all (length cs - i) (drop i cs) (omega (arith, length-drop i cs))
 
-pub filled_more : (js : List Json) (out more cs : List ℕ) (i k n : ℕ) (next : Option ℕ) (all : Option (List ℕ)) → i < length cs → next ≡ Some n
-    → filled_on more js next (drop 1 (take (length cs - i) (drop i cs))) ≡ filled_after out js k (take (length cs - i) (drop i cs)) → filled_after out js k (drop i cs) ≡ all → filled_after more js n (drop (i + 1) cs) ≡ all
+pub filled_more : (js : List Json) (out more cs : List ℕ) (i k n : ℕ) (next : Option ℕ) (all : Option (List ℕ))
+    → i < length cs → next ≡ Some n
+    → filled_on more js next (drop 1 (take (length cs - i) (drop i cs))) ≡ filled_after out js k
+    (take (length cs - i) (drop i cs)) → filled_after out js k (drop i cs) ≡ all
+    → filled_after more js n (drop (i + 1) cs) ≡ all
 filled_more js out more cs i k n next all h is step before =
     let one_more : drop 1 (drop i cs) ≡ drop (i + 1) cs = ap (drop 1) (drop-cons cs i 0 h) ∙ rw add-one refl in
-    ap (filled_after more js n) (sym (ap (drop 1) (whole_rest cs i) ∙ one_more)) ∙ ap (λ o. filled_on more js o (drop 1 (take (length cs - i) (drop i cs)))) (sym is) ∙ step ∙ ap (filled_after out js k) (whole_rest cs i) ∙ before
+    ap (filled_after more js n) (sym (ap (drop 1) (whole_rest cs i) ∙ one_more))
+    ∙ ap (λ o. filled_on more js o (drop 1 (take (length cs - i) (drop i cs)))) (sym is) ∙ step
+    ∙ ap (filled_after out js k) (whole_rest cs i) ∙ before
 
-pub filled_fails : (js : List Json) (out more cs : List ℕ) (i k : ℕ) (next : Option ℕ) (all : Option (List ℕ)) → next ≡ None
-    → filled_on more js next (drop 1 (take (length cs - i) (drop i cs))) ≡ filled_after out js k (take (length cs - i) (drop i cs)) → filled_after out js k (drop i cs) ≡ all → ◌≡◌ {A = Option (List ℕ)} None all
+pub filled_fails : (js : List Json) (out more cs : List ℕ) (i k : ℕ) (next : Option ℕ) (all : Option (List ℕ))
+    → next ≡ None
+    → filled_on more js next (drop 1 (take (length cs - i) (drop i cs))) ≡ filled_after out js k
+    (take (length cs - i) (drop i cs)) → filled_after out js k (drop i cs) ≡ all
+    → ◌≡◌ {A = Option (List ℕ)} None all
 filled_fails js out more cs i k next all is step before =
-    ap (λ o. filled_on more js o (drop 1 (take (length cs - i) (drop i cs)))) (sym is) ∙ step ∙ ap (filled_after out js k) (whole_rest cs i) ∙ before
+    ap (λ o. filled_on more js o (drop 1 (take (length cs - i) (drop i cs)))) (sym is) ∙ step
+    ∙ ap (filled_after out js k) (whole_rest cs i) ∙ before
 
 pub some_rest : (cs : List ℕ) (i : ℕ) → i < length cs → 0 < length (take (length cs - i) (drop i cs))
 some_rest cs i h = omega (arith, ap length (whole_rest cs i ∙ drop-cons cs i 0 h))
 
-pub filled_ends : (js : List Json) (out cs : List ℕ) (i k : ℕ) (all : Option (List ℕ)) → length cs ≤ i → filled_after out js k (drop i cs) ≡ all → Some out ≡ all
-filled_ends js out cs i k all h before = ap Some (sym (append-nil out)) ∙ sym (ap (option_map (λ s. out ++ s)) (ap (filled_behind js k) (drop_all i cs h) ∙ filled-nil js k)) ∙ before
+pub filled_ends : (js : List Json) (out cs : List ℕ) (i k : ℕ) (all : Option (List ℕ)) → length cs ≤ i
+    → filled_after out js k (drop i cs) ≡ all → Some out ≡ all
+filled_ends js out cs i k all h before = ap Some (sym (append-nil out))
+    ∙ sym (ap (option_map (λ s. out ++ s)) (ap (filled_behind js k) (drop_all i cs h) ∙ filled-nil js k)) ∙ before
 
 pub filled_begins : (js : List Json) (out cs : List ℕ) → out ≡ [] → filled_after out js 0 cs ≡ filled js cs
 filled_begins js out cs e = rw e (by_rest (filled js cs))

@@ -1,5 +1,6 @@
 -- Format texts that are filled from the left: what was put, and what is still to come.
-use Rattle.std.specs.Prelude.{ℕ, nat_lt, List, ◌++◌, length, Option, Some, None, option_map, option_and_then, if◌then◌else◌}
+use Rattle.std.specs.Prelude.{ℕ, nat_lt, List, ◌++◌, length, Option, Some, None, option_map, option_and_then}
+use Rattle.std.specs.Prelude.{if◌then◌else◌}
 use Rattle.arm_value.specs.Json.{Json}
 use Rattle.function_numbers.specs.Numbers.{numeral}
 use Rattle.function_prints.specs.Format.{Field, before_closing, filled_behind}
@@ -9,7 +10,9 @@ below bound n = if nat_lt n bound then Some n else None
 
 -- the number below the bound that the digits before the first `}` spell, and how many these are
 abbrev pub number_before_closing : ℕ → List ℕ → Option (ℕ × ℕ)
-number_before_closing bound cs = option_and_then (λ digits. option_map (λ n. (n, length digits)) (option_and_then (below bound) (numeral digits))) (before_closing cs)
+number_before_closing bound cs =
+    option_and_then (λ digits. option_map (λ n. (n, length digits)) (option_and_then (below bound) (numeral digits)))
+    (before_closing cs)
 
 -- a field behind a text
 abbrev pub put_behind : List ℕ → Option Field → Option Field

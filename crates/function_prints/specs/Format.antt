@@ -1,5 +1,6 @@
 -- Format texts (Microsoft Learn: ARM template functions, string: `format`).
-use Rattle.std.specs.Prelude.{ℕ, zero, suc, ◌==◌, ◌||◌, Bool, List, [], ◌∷◌, ◌++◌, length, slice_get, Option, Some, None, option_map, option_and_then, if◌then◌else◌}
+use Rattle.std.specs.Prelude.{ℕ, zero, suc, ◌==◌, ◌||◌, Bool, List, [], ◌∷◌, ◌++◌, length, slice_get, Option, Some}
+use Rattle.std.specs.Prelude.{None, option_map, option_and_then, if◌then◌else◌}
 use Rattle.arm_value.specs.Json.{Json, text}
 use Rattle.function_numbers.specs.Kinds.{text_of}
 use Rattle.function_numbers.specs.Numbers.{numeral}
@@ -20,12 +21,15 @@ argument args digits = option_and_then (slice_get args) (numeral digits)
 
 -- behind a `{`: the printed form of the argument whose number stands before the first `}`
 abbrev pub argument_field : List Json → List ℕ → Option Field
-argument_field args cs = option_and_then (λ digits. option_map (λ j. (printed j, suc (length digits))) (argument args digits)) (before_closing cs)
+argument_field args cs =
+    option_and_then (λ digits. option_map (λ j. (printed j, suc (length digits))) (argument args digits))
+    (before_closing cs)
 
 -- behind a brace: one brace for two alike, or the printed form of an argument for its number in braces
 abbrev pub field : List Json → ℕ → List ℕ → Option Field
 field args brace [] = None
-field args brace (c ∷ cs) = if c == brace then Some (brace ∷ [], 1) else if brace == 123 then argument_field args (c ∷ cs) else None
+field args brace (c ∷ cs) = if c == brace then Some (brace ∷ [], 1) else if brace == 123
+    then argument_field args (c ∷ cs) else None
 
 abbrev pub is_brace : ℕ → Bool
 is_brace c = c == 123 || c == 125
@@ -35,7 +39,8 @@ unfoldable pub filled_behind : List Json → ℕ → List ℕ → Option (List �
 filled_behind args taken [] = Some []
 filled_behind args (suc n) (c ∷ cs) = filled_behind args n cs
 filled_behind args zero (c ∷ cs) =
-    if is_brace c then option_and_then (λ f. option_map (λ rest. f.0 ++ rest) (filled_behind args f.1 cs)) (field args c cs)
+    if is_brace c then option_and_then (λ f. option_map (λ rest. f.0 ++ rest) (filled_behind args f.1 cs))
+    (field args c cs)
     else option_map (λ rest. c ∷ rest) (filled_behind args 0 cs)
 
 -- the text with its fields filled; none where a brace begins no field

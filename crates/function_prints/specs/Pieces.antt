@@ -26,4 +26,5 @@ piece_value args (place digits) = option_map printed (argument args digits)
 -- what all of these become, one after another
 unfoldable pub pieces_value : List Json → List Piece → Option (List ℕ)
 pieces_value args [] = Some []
-pieces_value args (p ∷ ps) = option_and_then (λ s. option_map (λ rest. s ++ rest) (pieces_value args ps)) (piece_value args p)
+pieces_value args (p ∷ ps) = option_and_then (λ s. option_map (λ rest. s ++ rest) (pieces_value args ps))
+    (piece_value args p)

@@ -1,5 +1,6 @@
 -- The functions that print values (Microsoft Learn: ARM template functions, string and array).
-use Rattle.std.specs.Prelude.{ℕ, ◌-◌, pos, nat_le, true, false, codes, chars, List, [], ◌∷◌, ◌++◌, length, replicate, Option, Some, None, option_map, option_and_then, if◌then◌else◌}
+use Rattle.std.specs.Prelude.{ℕ, ◌-◌, pos, nat_le, true, false, codes, chars, List, [], ◌∷◌, ◌++◌, length, replicate}
+use Rattle.std.specs.Prelude.{Option, Some, None, option_map, option_and_then, if◌then◌else◌}
 use Rattle.std.specs.Fmt.{signed_decimal}
 use Rattle.std.specs.List.{flat_map}
 use Rattle.serde_json.specs.Written.{compact_text}
@@ -8,7 +9,8 @@ use Rattle.arm_value.specs.Reading.{data_of}
 use Rattle.function_numbers.specs.Kinds.{text_of, of_one, of_two}
 use Rattle.function_lists.specs.Items.{concat_arrays}
 
--- the printed form: a text itself, a number's decimal digits, `True` or `False`, nothing for null, and else the compact JSON text
+-- the printed form: a text itself, a number's decimal digits, `True` or `False`, nothing for null, and else the
+-- compact JSON text
 abbrev pub printed : Json → List ℕ
 printed null = []
 printed (bool true) = codes "True"
@@ -80,7 +82,9 @@ fillable (int z) = Some (printed (int z))
 fillable _ = None
 
 abbrev pub pad_by : Json → Json → Option ℕ → Option Json
-pad_by j k fill = option_and_then (λ c. option_and_then (λ width. option_map (λ s. text (filled width c s)) (fillable j)) (width_of k)) fill
+pad_by j k fill =
+    option_and_then (λ c. option_and_then (λ width. option_map (λ s. text (filled width c s)) (fillable j))
+    (width_of k)) fill
 
 -- `padLeft`, with spaces where no character is given
 abbrev pub pad_left : List Json → Option Json

@@ -1,5 +1,6 @@
 -- Which value a JSON text states (Microsoft Learn: ARM template functions, object: `json`).
-use Rattle.std.specs.Prelude.{ℕ, nat_le, chars, encode_utf8_all, List, Option, Some, None, option_map, option_and_then, if◌then◌else◌}
+use Rattle.std.specs.Prelude.{ℕ, nat_le, chars, encode_utf8_all, List, Option, Some, None, option_map}
+use Rattle.std.specs.Prelude.{option_and_then, if◌then◌else◌}
 use Rattle.serde_json.specs.Data as d
 use Rattle.serde_json.specs.Find.{as_i64}
 use Rattle.arm_value.specs.Json.{Json, null, bool, int, text, array, object, Row, no_items, item, Pairs, no_pairs, pair}

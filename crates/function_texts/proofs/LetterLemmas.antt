@@ -1,5 +1,6 @@
 -- Blanks at the ends of texts.
-use Rattle.std.proofs.Common.{◌≡◌, ◌<◌, ◌≤◌, ◌+◌, ◌-◌, ℕ, suc, true, false, List, [], ◌∷◌, ◌++◌, length, get_or, take, drop, refl, ap, sym, ◌∙◌, arith, add-one}
+use Rattle.std.proofs.Common.{◌≡◌, ◌<◌, ◌≤◌, ◌+◌, ◌-◌, ℕ, suc, true, false, List, [], ◌∷◌, ◌++◌, length, get_or, take}
+use Rattle.std.proofs.Common.{drop, refl, ap, sym, ◌∙◌, arith, add-one}
 use Rattle.std.specs.Prelude.{if◌then◌else◌}
 use Rattle.std.proofs.Math.Seq.{drop-cons}
 use Rattle.std.proofs.lemmas.List.{drop_all, take_all, take_more, length-drop}
@@ -12,15 +13,20 @@ without-cons : (c : ℕ) (cs : List ℕ) → without_blanks (c ∷ cs) ≡ (if i
 unfolding without_blanks
 without-cons c cs = refl
 
-pub blank_front : (cs : List ℕ) (i c : ℕ) (all : List ℕ) → i < length cs → c ≡ get_or cs i c → is_blank c ≡ true → without_blanks (drop i cs) ≡ all → without_blanks (drop (i + 1) cs) ≡ all
+pub blank_front : (cs : List ℕ) (i c : ℕ) (all : List ℕ) → i < length cs → c ≡ get_or cs i c → is_blank c ≡ true
+    → without_blanks (drop i cs) ≡ all → without_blanks (drop (i + 1) cs) ≡ all
 blank_front cs i c all h e b before =
-    let step : without_blanks (drop i cs) ≡ without_blanks (drop (i + 1) cs) = ap without_blanks (next_character cs i c h e) ∙ without-cons c (drop (i + 1) cs) ∙ rw b refl in
+    let step : without_blanks (drop i cs) ≡ without_blanks (drop (i + 1) cs) =
+    ap without_blanks (next_character cs i c h e) ∙ without-cons c (drop (i + 1) cs) ∙ rw b refl in
     sym step ∙ before
 
-pub front_begins : (cs : List ℕ) (i c : ℕ) (all : List ℕ) → i < length cs → c ≡ get_or cs i c → is_blank c ≡ false → without_blanks (drop i cs) ≡ all → take (length cs - i) (drop i cs) ≡ all
+pub front_begins : (cs : List ℕ) (i c : ℕ) (all : List ℕ) → i < length cs → c ≡ get_or cs i c → is_blank c ≡ false
+    → without_blanks (drop i cs) ≡ all → take (length cs - i) (drop i cs) ≡ all
 front_begins cs i c all h e b before =
-    let whole : take (length cs - i) (drop i cs) ≡ drop i cs = take_all (length cs - i) (drop i cs) (omega (arith, length-drop i cs)) in
-    let step : without_blanks (drop i cs) ≡ drop i cs = ap without_blanks (next_character cs i c h e) ∙ without-cons c (drop (i + 1) cs) ∙ rw b (sym (next_character cs i c h e)) in
+    let whole : take (length cs - i) (drop i cs) ≡ drop i cs =
+    take_all (length cs - i) (drop i cs) (omega (arith, length-drop i cs)) in
+    let step : without_blanks (drop i cs) ≡ drop i cs = ap without_blanks (next_character cs i c h e)
+    ∙ without-cons c (drop (i + 1) cs) ∙ rw b (sym (next_character cs i c h e)) in
     whole ∙ sym step ∙ before
 
 pub all_blank : (cs : List ℕ) (i : ℕ) (all : List ℕ) → length cs ≤ i → without_blanks (drop i cs) ≡ all → [] ≡ all
@@ -47,16 +53,20 @@ unfolding up_to_blanks
 kept_last [] c b = rw b refl
 kept_last (d ∷ cs) c b = ap (before_blanks d) (kept_last cs c b) ∙ before_some d cs c
 
-pub blank_end : (cs : List ℕ) (n c : ℕ) (all : List ℕ) → 0 < n → n ≤ length cs → c ≡ get_or cs (n - 1) c → is_blank c ≡ true → up_to_blanks (take n cs) ≡ all → up_to_blanks (take (n - 1) cs) ≡ all
+pub blank_end : (cs : List ℕ) (n c : ℕ) (all : List ℕ) → 0 < n → n ≤ length cs → c ≡ get_or cs (n - 1) c
+    → is_blank c ≡ true → up_to_blanks (take n cs) ≡ all → up_to_blanks (take (n - 1) cs) ≡ all
 blank_end cs n c all p h e b before =
     let k : n - 1 + 1 ≡ n = omega arith in
-    let apart : take n cs ≡ take (n - 1) cs ++ c ∷ [] = ap (λ m. take m cs) (sym k) ∙ take_more cs (n - 1) c (omega arith) ∙ ap (λ d. take (n - 1) cs ++ d ∷ []) (sym e) in
+    let apart : take n cs ≡ take (n - 1) cs ++ c ∷ [] = ap (λ m. take m cs) (sym k)
+    ∙ take_more cs (n - 1) c (omega arith) ∙ ap (λ d. take (n - 1) cs ++ d ∷ []) (sym e) in
     sym (blank_last (take (n - 1) cs) c b) ∙ ap up_to_blanks (sym apart) ∙ before
 
-pub kept_end : (cs : List ℕ) (n c : ℕ) (all : List ℕ) → 0 < n → n ≤ length cs → c ≡ get_or cs (n - 1) c → is_blank c ≡ false → up_to_blanks (take n cs) ≡ all → take n cs ≡ all
+pub kept_end : (cs : List ℕ) (n c : ℕ) (all : List ℕ) → 0 < n → n ≤ length cs → c ≡ get_or cs (n - 1) c
+    → is_blank c ≡ false → up_to_blanks (take n cs) ≡ all → take n cs ≡ all
 kept_end cs n c all p h e b before =
     let k : n - 1 + 1 ≡ n = omega arith in
-    let apart : take n cs ≡ take (n - 1) cs ++ c ∷ [] = ap (λ m. take m cs) (sym k) ∙ take_more cs (n - 1) c (omega arith) ∙ ap (λ d. take (n - 1) cs ++ d ∷ []) (sym e) in
+    let apart : take n cs ≡ take (n - 1) cs ++ c ∷ [] = ap (λ m. take m cs) (sym k)
+    ∙ take_more cs (n - 1) c (omega arith) ∙ ap (λ d. take (n - 1) cs ++ d ∷ []) (sym e) in
     apart ∙ sym (kept_last (take (n - 1) cs) c b) ∙ ap up_to_blanks (sym apart) ∙ before
 
 pub nothing_left : (cs : List ℕ) (n : ℕ) (all : List ℕ) → n ≤ 0 → up_to_blanks (take n cs) ≡ all → [] ≡ all

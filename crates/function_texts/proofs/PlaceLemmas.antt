@@ -1,5 +1,6 @@
 -- Where parts begin.
-use Rattle.std.proofs.Common.{◌≡◌, ◌<◌, ◌≤◌, ◌+◌, ◌-◌, ℕ, Bool, true, false, List, [], ◌∷◌, length, get_or, take, drop, refl, ap, ap₂, sym, ◌∙◌, arith}
+use Rattle.std.proofs.Common.{◌≡◌, ◌<◌, ◌≤◌, ◌+◌, ◌-◌, ℕ, Bool, true, false, List, [], ◌∷◌, length, get_or, take}
+use Rattle.std.proofs.Common.{drop, refl, ap, ap₂, sym, ◌∙◌, arith}
 use Rattle.std.specs.Prelude.{◌==◌, ◌&&◌}
 use Rattle.std.proofs.lemmas.List.{drop_all, take_all, length-drop}
 use Rattle.std.proofs.lemmas.Bool.Decides.{nat_tests}
@@ -33,18 +34,29 @@ differ c d h = grind (arith, nat_tests)
 alike : (c d : ℕ) → c ≡ d → (c == d) ≡ true
 alike c d h = grind (arith, nat_tests)
 
-pub begins_differs : (part s : List ℕ) (i c d : ℕ) (all : Bool) → i < length part → i < length s → c ≡ get_or part i c → d ≡ get_or s i d → (c ≡ d → ⊥) → begins (drop i part) (drop i s) ≡ all → false ≡ all
+pub begins_differs : (part s : List ℕ) (i c d : ℕ) (all : Bool) → i < length part → i < length s → c ≡ get_or part i c
+    → d ≡ get_or s i d → (c ≡ d → ⊥) → begins (drop i part) (drop i s) ≡ all → false ≡ all
 begins_differs part s i c d all h k e f t before =
-    let step : begins (drop i part) (drop i s) ≡ false = ap₂ begins (next_character part i c h e) (next_character s i d k f) ∙ begins-cons c d (drop (i + 1) part) (drop (i + 1) s) ∙ ap (λ b. b && begins (drop (i + 1) part) (drop (i + 1) s)) (differ c d t) in
+    let step : begins (drop i part) (drop i s) ≡ false =
+    ap₂ begins (next_character part i c h e) (next_character s i d k f)
+    ∙ begins-cons c d (drop (i + 1) part) (drop (i + 1) s)
+    ∙ ap (λ b. b && begins (drop (i + 1) part) (drop (i + 1) s)) (differ c d t) in
     sym step ∙ before
 
-pub begins_more : (part s : List ℕ) (i c d : ℕ) (all : Bool) → i < length part → i < length s → c ≡ get_or part i c → d ≡ get_or s i d → c ≡ d → begins (drop i part) (drop i s) ≡ all → begins (drop (i + 1) part) (drop (i + 1) s) ≡ all
+pub begins_more : (part s : List ℕ) (i c d : ℕ) (all : Bool) → i < length part → i < length s → c ≡ get_or part i c
+    → d ≡ get_or s i d → c ≡ d → begins (drop i part) (drop i s) ≡ all
+    → begins (drop (i + 1) part) (drop (i + 1) s) ≡ all
 begins_more part s i c d all h k e f t before =
-    let step : begins (drop i part) (drop i s) ≡ begins (drop (i + 1) part) (drop (i + 1) s) = ap₂ begins (next_character part i c h e) (next_character s i d k f) ∙ begins-cons c d (drop (i + 1) part) (drop (i + 1) s) ∙ ap (λ b. b && begins (drop (i + 1) part) (drop (i + 1) s)) (alike c d t) in
+    let step : begins (drop i part) (drop i s) ≡ begins (drop (i + 1) part) (drop (i + 1) s) =
+    ap₂ begins (next_character part i c h e) (next_character s i d k f)
+    ∙ begins-cons c d (drop (i + 1) part) (drop (i + 1) s)
+    ∙ ap (λ b. b && begins (drop (i + 1) part) (drop (i + 1) s)) (alike c d t) in
     sym step ∙ before
 
-pub begins_ends : (part s : List ℕ) (i : ℕ) (all : Bool) → length part ≤ i → begins (drop i part) (drop i s) ≡ all → true ≡ all
-begins_ends part s i all h before = sym (ap (λ p. begins p (drop i s)) (drop_all i part h) ∙ begins-nil (drop i s)) ∙ before
+pub begins_ends : (part s : List ℕ) (i : ℕ) (all : Bool) → length part ≤ i → begins (drop i part) (drop i s) ≡ all
+    → true ≡ all
+begins_ends part s i all h before = sym (ap (λ p. begins p (drop i s)) (drop_all i part h) ∙ begins-nil (drop i s))
+    ∙ before
 
 pub whole_rest : (s : List ℕ) (i : ℕ) → take (length s - i) (drop i s) ≡ drop i s
 whole_rest s i = take_all (length s - i) (drop i s) (omega (arith, length-drop i s))

@@ -1,5 +1,6 @@
 -- The functions that cut texts (Microsoft Learn: ARM template functions, string).
-use Rattle.std.specs.Prelude.{ℕ, zero, suc, ◌+◌, ◌<◌, ◌≡◌, ◌==◌, nat_le, pos, Bool, List, [], ◌∷◌, ◌++◌, length, take, drop, map, Option, Some, None, option_map, option_and_then, if◌then◌else◌, not, ◌&&◌}
+use Rattle.std.specs.Prelude.{ℕ, zero, suc, ◌+◌, ◌<◌, ◌≡◌, ◌==◌, nat_le, pos, Bool, List, [], ◌∷◌, ◌++◌, length, take}
+use Rattle.std.specs.Prelude.{drop, map, Option, Some, None, option_map, option_and_then, if◌then◌else◌, not, ◌&&◌}
 use Rattle.std.specs.List.{list_all, flat_map}
 use Rattle.arm_value.specs.Json.{Json, int, text, array, items}
 use Rattle.function_numbers.specs.Kinds.{text_of, of_two}
@@ -24,7 +25,10 @@ abbrev pub cut : Json → Json → Option Json
 cut j k = option_and_then (λ s. option_and_then (λ start. option_map text (rest_from s start)) (count_of k)) (text_of j)
 
 abbrev pub cut_part : Json → Json → Json → Option Json
-cut_part j k l = option_and_then (λ s. option_and_then (λ start. option_and_then (λ count. option_map text (part s start count)) (count_of l)) (count_of k)) (text_of j)
+cut_part j k l =
+    option_and_then
+    (λ s. option_and_then (λ start. option_and_then (λ count. option_map text (part s start count)) (count_of l))
+    (count_of k)) (text_of j)
 
 abbrev pub substring : List Json → Option Json
 substring (j ∷ k ∷ []) = cut j k
@@ -61,7 +65,8 @@ ArePieces ds s (p ∷ q ∷ ps) = (cut : Cut) × IsFirstCut ds s cut × (p ≡ c
 -- the cut at the first character, where a delimiter begins there, else the later cut with the character before it
 abbrev pub cut_here : Option (List ℕ) → ℕ → List ℕ → Option Cut → Option Cut
 cut_here (Some d) c cs later = Some (record { before = []; delimiter = d; after = drop (length d) (c ∷ cs) })
-cut_here None c cs later = option_map (λ k. record { before = c ∷ k.before; delimiter = k.delimiter; after = k.after }) later
+cut_here None c cs later =
+    option_map (λ k. record { before = c ∷ k.before; delimiter = k.delimiter; after = k.after }) later
 
 -- the first cut of a text, if there is one
 unfoldable pub first_cut : List (List ℕ) → List ℕ → Option Cut
@@ -96,7 +101,9 @@ abbrev pub replaced_in : List ℕ → List ℕ → List ℕ → Option Json
 replaced_in s old new = if length old == 0 then None else Some (text (replaced old new s))
 
 abbrev pub replaced_text : Json → Json → Json → Option Json
-replaced_text j k l = option_and_then (λ s. option_and_then (λ old. option_and_then (λ new. replaced_in s old new) (text_of l)) (text_of k)) (text_of j)
+replaced_text j k l =
+    option_and_then (λ s. option_and_then (λ old. option_and_then (λ new. replaced_in s old new) (text_of l))
+    (text_of k)) (text_of j)
 
 abbrev pub replace : List Json → Option Json
 replace (j ∷ k ∷ l ∷ []) = replaced_text j k l

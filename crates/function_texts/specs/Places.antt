@@ -1,5 +1,6 @@
 -- The functions that look for a part (Microsoft Learn: ARM template functions, string and array).
-use Rattle.std.specs.Prelude.{ℕ, ◌+◌, ◌-◌, ◌==◌, ◌&&◌, nat_le, negsuc, Bool, true, false, List, [], ◌∷◌, length, drop, Option, Some, None, option_map, is_some}
+use Rattle.std.specs.Prelude.{ℕ, ◌+◌, ◌-◌, ◌==◌, ◌&&◌, nat_le, negsuc, Bool, true, false, List, [], ◌∷◌, length, drop}
+use Rattle.std.specs.Prelude.{Option, Some, None, option_map, is_some}
 use Rattle.arm_value.specs.Json.{Json, bool, int, text, array, object, items, members}
 use Rattle.arm_value.specs.Look.{fold}
 use Rattle.function_numbers.specs.Kinds.{of_two}

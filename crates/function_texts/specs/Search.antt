@@ -30,7 +30,8 @@ pub record GoesOn (part : List ℕ) (k character n : ℕ) : Type 0 where
   pub ends : EndAt part part k n
   pub next : HasAt part n character
 
--- where the first k characters of the part were read last, and now the character, the first n are the last that were read
+-- where the first k characters of the part were read last, and now the character, the first n are the last that were
+-- read
 pub record IsNext (part : List ℕ) (k character n : ℕ) : Type 0 where
   pub greatest : (m : ℕ) → GoesOn part k character m → m < n
   pub reached : 0 < n → GoesOn part k character (n - 1)

@@ -1,10 +1,14 @@
 -- What is written, and what is stated, part by part.
-use Rattle.std.proofs.Common.{◌≡◌, ℕ, suc, max, Bool, true, false, true≢false, List, [], ◌∷◌, ◌++◌, Option, Some, None, option_map, if◌then◌else◌, refl, sym, ap, ap₂, ◌∙◌, subst}
+use Rattle.std.proofs.Common.{◌≡◌, ℕ, suc, max, Bool, true, false, true≢false, List, [], ◌∷◌, ◌++◌, Option, Some}
+use Rattle.std.proofs.Common.{None, option_map, if◌then◌else◌, refl, sym, ap, ap₂, ◌∙◌, subst}
 use Rattle.std.specs.List.{AllByRecursion}
 use Rattle.std.specs.List.Sorted.{IsStrictlySortedBy}
-use Rattle.arm_value.specs.Json.{Json, null, bool, int, text, array, object, Row, no_items, item, Pairs, no_pairs, pair, Member, row, pairs, keys, nesting, row_nesting, pairs_nesting, key_cmp, IsInOrder}
+use Rattle.arm_value.specs.Json.{Json, null, bool, int, text, array, object, Row, no_items, item, Pairs, no_pairs}
+use Rattle.arm_value.specs.Json.{pair, Member, row, pairs, keys, nesting, row_nesting, pairs_nesting, key_cmp}
+use Rattle.arm_value.specs.Json.{IsInOrder}
 use Rattle.literal_template.specs.Brackets.{escaped, stated_text}
-use Rattle.literal_template.specs.Literals.{is_special, written, row_written, pairs_written, item_before, pair_before, stated, row_stated, pairs_stated, is_plain, row_is_plain, pairs_are_plain}
+use Rattle.literal_template.specs.Literals.{is_special, written, row_written, pairs_written, item_before, pair_before}
+use Rattle.literal_template.specs.Literals.{stated, row_stated, pairs_stated, is_plain, row_is_plain, pairs_are_plain}
 use Rattle.literal_template.proofs.BracketLemmas.{stated-escaped}
 
 -- ---- nesting
@@ -51,12 +55,14 @@ object_nests : (n : ℕ) (o : Option Pairs) → PairsNest n o → ValueNests (su
 object_nests n None h = tt
 object_nests n (Some ms) h = ap suc h
 
-item_nests : (m n : ℕ) (o : Option Json) (p : Option Row) → ValueNests m o → RowNests n p → RowNests (max m n) (item_before o p)
+item_nests : (m n : ℕ) (o : Option Json) (p : Option Row) → ValueNests m o → RowNests n p
+    → RowNests (max m n) (item_before o p)
 item_nests m n None p h g = tt
 item_nests m n (Some j) None h g = tt
 item_nests m n (Some j) (Some js) h g = ap₂ max h g
 
-pair_nests : (m n : ℕ) (k : List ℕ) (o : Option Json) (p : Option Pairs) → ValueNests m o → PairsNest n p → PairsNest (max m n) (pair_before k o p)
+pair_nests : (m n : ℕ) (k : List ℕ) (o : Option Json) (p : Option Pairs) → ValueNests m o → PairsNest n p
+    → PairsNest (max m n) (pair_before k o p)
 pair_nests m n k None p h g = tt
 pair_nests m n k (Some j) None h g = tt
 pair_nests m n k (Some j) (Some ms) h g = ap₂ max h g
@@ -76,12 +82,15 @@ mutual
 
   nesting-row_stated : (js : Row) → RowNests (row_nesting js) (row_stated js)
   nesting-row_stated no_items = refl
-  nesting-row_stated (item j js) = item_nests (nesting j) (row_nesting js) (stated j) (row_stated js) (nesting-stated j) (nesting-row_stated js)
+  nesting-row_stated (item j js) =
+      item_nests (nesting j) (row_nesting js) (stated j) (row_stated js) (nesting-stated j) (nesting-row_stated js)
 
   nesting-pairs_stated : (ms : Pairs) → PairsNest (pairs_nesting ms) (pairs_stated ms)
   nesting-pairs_stated no_pairs = refl
   nesting-pairs_stated (pair k j ms) =
-      unless_nests (is_special k) _ _ (pair_nests (nesting j) (pairs_nesting ms) k (stated j) (pairs_stated ms) (nesting-stated j) (nesting-pairs_stated ms))
+      unless_nests (is_special k) _ _
+      (pair_nests (nesting j) (pairs_nesting ms) k (stated j) (pairs_stated ms) (nesting-stated j)
+      (nesting-pairs_stated ms))
 
 pub stated_nests : (j k : Json) (o : Option Json) → o ≡ stated j → o ≡ Some k → nesting k ≡ nesting j
 stated_nests j k o e f = subst (ValueNests (nesting j)) (sym e ∙ f) (nesting-stated j)
@@ -99,10 +108,12 @@ neither : (a b : Bool) → (if a then false else b) ≡ true → (a ≡ false) �
 neither true b e = absurd (true≢false (sym e))
 neither false b e = (refl, e)
 
-item_back : (j : Json) (js : Row) (o : Option Json) (p : Option Row) → o ≡ Some j → p ≡ Some js → item_before o p ≡ Some (item j js)
+item_back : (j : Json) (js : Row) (o : Option Json) (p : Option Row) → o ≡ Some j → p ≡ Some js
+    → item_before o p ≡ Some (item j js)
 item_back j js o p e f = rw (e, f) refl
 
-pair_back : (k : List ℕ) (j : Json) (ms : Pairs) (b : Bool) (o : Option Json) (p : Option Pairs) → b ≡ false → o ≡ Some j → p ≡ Some ms → (if b then None else pair_before k o p) ≡ Some (pair k j ms)
+pair_back : (k : List ℕ) (j : Json) (ms : Pairs) (b : Bool) (o : Option Json) (p : Option Pairs) → b ≡ false
+    → o ≡ Some j → p ≡ Some ms → (if b then None else pair_before k o p) ≡ Some (pair k j ms)
 pair_back k j ms b o p n e f = rw (n, e, f) refl
 
 mutual
@@ -147,7 +158,8 @@ abbrev pub then_pairs : List Member → Pairs → Pairs
 then_pairs [] ps = ps
 then_pairs (m ∷ ms) ps = pair m.0 m.1 (then_pairs ms ps)
 
-pub then_pairs-push : (ms : List Member) (m : Member) (ps : Pairs) → then_pairs (ms ++ m ∷ []) ps ≡ then_pairs ms (pair m.0 m.1 ps)
+pub then_pairs-push : (ms : List Member) (m : Member) (ps : Pairs)
+    → then_pairs (ms ++ m ∷ []) ps ≡ then_pairs ms (pair m.0 m.1 ps)
 then_pairs-push [] m ps = refl
 then_pairs-push (x ∷ ms) m ps = ap (pair x.0 x.1) (then_pairs-push ms m ps)
 
@@ -164,11 +176,13 @@ abbrev pub with_pairs : List Member → Option Pairs → Option Pairs
 with_pairs ms None = None
 with_pairs ms (Some ps) = Some (then_pairs ms ps)
 
-pub with_row-push : (js : List Json) (j : Json) (o : Option Row) → with_row js (item_before (Some j) o) ≡ with_row (js ++ j ∷ []) o
+pub with_row-push : (js : List Json) (j : Json) (o : Option Row)
+    → with_row js (item_before (Some j) o) ≡ with_row (js ++ j ∷ []) o
 with_row-push js j None = refl
 with_row-push js j (Some r) = ap Some (sym (then_row-push js j r))
 
-pub with_pairs-push : (ms : List Member) (m : Member) (o : Option Pairs) → with_pairs ms (pair_before m.0 (Some m.1) o) ≡ with_pairs (ms ++ m ∷ []) o
+pub with_pairs-push : (ms : List Member) (m : Member) (o : Option Pairs)
+    → with_pairs ms (pair_before m.0 (Some m.1) o) ≡ with_pairs (ms ++ m ∷ []) o
 with_pairs-push ms m None = refl
 with_pairs-push ms m (Some ps) = ap Some (sym (then_pairs-push ms m ps))
 
@@ -178,7 +192,8 @@ pub keys-append : (ms ns : List Member) → keys (ms ++ ns) ≡ keys ms ++ keys 
 keys-append [] ns = refl
 keys-append (m ∷ ms) ns = ap (λ r. m.0 ∷ r) (keys-append ms ns)
 
-all_but : (P : List ℕ → Type 0) (ms : List Member) (m : Member) (ns : List Member) → AllByRecursion P (keys (ms ++ m ∷ ns)) → AllByRecursion P (keys (ms ++ ns))
+all_but : (P : List ℕ → Type 0) (ms : List Member) (m : Member) (ns : List Member)
+    → AllByRecursion P (keys (ms ++ m ∷ ns)) → AllByRecursion P (keys (ms ++ ns))
 all_but P [] m ns h = h.1
 all_but P (x ∷ ms) m ns h = (h.0, all_but P ms m ns h.1)
 
@@ -189,14 +204,16 @@ without_one [] m ns h = h.1
 without_one (x ∷ ms) m ns h = (all_but _ ms m ns h.0, without_one ms m ns h.1)
 
 -- members in order with another value at a key
-pub with_value : (ms : List Member) (k : List ℕ) (i j : Json) (ns : List Member) → IsInOrder (ms ++ (k, i) ∷ ns) → IsInOrder ((ms ++ (k, j) ∷ []) ++ ns)
+pub with_value : (ms : List Member) (k : List ℕ) (i j : Json) (ns : List Member) → IsInOrder (ms ++ (k, i) ∷ ns)
+    → IsInOrder ((ms ++ (k, j) ∷ []) ++ ns)
 with_value ms k i j ns h = subst (IsStrictlySortedBy key_cmp) (same ms) h
   where
     same : (ms : List Member) → keys (ms ++ (k, i) ∷ ns) ≡ keys ((ms ++ (k, j) ∷ []) ++ ns)
     same [] = refl
     same (x ∷ ms) = ap (λ r. x.0 ∷ r) (same ms)
 
-all_front : (P : List ℕ → Type 0) (ms ns : List Member) → AllByRecursion P (keys (ms ++ ns)) → AllByRecursion P (keys ms)
+all_front : (P : List ℕ → Type 0) (ms ns : List Member) → AllByRecursion P (keys (ms ++ ns))
+    → AllByRecursion P (keys ms)
 all_front P [] ns h = tt
 all_front P (m ∷ ms) ns h = (h.0, all_front P ms ns h.1)
 
@@ -206,5 +223,6 @@ front_in_order [] ns h = tt
 front_in_order (m ∷ ms) ns h = (all_front _ ms ns h.0, front_in_order ms ns h.1)
 
 -- the next member, with its value made anew
-pub next_last : (ms : List Member) (k : List ℕ) (i j : Json) (ns : List Member) → IsInOrder (ms ++ (k, i) ∷ ns) → IsInOrder (ms ++ (k, j) ∷ [])
+pub next_last : (ms : List Member) (k : List ℕ) (i j : Json) (ns : List Member) → IsInOrder (ms ++ (k, i) ∷ ns)
+    → IsInOrder (ms ++ (k, j) ∷ [])
 next_last ms k i j ns h = front_in_order (ms ++ (k, j) ∷ []) ns (with_value ms k i j ns h)

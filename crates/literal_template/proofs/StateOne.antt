@@ -1,5 +1,6 @@
 -- No bytes state two lists of resources.
-use Rattle.std.proofs.Common.{◌≡◌, ◌≤◌, ◌<◌, ℕ, ℤ, pos, negsuc, Bool, true, false, true≢false, List, [], Option, Some, None, refl, sym, ap, ap₂, ◌∙◌, subst, arith}
+use Rattle.std.proofs.Common.{◌≡◌, ◌≤◌, ◌<◌, ℕ, ℤ, pos, negsuc, Bool, true, false, true≢false, List, [], Option, Some}
+use Rattle.std.proofs.Common.{None, refl, sym, ap, ap₂, ◌∙◌, subst, arith}
 use Rattle.std.specs.Prelude.{IsSomeAnd, IfOk, IfErr, Result, Ok, Err}
 use Rattle.std.specs.declared.vec.Vec.{Vec}
 use Rattle.std.specs.declared.alloc.Global.{Global}
@@ -107,7 +108,8 @@ mutual
   row_tells no_items no_items e = refl
   row_tells no_items (item k ks) e = absurd (true≢false (sym (ap has_item e)))
   row_tells (item j js) no_items e = absurd (true≢false (ap has_item e))
-  row_tells (item j js) (item k ks) e = ap₂ item (data_tells j k (ap (item_in d.null) e)) (row_tells js ks (ap later_items e))
+  row_tells (item j js) (item k ks) e =
+      ap₂ item (data_tells j k (ap (item_in d.null) e)) (row_tells js ks (ap later_items e))
 
   pairs_tell : (ms ns : Pairs) → pairs_data ms ≡ pairs_data ns → ms ≡ ns
   pairs_tell no_pairs no_pairs e = refl
@@ -133,7 +135,8 @@ list_in None = []
 list_in (Some rs) = rs
 
 -- the value that bytes give states what they state
-pub value_states : (bytes : List ℕ) (v : Json) (rs : List Resource) → Gives (reading bytes) v → StatedBy bytes rs → template_of v ≡ Some rs
+pub value_states : (bytes : List ℕ) (v : Json) (rs : List Resource) → Gives (reading bytes) v → StatedBy bytes rs
+    → template_of v ≡ Some rs
 value_states bytes v rs g s = ap template_of (one_value (reading bytes) v s.0 g s.1) ∙ s.2
 
 pub state_one_list : StateOneList
@@ -146,9 +149,11 @@ some_is None x P e h = absurd (cc)
 some_is (Some y) x P e h = subst P (ap (some_in d.null) e) h
 
 -- bytes that have a fault other than want of memory state no resources
-pub no_value : (bytes : List ℕ) (f : JsonFault) (rs : List Resource) → Explains (reading bytes) f → (f ≡ OutOfMemory → ⊥) → StatedBy bytes rs → ⊥
+pub no_value : (bytes : List ℕ) (f : JsonFault) (rs : List Resource) → Explains (reading bytes) f
+    → (f ≡ OutOfMemory → ⊥) → StatedBy bytes rs → ⊥
 no_value bytes NotJson rs h n s = let e = sym h ∙ s.1.0 in cc
-no_value bytes TooDeep rs h n s = let deep = some_is (reading bytes) (data_of s.0) (λ x. 120 < depth x) s.1.0 h in omega (arith, deep, s.1.1)
+no_value bytes TooDeep rs h n s = let deep = some_is (reading bytes) (data_of s.0) (λ x. 120 < depth x) s.1.0 h in
+    omega (arith, deep, s.1.1)
 no_value bytes (NotWhole path) rs h n s =
     let found = some_is (reading bytes) (data_of s.0) (λ x. (depth x ≤ 120) × (not_whole x ≡ Some path)) s.1.0 h in
     let e = sym found.1 ∙ s.1.2 in cc
@@ -157,11 +162,13 @@ no_value bytes OutOfMemory rs h n s = n refl
 -- ---- what is answered
 
 -- a value that states no template
-pub states_none : (bytes : List ℕ) (v : Json) (o : Option (List Resource)) (rs : List Resource) → Gives (reading bytes) v → o ≡ template_of v → o ≡ None → StatedBy bytes rs → ⊥
+pub states_none : (bytes : List ℕ) (v : Json) (o : Option (List Resource)) (rs : List Resource)
+    → Gives (reading bytes) v → o ≡ template_of v → o ≡ None → StatedBy bytes rs → ⊥
 states_none bytes v o rs g e n s = let h = sym n ∙ e ∙ value_states bytes v rs g s in cc
 
 -- a value that states these
-pub states_these : (bytes : List ℕ) (v : Json) (o : Option (List Resource)) (found rs : List Resource) → Gives (reading bytes) v → o ≡ template_of v → o ≡ Some found → StatedBy bytes rs → found ≡ rs
+pub states_these : (bytes : List ℕ) (v : Json) (o : Option (List Resource)) (found rs : List Resource)
+    → Gives (reading bytes) v → o ≡ template_of v → o ≡ Some found → StatedBy bytes rs → found ≡ rs
 states_these bytes v o found rs g e n s = ap list_in (sym n ∙ e ∙ value_states bytes v rs g s)
 
 -- ---- what is read of bytes that are the JSON of a value
@@ -170,19 +177,26 @@ states_these bytes v o found rs g e n s = ap list_in (sym n ∙ e ∙ value_stat
 abbrev pub Read : Type 0
 Read = Result (Vec Resource Global) TemplateFault
 
-pub read_stated : (bytes : List ℕ) (v : Json) (r : Read) → Gives (reading bytes) v → IfOk r (λ rs. template_of v ≡ Some rs.items) → IfOk r (λ rs. StatedBy bytes rs.items)
+pub read_stated : (bytes : List ℕ) (v : Json) (r : Read) → Gives (reading bytes) v
+    → IfOk r (λ rs. template_of v ≡ Some rs.items) → IfOk r (λ rs. StatedBy bytes rs.items)
 read_stated bytes v (Ok rs) g h = (v, g, h)
 read_stated bytes v (Err f) g h = tt
 
-pub read_refused : (bytes : List ℕ) (v : Json) (r : Read) → Gives (reading bytes) v → IfErr r (λ f. f ≡ fault.NotLiteral → template_of v ≡ None) → IfErr r (λ f. f ≡ fault.NotLiteral → (rs : List Resource) → StatedBy bytes rs → ⊥)
+pub read_refused : (bytes : List ℕ) (v : Json) (r : Read) → Gives (reading bytes) v
+    → IfErr r (λ f. f ≡ fault.NotLiteral → template_of v ≡ None)
+    → IfErr r (λ f. f ≡ fault.NotLiteral → (rs : List Resource) → StatedBy bytes rs → ⊥)
 read_refused bytes v (Ok rs) g h = tt
 read_refused bytes v (Err f) g h = λ e rs s. states_none bytes v (template_of v) rs g refl (h e) s
 
-pub read_written : (bytes : List ℕ) (v : Json) (r : Read) → Gives (reading bytes) v → IfOk r (λ rs. template_of v ≡ Some rs.items) → (p : List Resource) → StatedBy bytes p → IfOk r (λ rs. rs.items ≡ p)
+pub read_written : (bytes : List ℕ) (v : Json) (r : Read) → Gives (reading bytes) v
+    → IfOk r (λ rs. template_of v ≡ Some rs.items) → (p : List Resource) → StatedBy bytes p
+    → IfOk r (λ rs. rs.items ≡ p)
 read_written bytes v (Ok rs) g h p s = states_these bytes v (template_of v) rs.items p g refl h s
 read_written bytes v (Err f) g h p s = tt
 
-pub read_unrefused : (bytes : List ℕ) (v : Json) (r : Read) → Gives (reading bytes) v → IfErr r (λ f. f ≡ fault.NotLiteral → template_of v ≡ None) → (p : List Resource) → StatedBy bytes p → IfErr r (λ f. f ≡ fault.OutOfMemory)
+pub read_unrefused : (bytes : List ℕ) (v : Json) (r : Read) → Gives (reading bytes) v
+    → IfErr r (λ f. f ≡ fault.NotLiteral → template_of v ≡ None) → (p : List Resource) → StatedBy bytes p
+    → IfErr r (λ f. f ≡ fault.OutOfMemory)
 read_unrefused bytes v (Ok rs) g h p s = tt
 read_unrefused bytes v (Err fault.NotLiteral) g h p s = absurd (states_none bytes v (template_of v) p g refl (h refl) s)
 read_unrefused bytes v (Err fault.OutOfMemory) g h p s = refl

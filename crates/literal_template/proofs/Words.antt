@@ -1,5 +1,6 @@
 -- Words of ASCII characters are their own characters.
-use Rattle.std.proofs.Common.{◌≡◌, ◌<◌, ℕ, zero, suc, get_or, Bool, true, false, ◌&&◌, nat_lt, List, [], ◌∷◌, chars, bytes_eq, IsUtf8, refl, sym, ap₂, ◌∙◌, arith, true≢false}
+use Rattle.std.proofs.Common.{◌≡◌, ◌<◌, ℕ, zero, suc, get_or, Bool, true, false, ◌&&◌, nat_lt, List, [], ◌∷◌, chars}
+use Rattle.std.proofs.Common.{bytes_eq, IsUtf8, refl, sym, ap₂, ◌∙◌, arith, true≢false}
 use Rattle.std.specs.List.{list_all}
 use Rattle.std.proofs.lemmas.Bool.Decides.{nat_tests}
 use Rattle.std.proofs.lemmas.Str.{chars-IsAscii, IsUtf8-from_ascii}
@@ -27,6 +28,8 @@ unfolding is_ascii
 word bs e = chars-IsAscii bs (ascii_at bs e)
 
 -- a text equals a word just where its characters are the word
-pub same_bytes : (bytes text w : List ℕ) → IsUtf8 bytes → chars bytes ≡ text → list_all (λ b. nat_lt b 128) w ≡ true → bytes_eq bytes w ≡ bytes_eq text w
+pub same_bytes : (bytes text w : List ℕ) → IsUtf8 bytes → chars bytes ≡ text → list_all (λ b. nat_lt b 128) w ≡ true
+    → bytes_eq bytes w ≡ bytes_eq text w
 unfolding is_ascii
-same_bytes bytes text w u e a = bytes_eq-chars bytes w u (IsUtf8-from_ascii w (ascii_at w a)) ∙ ap₂ bytes_eq e (word w a)
+same_bytes bytes text w u e a = bytes_eq-chars bytes w u (IsUtf8-from_ascii w (ascii_at w a))
+    ∙ ap₂ bytes_eq e (word w a)

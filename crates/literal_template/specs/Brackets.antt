@@ -1,4 +1,5 @@
--- Which texts of a template are expressions, and how the others are written (Microsoft Learn, "Template expressions", escape characters).
+-- Which texts of a template are expressions, and how the others are written (Microsoft Learn, "Template expressions",
+-- escape characters).
 use Rattle.std.specs.Prelude.{ℕ, ◌==◌, ◌&&◌, Bool, false, List, [], ◌∷◌, Option, Some, None, if◌then◌else◌}
 
 -- whether the text begins with `[`

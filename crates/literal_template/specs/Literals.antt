@@ -1,9 +1,11 @@
 -- How values are written in a template, and which values it states.
-use Rattle.std.specs.Prelude.{ℕ, ◌||◌, Bool, true, false, List, bytes_eq, Option, Some, None, option_map, codes, if◌then◌else◌}
+use Rattle.std.specs.Prelude.{ℕ, ◌||◌, Bool, true, false, List, bytes_eq, Option, Some, None, option_map, codes}
+use Rattle.std.specs.Prelude.{if◌then◌else◌}
 use Rattle.arm_value.specs.Json.{Json, null, bool, int, text, array, object, Row, no_items, item, Pairs, no_pairs, pair}
 use Rattle.literal_template.specs.Brackets.{is_bracketed, escaped, stated_text}
 
--- whether a member of this name is no plain member of a value: one named `copy` makes a loop, and one in brackets would be an expression
+-- whether a member of this name is no plain member of a value: one named `copy` makes a loop, and one in brackets
+-- would be an expression
 abbrev pub is_special : List ℕ → Bool
 is_special name = bytes_eq name (codes "copy") || is_bracketed name
 

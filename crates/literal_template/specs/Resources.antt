@@ -17,7 +17,8 @@ heads = codes "type" ∷ codes "apiVersion" ∷ codes "name" ∷ []
 -- the members that a resource of a literal template does not have
 abbrev pub directives : List (List ℕ)
 directives =
-    codes "condition" ∷ codes "dependsOn" ∷ codes "copy" ∷ codes "resources" ∷ codes "comments" ∷ codes "metadata" ∷ codes "scope" ∷ codes "subscriptionId" ∷ codes "resourceGroup" ∷ []
+    codes "condition" ∷ codes "dependsOn" ∷ codes "copy" ∷ codes "resources" ∷ codes "comments" ∷ codes "metadata"
+    ∷ codes "scope" ∷ codes "subscriptionId" ∷ codes "resourceGroup" ∷ []
 
 -- whether a member of this name is its resource's type, version or name
 unfoldable pub is_head : List ℕ → Bool

@@ -1,8 +1,10 @@
 -- What a literal template states (Microsoft Learn, "Template structure and syntax").
-use Rattle.std.specs.Prelude.{◌≡◌, ℕ, suc, ◌==◌, ◌&&◌, ◌||◌, Bool, true, false, List, [], ◌∷◌, map, nat_eq, Option, Some, None, is_some, codes, encode_utf8_all, if◌then◌else◌}
+use Rattle.std.specs.Prelude.{◌≡◌, ℕ, suc, ◌==◌, ◌&&◌, ◌||◌, Bool, true, false, List, [], ◌∷◌, map, nat_eq, Option}
+use Rattle.std.specs.Prelude.{Some, None, is_some, codes, encode_utf8_all, if◌then◌else◌}
 use Rattle.std.specs.List.{list_any, ends_with, AllByRecursion}
 use Rattle.serde_json.specs.Written.{compact_text}
-use Rattle.arm_value.specs.Json.{Json, text, array, object, Row, no_items, item, Pairs, no_pairs, pair, row, pairs, pair_keys, members, put}
+use Rattle.arm_value.specs.Json.{Json, text, array, object, Row, no_items, item, Pairs, no_pairs, pair, row, pairs}
+use Rattle.arm_value.specs.Json.{pair_keys, members, put}
 use Rattle.arm_value.specs.Look.{fold, look_in}
 use Rattle.arm_value.specs.Reading.{data_of, reading}
 use Rattle.arm_value.specs.Fault.{Gives}
@@ -18,12 +20,18 @@ schema = codes "https://schema.management.azure.com/schemas/2019-04-01/deploymen
 -- the value that is written for a resource
 unfoldable pub resource_value : Resource → Json
 resource_value r =
-    object (pairs (put (codes "type") (text r.kind) (put (codes "name") (text (escaped r.name)) (put (codes "apiVersion") (text r.api) (members (pairs_written (pairs r.body)))))))
+    object
+    (pairs
+    (put (codes "type") (text r.kind)
+    (put (codes "name") (text (escaped r.name))
+    (put (codes "apiVersion") (text r.api) (members (pairs_written (pairs r.body)))))))
 
 -- the template that is written for resources
 unfoldable pub template_value : List Resource → Json
 template_value rs =
-    object (pairs ((codes "$schema", text schema) ∷ (codes "contentVersion", text (codes "1.0.0.0")) ∷ (codes "resources", array (row (map resource_value rs))) ∷ []))
+    object
+    (pairs ((codes "$schema", text schema) ∷ (codes "contentVersion", text (codes "1.0.0.0"))
+    ∷ (codes "resources", array (row (map resource_value rs))) ∷ []))
 
 -- its bytes, as compact JSON
 abbrev pub template_bytes : List Resource → List ℕ
@@ -55,11 +63,14 @@ abbrev pub with_heads : Option (List ℕ) → Option (List ℕ) → Option (List
 with_heads (Some kind) (Some api) (Some name) body = with_parts kind api (stated_text name) body
 with_heads _ _ _ _ = None
 
--- the resource of these members: type, version and name are there once each, in letters of any case, and none of them is a directive
+-- the resource of these members: type, version and name are there once each, in letters of any case, and none of them
+-- is a directive
 unfoldable pub resource_with : Pairs → Option Resource
 resource_with ms =
     if list_any is_directive (pair_keys ms) then None
-    else (if count is_head ms == 3 then with_heads (text_of (look_in (codes "type") ms)) (text_of (look_in (codes "apiVersion") ms)) (text_of (look_in (codes "name") ms)) (pairs_stated (body_members ms))
+    else (if count is_head ms == 3 then with_heads (text_of (look_in (codes "type") ms))
+    (text_of (look_in (codes "apiVersion") ms)) (text_of (look_in (codes "name") ms))
+    (pairs_stated (body_members ms))
     else None)
 
 -- the resource that a value states, where it states one
@@ -85,7 +96,8 @@ resources_in _ = None
 -- whether the text is the address of a schema of templates: in small letters it ends so, with or without a `#`
 unfoldable pub is_schema : List ℕ → Bool
 is_schema s =
-    ends_with nat_eq (encode_utf8_all (fold s)) (codes "/deploymenttemplate.json") || ends_with nat_eq (encode_utf8_all (fold s)) (codes "/deploymenttemplate.json#")
+    ends_with nat_eq (encode_utf8_all (fold s)) (codes "/deploymenttemplate.json") || ends_with nat_eq
+    (encode_utf8_all (fold s)) (codes "/deploymenttemplate.json#")
 
 -- whether there is a text, and it is such an address
 abbrev pub names_schema : Option (List ℕ) → Bool
@@ -97,10 +109,13 @@ abbrev pub has_three : Pairs → Bool
 has_three (pair k j (pair l i (pair m h no_pairs))) = true
 has_three _ = false
 
--- the resources that a template states, where it is a literal template: it has a schema, a version of its content and resources, and nothing else
+-- the resources that a template states, where it is a literal template: it has a schema, a version of its content and
+-- resources, and nothing else
 unfoldable pub template_with : Pairs → Option (List Resource)
 template_with ms =
-    if has_three ms && (names_schema (text_of (look_in (codes "$schema") ms)) && is_some (text_of (look_in (codes "contentVersion") ms))) then resources_in (look_in (codes "resources") ms)
+    if has_three ms
+    && (names_schema (text_of (look_in (codes "$schema") ms))
+    && is_some (text_of (look_in (codes "contentVersion") ms))) then resources_in (look_in (codes "resources") ms)
     else None
 
 -- the resources that a value states as a template

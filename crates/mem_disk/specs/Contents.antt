@@ -17,4 +17,5 @@ with_part B bytes parts = record parts { b = bytes }
 
 -- room was taken for so many bytes more in each part
 abbrev pub HasRoom : ℕ → Contents → Type 0
-HasRoom room contents = (length contents.a.items + room ≤ vec_capacity contents.a) × (length contents.b.items + room ≤ vec_capacity contents.b)
+HasRoom room contents = (length contents.a.items + room ≤ vec_capacity contents.a)
+    × (length contents.b.items + room ≤ vec_capacity contents.b)

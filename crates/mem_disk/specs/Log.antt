@@ -24,7 +24,8 @@ move_of Synced bytes = synced
 -- the steps that the entries are, with these bytes of their writes
 abbrev pub steps_of : List ℕ → List Entry → List Step
 steps_of bytes [] = []
-steps_of bytes (entry ∷ entries) = (entry.part, move_of entry.change (take (size_of entry.change) bytes)) ∷ steps_of (drop (size_of entry.change) bytes) entries
+steps_of bytes (entry ∷ entries) = (entry.part, move_of entry.change (take (size_of entry.change) bytes))
+    ∷ steps_of (drop (size_of entry.change) bytes) entries
 
 -- how many bytes the entries write together
 abbrev pub total : List Entry → ℕ

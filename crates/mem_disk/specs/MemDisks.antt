@@ -32,13 +32,15 @@ NextGoes disk = (0 < disk.left.calls) × (is_listed disk.calls.fails.items disk.
 abbrev pub room_for : Part → ℕ → ℕ → MemDisk → ℕ
 room_for part at n disk = n + (at - length (on part (reads_in disk)))
 
--- how much room a write of n bytes takes that fails: its bytes, where it is one of the calls that fail and they have room
+-- how much room a write of n bytes takes that fails: its bytes, where it is one of the calls that fail and they have
+-- room
 abbrev pub torn_room : ℕ → MemDisk → ℕ
 torn_room n disk =
     if disk.left.calls == 0 then 0 else
     (if is_listed disk.calls.fails.items disk.calls.made then (if nat_le n disk.left.bytes then n else 0) else 0)
 
--- a call takes so many bytes of the room and one of the calls that are left, where one is, and leaves the cuts and the calls that fail
+-- a call takes so many bytes of the room and one of the calls that are left, where one is, and leaves the cuts and
+-- the calls that fail
 pub record Spends (bytes : ℕ) (old new : MemDisk) : Type 0 where
   pub calls_left : new.left.calls ≡ old.left.calls - 1
   pub bytes_left : new.left.bytes + bytes ≡ old.left.bytes

@@ -43,7 +43,8 @@ reads_after (move ∷ moves) file = reads_after moves (read_after move file)
 
 -- what a read of both parts gives after these steps
 abbrev pub parts_after : List Step → Parts → Parts
-parts_after steps first = record { a = reads_after (moves_on A steps) first.a; b = reads_after (moves_on B steps) first.b }
+parts_after steps first =
+    record { a = reads_after (moves_on A steps) first.a; b = reads_after (moves_on B steps) first.b }
 
 -- what a crash may leave of a file after a move, where it might have left this before it and a read gave now
 abbrev pub Leaves : Move → List ℕ → List ℕ → List ℕ → Type 0
@@ -53,7 +54,8 @@ Leaves (shortened n) now before after = Cut n before after
 Leaves (tore_off n) now before after = Cut n before after
 Leaves synced now before after = after ≡ now
 
--- a part of the disk at a move of some part: where it is the move's part, what a read gives takes the move and what a crash leaves may take it, else both stay
+-- a part of the disk at a move of some part: where it is the move's part, what a read gives takes the move and what a
+-- crash leaves may take it, else both stay
 abbrev pub Walks : Part → Part → Move → List ℕ → List ℕ → List ℕ → List ℕ → Type 0
 Walks A A move now new_now left new_left = (new_now ≡ read_after move now) × Leaves move now left new_left
 Walks A B move now new_now left new_left = (new_now ≡ now) × (new_left ≡ left)
@@ -71,7 +73,8 @@ image_after synced now set image = set image × (image ≡ now)
 -- what a crash may leave after these moves, where a read gave now and a crash might have left set before them
 abbrev pub images_after : List Move → List ℕ → (List ℕ → Type 0) → List ℕ → Type 0
 images_after [] now set image = set image
-images_after (move ∷ moves) now set image = images_after moves (read_after move now) (image_after move (read_after move now) set) image
+images_after (move ∷ moves) now set image =
+    images_after moves (read_after move now) (image_after move (read_after move now) set) image
 
 -- what a crash may leave of a file that began so
 abbrev pub left_after : List ℕ → List Move → List ℕ → Type 0
@@ -79,7 +82,8 @@ left_after first moves image = images_after moves first (λ (file : List ℕ). f
 
 -- what a crash at the moment after so many of the steps may leave of a disk that began so
 abbrev pub left_at : Parts → List Step → ℕ → Parts → Type 0
-left_at first steps moment image = left_after first.a (moves_on A (take moment steps)) image.a × left_after first.b (moves_on B (take moment steps)) image.b
+left_at first steps moment image = left_after first.a (moves_on A (take moment steps)) image.a
+    × left_after first.b (moves_on B (take moment steps)) image.b
 
 -- one step more, or none
 abbrev pub IsOneMore : List Step → Step → List Step → Type 0

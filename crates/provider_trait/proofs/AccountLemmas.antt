@@ -1,5 +1,6 @@
 -- Names of accounts by their bytes and by their characters.
-use Rattle.std.proofs.Common.{◌≡◌, ◌<◌, ◌≤◌, ℕ, length, get_or, Bool, true, false, ◌&&◌, nat_le, List, [], ◌∷◌, ◌++◌, refl, sym, ap, ap₂, ◌∙◌, arith, true≢false, append-nil, ◌⊎◌, inl, inr}
+use Rattle.std.proofs.Common.{◌≡◌, ◌<◌, ◌≤◌, ℕ, length, get_or, Bool, true, false, ◌&&◌, nat_le, List, [], ◌∷◌, ◌++◌}
+use Rattle.std.proofs.Common.{refl, sym, ap, ap₂, ◌∙◌, arith, true≢false, append-nil, ◌⊎◌, inl, inr}
 use lib.Utf8.{encode, encodes}
 use Rattle.std.specs.List.{list_all}
 use Rattle.std.proofs.lemmas.Bool.{cases_lt}
@@ -17,20 +18,27 @@ first_high c h =
     let long : 0 < length (encode c) = omega (arith, length-encode c, (len_utf8_bounds c).0) in
     (long, by_cases (cases_lt (get_or (encode c) 0 0) 128) long)
   where
-    by_cases : (get_or (encode c) 0 0 < 128) ⊎ (128 ≤ get_or (encode c) 0 0) → 0 < length (encode c) → 128 ≤ get_or (encode c) 0 0
-    by_cases (inl low) long = let same : c ≡ get_or (encode c) 0 0 = inside_one c [] (encode c) 0 (sym (append-nil (encode c))) long low in omega arith
+    by_cases : (get_or (encode c) 0 0 < 128) ⊎ (128 ≤ get_or (encode c) 0 0) → 0 < length (encode c)
+        → 128 ≤ get_or (encode c) 0 0
+    by_cases (inl low) long = let same : c ≡ get_or (encode c) 0 0 =
+        inside_one c [] (encode c) 0 (sym (append-nil (encode c))) long low in omega arith
     by_cases (inr high) long = high
 
-fails_at_first : (bs rest : List ℕ) → 0 < length bs → 128 ≤ get_or bs 0 0 → list_all is_account_character (bs ++ rest) ≡ false
+fails_at_first : (bs rest : List ℕ) → 0 < length bs → 128 ≤ get_or bs 0 0
+    → list_all is_account_character (bs ++ rest) ≡ false
 fails_at_first [] rest l h = absurd (omega (arith, l))
 fails_at_first (b ∷ bs) rest l h = ap (λ r. r && list_all is_account_character (bs ++ rest)) (high_fails b h)
 
-all_by : (c : ℕ) (cs : List ℕ) → (c < 128) ⊎ (128 ≤ c) → list_all is_account_character (encodes cs) ≡ list_all is_account_character cs → list_all is_account_character (encodes (c ∷ cs)) ≡ list_all is_account_character (c ∷ cs)
+all_by : (c : ℕ) (cs : List ℕ) → (c < 128) ⊎ (128 ≤ c)
+    → list_all is_account_character (encodes cs) ≡ list_all is_account_character cs
+    → list_all is_account_character (encodes (c ∷ cs)) ≡ list_all is_account_character (c ∷ cs)
 all_by c cs (inl low) h =
-    ap (λ bs. list_all is_account_character (bs ++ encodes cs)) (encode_ascii c low) ∙ ap (λ r. is_account_character c && r) h
+    ap (λ bs. list_all is_account_character (bs ++ encodes cs)) (encode_ascii c low)
+    ∙ ap (λ r. is_account_character c && r) h
 all_by c cs (inr high) h =
     let first = first_high c high in
-    fails_at_first (encode c) (encodes cs) first.0 first.1 ∙ sym (ap (λ r. r && list_all is_account_character cs) (high_fails c high))
+    fails_at_first (encode c) (encodes cs) first.0 first.1
+    ∙ sym (ap (λ r. r && list_all is_account_character cs) (high_fails c high))
 
 all-encodes : (cs : List ℕ) → list_all is_account_character (encodes cs) ≡ list_all is_account_character cs
 all-encodes [] = refl
@@ -55,23 +63,37 @@ none true false = refl
 none false b = refl
 
 -- a name's bytes tell whether it is an account's
-pub account_by_bytes : (cs : List ℕ) → (nat_le 3 (length (encodes cs)) && (nat_le (length (encodes cs)) 24 && list_all is_account_character (encodes cs))) ≡ is_account_name cs
+pub account_by_bytes : (cs : List ℕ)
+    → (nat_le 3 (length (encodes cs))
+    && (nat_le (length (encodes cs)) 24 && list_all is_account_character (encodes cs))) ≡ is_account_name cs
 account_by_bytes cs = by_all (list_all is_account_character cs) refl
   where
-    by_all : (b : Bool) → list_all is_account_character cs ≡ b → (nat_le 3 (length (encodes cs)) && (nat_le (length (encodes cs)) 24 && list_all is_account_character (encodes cs))) ≡ is_account_name cs
-    by_all true e = ap (λ bs. nat_le 3 (length bs) && (nat_le (length bs) 24 && list_all is_account_character bs)) (encodes_same cs e)
+    by_all : (b : Bool) → list_all is_account_character cs ≡ b
+        → (nat_le 3 (length (encodes cs))
+        && (nat_le (length (encodes cs)) 24 && list_all is_account_character (encodes cs))) ≡ is_account_name cs
+    by_all true e = ap (λ bs. nat_le 3 (length bs) && (nat_le (length bs) 24 && list_all is_account_character bs))
+        (encodes_same cs e)
     by_all false e =
-        ap (λ b. nat_le 3 (length (encodes cs)) && (nat_le (length (encodes cs)) 24 && b)) (all-encodes cs ∙ e) ∙ none _ _ ∙ sym (ap (λ b. nat_le 3 (length cs) && (nat_le (length cs) 24 && b)) e ∙ none _ _)
+        ap (λ b. nat_le 3 (length (encodes cs)) && (nat_le (length (encodes cs)) 24 && b)) (all-encodes cs ∙ e)
+        ∙ none _ _ ∙ sym (ap (λ b. nat_le 3 (length cs) && (nat_le (length cs) 24 && b)) e ∙ none _ _)
 
 -- a name that is too short, too long, or of a fit length
 pub too_short : (cs bs : List ℕ) → bs ≡ encodes cs → length bs < 3 → false ≡ is_account_name cs
 too_short cs bs e l =
-    first_fails _ (nat_le (length (encodes cs)) 24) (list_all is_account_character (encodes cs)) (let short : length (encodes cs) < 3 = omega (arith, ap length e, l) in le_false 3 _ short) ∙ account_by_bytes cs
+    first_fails _ (nat_le (length (encodes cs)) 24) (list_all is_account_character (encodes cs))
+    (let short : length (encodes cs) < 3 = omega (arith, ap length e, l) in le_false 3 _ short)
+    ∙ account_by_bytes cs
 
 pub too_long : (cs bs : List ℕ) → bs ≡ encodes cs → 3 ≤ length bs → 24 < length bs → false ≡ is_account_name cs
 too_long cs bs e m l =
-    second_fails _ _ (list_all is_account_character (encodes cs)) (let enough : 3 ≤ length (encodes cs) = omega (arith, ap length e, m) in le_true 3 _ enough) (let long : 24 < length (encodes cs) = omega (arith, ap length e, l) in le_false _ 24 long) ∙ account_by_bytes cs
+    second_fails _ _ (list_all is_account_character (encodes cs)) (let enough : 3 ≤ length (encodes cs) =
+    omega (arith, ap length e, m) in le_true 3 _ enough) (let long : 24 < length (encodes cs) =
+    omega (arith, ap length e, l) in le_false _ 24 long) ∙ account_by_bytes cs
 
-pub fit_length : (cs bs : List ℕ) (r : Bool) → bs ≡ encodes cs → 3 ≤ length bs → length bs ≤ 24 → r ≡ list_all is_account_character bs → r ≡ is_account_name cs
+pub fit_length : (cs bs : List ℕ) (r : Bool) → bs ≡ encodes cs → 3 ≤ length bs → length bs ≤ 24
+    → r ≡ list_all is_account_character bs → r ≡ is_account_name cs
 fit_length cs bs r e m l h =
-    third_decides _ _ (list_all is_account_character (encodes cs)) r (let enough : 3 ≤ length (encodes cs) = omega (arith, ap length e, m) in le_true 3 _ enough) (let few : length (encodes cs) ≤ 24 = omega (arith, ap length e, l) in le_true _ 24 few) (h ∙ ap (list_all is_account_character) e) ∙ account_by_bytes cs
+    third_decides _ _ (list_all is_account_character (encodes cs)) r (let enough : 3 ≤ length (encodes cs) =
+    omega (arith, ap length e, m) in le_true 3 _ enough) (let few : length (encodes cs) ≤ 24 =
+    omega (arith, ap length e, l) in le_true _ 24 few) (h ∙ ap (list_all is_account_character) e)
+    ∙ account_by_bytes cs

@@ -1,7 +1,9 @@
 -- How deep a value nests in which a member was put, and what is found in one.
-use Rattle.std.proofs.Common.{◌≡◌, ◌≤◌, ℕ, max, Bool, true, false, List, [], ◌∷◌, Option, Some, None, Ordering, Less, Equal, Greater, cond, bytes_eq, refl, ap, arith}
+use Rattle.std.proofs.Common.{◌≡◌, ◌≤◌, ℕ, max, Bool, true, false, List, [], ◌∷◌, Option, Some, None, Ordering, Less}
+use Rattle.std.proofs.Common.{Equal, Greater, cond, bytes_eq, refl, ap, arith}
 use Rattle.std.specs.Ordering.{match_ordering}
-use Rattle.arm_value.specs.Json.{Json, object, Pairs, no_pairs, pair, Member, pairs, members, nesting, pairs_nesting, members_nesting, key_cmp, put}
+use Rattle.arm_value.specs.Json.{Json, object, Pairs, no_pairs, pair, Member, pairs, members, nesting, pairs_nesting}
+use Rattle.arm_value.specs.Json.{members_nesting, key_cmp, put}
 use Rattle.arm_value.specs.Look.{first_by, or_else, look, is_same_folded}
 use Rattle.provider_trait.specs.Act.{FitsAct}
 use Rattle.provider_trait.specs.declared.act.Act.TheVariants.{Put}
@@ -15,13 +17,16 @@ pub members-pairs : (ms : List Member) → members (pairs ms) ≡ ms
 members-pairs [] = refl
 members-pairs (m ∷ ms) = ap (λ r. m ∷ r) (members-pairs ms)
 
-put_nests_by : (o : Ordering) (n : ℕ) (k : List ℕ) (j : Json) (m : Member) (ms : List Member) → nesting j ≤ n → members_nesting (m ∷ ms) ≤ n → members_nesting (put k j ms) ≤ n → members_nesting (match_ordering o ((k, j) ∷ m ∷ ms) ((k, j) ∷ ms) (m ∷ put k j ms)) ≤ n
+put_nests_by : (o : Ordering) (n : ℕ) (k : List ℕ) (j : Json) (m : Member) (ms : List Member) → nesting j ≤ n
+    → members_nesting (m ∷ ms) ≤ n → members_nesting (put k j ms) ≤ n
+    → members_nesting (match_ordering o ((k, j) ∷ m ∷ ms) ((k, j) ∷ ms) (m ∷ put k j ms)) ≤ n
 put_nests_by Less n k j m ms p h r = omega arith
 put_nests_by Equal n k j m ms p h r = omega arith
 put_nests_by Greater n k j m ms p h r = omega arith
 
 -- members with a value put among them nest no deeper than both
-pub put_nests : (n : ℕ) (k : List ℕ) (j : Json) (ms : List Member) → nesting j ≤ n → members_nesting ms ≤ n → members_nesting (put k j ms) ≤ n
+pub put_nests : (n : ℕ) (k : List ℕ) (j : Json) (ms : List Member) → nesting j ≤ n → members_nesting ms ≤ n
+    → members_nesting (put k j ms) ≤ n
 put_nests n k j [] p h = omega arith
 put_nests n k j (m ∷ ms) p h = put_nests_by (key_cmp k m.0) n k j m ms p h (put_nests n k j ms p (omega arith))
 
@@ -29,17 +34,20 @@ first_by_nests : (p : List ℕ → Bool) (ms : Pairs) (v : Json) → first_by p 
 first_by_nests p no_pairs v e = cc
 first_by_nests p (pair k j ms) v e = at (p k) e (first_by_nests p ms v)
   where
-    at : (b : Bool) → cond b (Some j) (first_by p ms) ≡ Some v → (first_by p ms ≡ Some v → nesting v ≤ pairs_nesting ms) → nesting v ≤ max (nesting j) (pairs_nesting ms)
+    at : (b : Bool) → cond b (Some j) (first_by p ms) ≡ Some v
+        → (first_by p ms ≡ Some v → nesting v ≤ pairs_nesting ms) → nesting v ≤ max (nesting j) (pairs_nesting ms)
     at true e h = let same : j ≡ v = cc in omega (arith, ap nesting same)
     at false e h = omega (arith, h e)
 
-either : (a b : Option Json) (v : Json) → or_else a b ≡ Some v → (n : ℕ) → ((w : Json) → a ≡ Some w → nesting w ≤ n) → ((w : Json) → b ≡ Some w → nesting w ≤ n) → nesting v ≤ n
+either : (a b : Option Json) (v : Json) → or_else a b ≡ Some v → (n : ℕ) → ((w : Json) → a ≡ Some w → nesting w ≤ n)
+    → ((w : Json) → b ≡ Some w → nesting w ≤ n) → nesting v ≤ n
 either None b v e n f g = g v e
 either (Some w) b v e n f g = f v e
 
 look_nests : (name : List ℕ) (j v : Json) → look name j ≡ Some v → nesting v ≤ nesting j
 look_nests name (object ms) v e =
-    let h = either (first_by (bytes_eq name) ms) (first_by (is_same_folded name) ms) v e (pairs_nesting ms) (λ w d. first_by_nests (bytes_eq name) ms w d) (λ w d. first_by_nests (is_same_folded name) ms w d) in
+    let h = either (first_by (bytes_eq name) ms) (first_by (is_same_folded name) ms) v e (pairs_nesting ms)
+    (λ w d. first_by_nests (bytes_eq name) ms w d) (λ w d. first_by_nests (is_same_folded name) ms w d) in
     omega (arith, h)
 look_nests name _ v e = cc
 

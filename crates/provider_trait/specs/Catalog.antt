@@ -1,5 +1,6 @@
 -- What the catalogue answers.
-use Rattle.std.specs.Prelude.{◌≡◌, ℕ, ◌&&◌, ◌||◌, not, nat_le, Bool, true, false, List, length, bytes_eq, Option, Some, None, option_and_then, codes, if◌then◌else◌}
+use Rattle.std.specs.Prelude.{◌≡◌, ℕ, ◌&&◌, ◌||◌, not, nat_le, Bool, true, false, List, length, bytes_eq, Option}
+use Rattle.std.specs.Prelude.{Some, None, option_and_then, codes, if◌then◌else◌}
 use Rattle.std.specs.List.{list_all}
 use Rattle.arm_value.specs.Json.{Json, text, object}
 use Rattle.arm_value.specs.Look.{fold, look}
@@ -23,7 +24,10 @@ is_object_or_none (Some _) = false
 -- whether resources of this type have a location
 abbrev pub needs_location : List ℕ → Bool
 needs_location kind =
-    is_storage kind || (bytes_eq (fold kind) (codes "microsoft.network/virtualnetworks") || (bytes_eq (fold kind) (codes "microsoft.web/serverfarms") || bytes_eq (fold kind) (codes "microsoft.web/sites")))
+    is_storage kind
+    || (bytes_eq (fold kind) (codes "microsoft.network/virtualnetworks")
+    || (bytes_eq (fold kind) (codes "microsoft.web/serverfarms") || bytes_eq (fold kind)
+    (codes "microsoft.web/sites")))
 
 -- the name of the body's sku
 abbrev pub sku_name : Json → Option Json
@@ -69,7 +73,8 @@ refused_or_stored None state = Stored state
 
 -- the answer to a job
 abbrev pub catalog_answer : Act → List ℕ → List ℕ → Json → Answer
-catalog_answer Put id api body = refused_or_stored (refusal (full_type id) (full_name id) body) (plain_state id api body)
+catalog_answer Put id api body =
+    refused_or_stored (refusal (full_type id) (full_name id) body) (plain_state id api body)
 catalog_answer Delete id api body = Gone
 
 -- the catalogue answers so, and in no other way

@@ -49,7 +49,10 @@ endpoint name service = codes "https://" ++ (name ++ (codes "." ++ (service ++ c
 -- its four endpoints
 unfoldable pub endpoints : List ℕ → List Member
 endpoints name =
-    put (codes "table") (text (endpoint name (codes "table"))) (put (codes "queue") (text (endpoint name (codes "queue"))) (put (codes "file") (text (endpoint name (codes "file"))) (put (codes "blob") (text (endpoint name (codes "blob"))) [])))
+    put (codes "table") (text (endpoint name (codes "table")))
+    (put (codes "queue") (text (endpoint name (codes "queue")))
+    (put (codes "file") (text (endpoint name (codes "file")))
+    (put (codes "blob") (text (endpoint name (codes "blob"))) [])))
 
 -- the members, for a storage account with its endpoints
 abbrev pub with_endpoints : Bool → List ℕ → List Member → List Member
@@ -59,12 +62,17 @@ with_endpoints false name ms = ms
 -- the body's properties, that it was provisioned, and for a storage account its endpoints
 unfoldable pub stored_properties : List ℕ → List ℕ → Json → List Member
 stored_properties kind name body =
-    with_endpoints (is_storage kind) name (put (codes "provisioningState") (text (codes "Succeeded")) (members_found (look (codes "properties") body)))
+    with_endpoints (is_storage kind) name
+    (put (codes "provisioningState") (text (codes "Succeeded")) (members_found (look (codes "properties") body)))
 
 -- the state of a resource of this type and name
 unfoldable pub state_named : List ℕ → List ℕ → List ℕ → List ℕ → Json → Json
 state_named kind name id api body =
-    object_of (put (codes "properties") (object_of (stored_properties kind name body)) (put (codes "type") (text kind) (put (codes "name") (text name) (put (codes "apiVersion") (text api) (put (codes "id") (text id) (members_of body))))))
+    object_of
+    (put (codes "properties") (object_of (stored_properties kind name body))
+    (put (codes "type") (text kind)
+    (put (codes "name") (text name)
+    (put (codes "apiVersion") (text api) (put (codes "id") (text id) (members_of body))))))
 
 -- the plain state of a put
 abbrev pub plain_state : List ℕ → List ℕ → Json → Json

@@ -6,7 +6,8 @@ use Rattle.arm_value.specs.JsonCode.{json_code}
 use Rattle.provider_trait.specs.Act.{act_code}
 use Rattle.provider_trait.specs.declared.act.Act.{Act}
 
--- the task and the worker, what is to be done with the resource of an id, and the first part of its record in the journal
+-- the task and the worker, what is to be done with the resource of an id, and the first part of its record in the
+-- journal
 pub record Work : Type 0 where
   pub task : ℕ
   pub worker : ℕ
@@ -19,4 +20,19 @@ pub record Work : Type 0 where
 -- work is stored as its parts
 abbrev pub work_code : Coded Work
 work_code =
-    code_by (ℕ × (ℕ × (Act × (List ℕ × (List ℕ × (Json × List ℕ)))))) (coded× coded_ℕ (coded× coded_ℕ (coded× act_code (coded× (coded_list coded_ℕ) (coded× (coded_list coded_ℕ) (coded× json_code (coded_list coded_ℕ))))))) (λ w. (w.task, (w.worker, (w.act, (w.id, (w.api, (w.body, w.first))))))) (λ p. record { task = p.0; worker = p.1.0; act = p.1.1.0; id = p.1.1.1.0; api = p.1.1.1.1.0; body = p.1.1.1.1.1.0; first = p.1.1.1.1.1.1 }) (λ _. refl)
+    code_by (ℕ × (ℕ × (Act × (List ℕ × (List ℕ × (Json × List ℕ))))))
+    (coded× coded_ℕ
+    (coded× coded_ℕ
+    (coded× act_code
+    (coded× (coded_list coded_ℕ) (coded× (coded_list coded_ℕ) (coded× json_code (coded_list coded_ℕ)))))))
+    (λ w. (w.task, (w.worker, (w.act, (w.id, (w.api, (w.body, w.first)))))))
+    (λ p. record {
+      task = p.0;
+      worker = p.1.0;
+      act = p.1.1.0;
+      id = p.1.1.1.0;
+      api = p.1.1.1.1.0;
+      body =
+          p.1.1.1.1.1.0;
+      first = p.1.1.1.1.1.1;
+    }) (λ _. refl)

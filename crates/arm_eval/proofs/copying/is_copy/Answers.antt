@@ -5,4 +5,6 @@ use Rattle.arm_eval.proofs.copying.is_copy.Goals as goal
 
 pub returns : goal.returns
 returns c =
-    c.eq.ensures ∙ bytes_eq-chars c.as_str.result.now (codes "copy") c.as_str.utf8 (search rules) ∙ ap (λ n. bytes_eq n (chars (codes "copy"))) c.as_str.ensures.characters ∙ ap (bytes_eq c.args.name.now) word_copy
+    c.eq.ensures ∙ bytes_eq-chars c.as_str.result.now (codes "copy") c.as_str.utf8 (search rules)
+    ∙ ap (λ n. bytes_eq n (chars (codes "copy"))) c.as_str.ensures.characters
+    ∙ ap (bytes_eq c.args.name.now) word_copy

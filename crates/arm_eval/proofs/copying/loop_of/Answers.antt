@@ -12,15 +12,23 @@ pub returns-in-Some-text_of-clause-copy : goal.returns-in-Some-text_of-clause-co
 returns-in-Some-text_of-clause-copy c =
     let ms = map member c.args.fields.now in
     let ps = parts (pairs ms) in
-    c.with_name.ensures.copy ∙ sym (ap (option_and_then (λ name. with_name name (part_named (codes "count") ps) (part_named (codes "input") ps))) (name_is ms (json c.in-Some.name.now) (c.in-Some.ensures.tree ∙ ap (λ n. option_map tree_in (part_named n ps)) word_name) ∙ sym c.in-Some-text_of.ensures))
+    c.with_name.ensures.copy
+    ∙ sym (ap
+    (option_and_then (λ name. with_name name (part_named (codes "count") ps) (part_named (codes "input") ps)))
+    (name_is ms (json c.in-Some.name.now) (c.in-Some.ensures.tree
+    ∙ ap (λ n. option_map tree_in (part_named n ps)) word_name) ∙ sym c.in-Some-text_of.ensures))
 
 pub returns-in-None-text_of-clause-copy : goal.returns-in-None-text_of-clause-copy
 returns-in-None-text_of-clause-copy c =
     let ms = map member c.args.fields.now in
     let ps = parts (pairs ms) in
-    sym (ap (option_and_then (λ name. with_name name (part_named (codes "count") ps) (part_named (codes "input") ps))) (name_is ms (json c.in-Some.name.now) (c.in-Some.ensures.tree ∙ ap (λ n. option_map tree_in (part_named n ps)) word_name) ∙ sym c.in-None-text_of.ensures))
+    sym (ap (option_and_then (λ name. with_name name (part_named (codes "count") ps) (part_named (codes "input") ps)))
+    (name_is ms (json c.in-Some.name.now) (c.in-Some.ensures.tree
+    ∙ ap (λ n. option_map tree_in (part_named n ps)) word_name) ∙ sym c.in-None-text_of.ensures))
 
 pub returns-in-None-clause-copy : goal.returns-in-None-clause-copy
 returns-in-None-clause-copy c =
     let ps = parts (pairs (map member c.args.fields.now)) in
-    sym (ap (option_and_then (λ name. with_name name (part_named (codes "count") ps) (part_named (codes "input") ps))) (name_missing (part_named (codes "name") ps) (c.in-None.ensures.tree ∙ ap (λ n. option_map tree_in (part_named n ps)) word_name)))
+    sym (ap (option_and_then (λ name. with_name name (part_named (codes "count") ps) (part_named (codes "input") ps)))
+    (name_missing (part_named (codes "name") ps) (c.in-None.ensures.tree
+    ∙ ap (λ n. option_map tree_in (part_named n ps)) word_name)))

@@ -6,4 +6,6 @@ use Rattle.arm_eval.specs.Words.{tree_in}
 use Rattle.arm_eval.proofs.copying.part_named.Given as goal
 
 abbrev pub invariant-loop-field : goal.invariant-loop-field
-invariant-loop-field l = option_map tree_in (part_named (chars l.name) (parts (pairs (map member (drop l.field-index l.fields))))) ≡ option_map tree_in (part_named (chars l.name) (parts (pairs (map member l.fields))))
+invariant-loop-field l =
+    option_map tree_in (part_named (chars l.name) (parts (pairs (map member (drop l.field-index l.fields)))))
+    ≡ option_map tree_in (part_named (chars l.name) (parts (pairs (map member l.fields))))

@@ -10,4 +10,7 @@ pub returns : goal.returns
 returns c =
     let p = known_in c.args.unlisted c.args.env.now in
     c.answer.ensures p (tree_value (json c.args.tree.now) (around c.args.env.now))
-    (subst (λ (ls : List Looping). Gives json c.tree_value.result (answered p (tree_value (json c.args.tree.now) (record (around c.args.env.now) { loops = ls })))) c.as_slice-loops.ensures.value c.tree_value.ensures)
+    (subst
+    (λ (ls : List Looping). Gives json c.tree_value.result
+    (answered p (tree_value (json c.args.tree.now) (record (around c.args.env.now) { loops = ls }))))
+    c.as_slice-loops.ensures.value c.tree_value.ensures)

@@ -12,6 +12,11 @@ loop-field-preserved c =
     let i = c.loop-field.field-index in
     let so_far = names ++ names_of (map member (take i given)) in
     record {
-      names = subst (AreNames c.add_name.new.names) (more_names names given i c.field-item.result c.loop-field-test.true c.field-item.is) (c.in_ok-add_name.ensures.added so_far c.loop-field.invariant.names);
-      free = free_more names given i c.field-item.result _ c.loop-field-test.true c.field-item.is (sym (c.in_ok-add_name.ensures.is_new so_far c.loop-field.invariant.names) ∙ c.if-not-branch.false) c.loop-field.invariant.free;
+      names =
+          subst (AreNames c.add_name.new.names)
+          (more_names names given i c.field-item.result c.loop-field-test.true c.field-item.is)
+          (c.in_ok-add_name.ensures.added so_far c.loop-field.invariant.names);
+      free = free_more names given i c.field-item.result _ c.loop-field-test.true c.field-item.is
+          (sym (c.in_ok-add_name.ensures.is_new so_far c.loop-field.invariant.names) ∙ c.if-not-branch.false)
+          c.loop-field.invariant.free;
     }

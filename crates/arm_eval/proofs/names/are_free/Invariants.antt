@@ -8,5 +8,7 @@ use Rattle.arm_eval.proofs.names.are_free.Given as goal
 abbrev pub invariant-loop-field : goal.invariant-loop-field
 invariant-loop-field l = record {
   names : AreNames l.names (names_of (map member l.fields) ++ names_of (map member (take l.field-index l.given)));
-  free : are_free (names_of (map member l.fields) ++ names_of (map member (take l.field-index l.given))) (names_of (map member (drop l.field-index l.given))) ≡ are_free (names_of (map member l.fields)) (names_of (map member l.given));
+  free : are_free (names_of (map member l.fields) ++ names_of (map member (take l.field-index l.given)))
+      (names_of (map member (drop l.field-index l.given))) ≡ are_free (names_of (map member l.fields))
+      (names_of (map member l.given));
 }

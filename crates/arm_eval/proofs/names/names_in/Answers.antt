@@ -8,4 +8,6 @@ use Rattle.arm_eval.proofs.names.names_in.Goals as goal
 pub loop-field-preserved : goal.loop-field-preserved
 loop-field-preserved c =
     let so_far = names_of (map member (take c.loop-field.field-index c.args.fields.now)) in
-    subst (AreNames c.add_name.new.names) (front_names c.args.fields.now c.loop-field.field-index c.field-item.result c.loop-field-test.true c.field-item.is) (c.in_ok-add_name.ensures.added so_far c.loop-field.invariant)
+    subst (AreNames c.add_name.new.names)
+    (front_names c.args.fields.now c.loop-field.field-index c.field-item.result c.loop-field-test.true
+    c.field-item.is) (c.in_ok-add_name.ensures.added so_far c.loop-field.invariant)

@@ -11,27 +11,45 @@ use Rattle.arm_env.specs.Known.{around}
 use Rattle.arm_env.specs.declared.env.Looping.{Looping}
 use Rattle.arm_env.proofs.Answers.{goes, stops, answered-done}
 use Rattle.arm_eval.proofs.TurnLemmas.{array_given, array_stops, all_given, all_stop}
-use Rattle.arm_eval.proofs.ObjectLemmas.{array_is, object_is, own_copy, own_told, own_stops, given_is, nothing_given, copies_are, no_copies, counted_given, counted_stops, object_told, own_stops_object, given_stops_object}
-use Rattle.arm_eval.proofs.RoundLemmas.{no_value_yet, value_turn, value_stops, no_own_yet, own_turn, own_turn_stops, no_copy_yet, copy_turn, copy_stops, no_turn_yet, index_turn, index_stops, all_turns}
+use Rattle.arm_eval.proofs.ObjectLemmas.{array_is, object_is, own_copy, own_told, own_stops, given_is, nothing_given}
+use Rattle.arm_eval.proofs.ObjectLemmas.{copies_are, no_copies, counted_given, counted_stops, object_told}
+use Rattle.arm_eval.proofs.ObjectLemmas.{own_stops_object, given_stops_object}
+use Rattle.arm_eval.proofs.RoundLemmas.{no_value_yet, value_turn, value_stops, no_own_yet, own_turn, own_turn_stops}
+use Rattle.arm_eval.proofs.RoundLemmas.{no_copy_yet, copy_turn, copy_stops, no_turn_yet, index_turn, index_stops}
+use Rattle.arm_eval.proofs.RoundLemmas.{all_turns}
 use Rattle.arm_eval.proofs.NestLemmas.{tree_nests, given_nest}
 use Rattle.arm_eval.proofs.tree.+tree.Goals as goal
 
 pub tree_value-returns-in-Null : goal.tree_value-returns-in-Null
-tree_value-returns-in-Null t c = ap (λ v. answered (known_by c.args.sight.now) (tree_value (json v) (here c.args.sight.now))) c.in-Null.is ∙ answered-done (known_by c.args.sight.now) (Some null)
+tree_value-returns-in-Null t c =
+    ap (λ v. answered (known_by c.args.sight.now) (tree_value (json v) (here c.args.sight.now))) c.in-Null.is
+    ∙ answered-done (known_by c.args.sight.now) (Some null)
 
 pub tree_value-returns-in-Bool : goal.tree_value-returns-in-Bool
-tree_value-returns-in-Bool t c = ap (λ v. answered (known_by c.args.sight.now) (tree_value (json v) (here c.args.sight.now))) c.in-Bool.is ∙ answered-done (known_by c.args.sight.now) (Some (bool c.in-Bool.truth))
+tree_value-returns-in-Bool t c =
+    ap (λ v. answered (known_by c.args.sight.now) (tree_value (json v) (here c.args.sight.now))) c.in-Bool.is
+    ∙ answered-done (known_by c.args.sight.now) (Some (bool c.in-Bool.truth))
 
 pub tree_value-returns-in-Int : goal.tree_value-returns-in-Int
-tree_value-returns-in-Int t c = ap (λ v. answered (known_by c.args.sight.now) (tree_value (json v) (here c.args.sight.now))) c.in-Int.is ∙ answered-done (known_by c.args.sight.now) (Some (int c.in-Int.number)) ∙ search rules
+tree_value-returns-in-Int t c =
+    ap (λ v. answered (known_by c.args.sight.now) (tree_value (json v) (here c.args.sight.now))) c.in-Int.is
+    ∙ answered-done (known_by c.args.sight.now) (Some (int c.in-Int.number)) ∙ search rules
 
 pub outcome-returns-in-Ok-clause-nests : goal.outcome-returns-in-Ok-clause-nests
-outcome-returns-in-Ok-clause-nests t c = tree_nests (known_by c.args.sight.now) (here c.args.sight.now) (json c.args.tree.now) (json c.in-Ok.value) c.in-Ok.ensures
+outcome-returns-in-Ok-clause-nests t c =
+    tree_nests (known_by c.args.sight.now) (here c.args.sight.now) (json c.args.tree.now) (json c.in-Ok.value)
+    c.in-Ok.ensures
 
 -- ---- the values of trees
 
 pub values-outcome-requires : goal.values-outcome-requires
-values-outcome-requires t c = omega (arith, item_nests c.args.trees.now c.loop-tree.tree-index c.tree-item.result c.loop-tree-test.true c.tree-item.is, c.decreases)
+values-outcome-requires t c =
+    omega (
+      arith,
+      item_nests c.args.trees.now c.loop-tree.tree-index c.tree-item.result c.loop-tree-test.true
+          c.tree-item.is,
+      c.decreases,
+    )
 
 pub values-loop-tree-init : goal.values-loop-tree-init
 values-loop-tree-init t c = no_value_yet (known_by c.args.sight.now) (here c.args.sight.now) _ (ap Some c.new.ensures)
@@ -39,47 +57,77 @@ values-loop-tree-init t c = no_value_yet (known_by c.args.sight.now) (here c.arg
 pub values-returns-in_err-value : goal.values-returns-in_err-value
 values-returns-in_err-value t c =
     let r = err_from_is_err_and c.from_residual.result c.from_residual.ensures.1 in
-    rw (r.1, r.2) (value_stops (known_by c.args.sight.now) (here c.args.sight.now) _ c.args.trees.now c.loop-tree.tree-index c.tree-item.result c.loop-tree.values c.loop-tree-test.true c.tree-item.is c.loop-tree.invariant c.in_err-value.ensures.value)
+    rw (r.1, r.2)
+    (value_stops (known_by c.args.sight.now) (here c.args.sight.now) _ c.args.trees.now c.loop-tree.tree-index
+    c.tree-item.result c.loop-tree.values c.loop-tree-test.true c.tree-item.is c.loop-tree.invariant
+    c.in_err-value.ensures.value)
 
 pub values-loop-tree-preserved : goal.values-loop-tree-preserved
 values-loop-tree-preserved t c =
-    value_turn (known_by c.args.sight.now) (here c.args.sight.now) c.args.trees.now c.loop-tree.tree-index c.tree-item.result c.loop-tree.values _ c.loop-tree-test.true c.tree-item.is c.loop-tree.invariant c.in_ok-value.ensures.value
+    value_turn (known_by c.args.sight.now) (here c.args.sight.now) c.args.trees.now c.loop-tree.tree-index
+    c.tree-item.result c.loop-tree.values _ c.loop-tree-test.true c.tree-item.is c.loop-tree.invariant
+    c.in_ok-value.ensures.value
     ∙ ap given (sym c.in_ok-values.ensures)
 
 -- ---- own members
 
 pub own_members-own_member-requires : goal.own_members-own_member-requires
-own_members-own_member-requires t c = omega (arith, member_nests c.args.fields.now c.loop-field.field-index c.field-item.result c.loop-field-test.true c.field-item.is, c.decreases)
+own_members-own_member-requires t c =
+    omega (
+      arith,
+      member_nests c.args.fields.now c.loop-field.field-index c.field-item.result c.loop-field-test.true
+          c.field-item.is,
+      c.decreases,
+    )
 
 pub own_members-loop-field-init : goal.own_members-loop-field-init
-own_members-loop-field-init t c = no_own_yet (known_by c.args.sight.now) (here c.args.sight.now) _ (ap Some c.new.ensures)
+own_members-loop-field-init t c =
+    no_own_yet (known_by c.args.sight.now) (here c.args.sight.now) _ (ap Some c.new.ensures)
 
 pub own_members-returns-in_err-found : goal.own_members-returns-in_err-found
 own_members-returns-in_err-found t c =
     let r = err_from_is_err_and c.from_residual.result c.from_residual.ensures.1 in
-    rw (r.1, r.2) (own_turn_stops (known_by c.args.sight.now) (here c.args.sight.now) _ c.args.fields.now c.loop-field.field-index c.field-item.result c.loop-field.own c.loop-field-test.true c.field-item.is c.loop-field.invariant c.in_err-found.ensures.value)
+    rw (r.1, r.2)
+    (own_turn_stops (known_by c.args.sight.now) (here c.args.sight.now) _ c.args.fields.now
+    c.loop-field.field-index c.field-item.result c.loop-field.own c.loop-field-test.true c.field-item.is
+    c.loop-field.invariant c.in_err-found.ensures.value)
 
 pub own_members-loop-field-preserved : goal.own_members-loop-field-preserved
 own_members-loop-field-preserved t c =
-    own_turn (known_by c.args.sight.now) (here c.args.sight.now) c.args.fields.now c.loop-field.field-index c.field-item.result c.loop-field.own _ c.loop-field-test.true c.field-item.is c.loop-field.invariant c.in_ok-found.ensures.value
+    own_turn (known_by c.args.sight.now) (here c.args.sight.now) c.args.fields.now c.loop-field.field-index
+    c.field-item.result c.loop-field.own _ c.loop-field-test.true c.field-item.is c.loop-field.invariant
+    c.in_ok-found.ensures.value
     ∙ ap given (sym c.in_ok-own.ensures)
 
 -- ---- the members that loops give
 
 pub each_copied-copied_outcome-requires : goal.each_copied-copied_outcome-requires
-each_copied-copied_outcome-requires t c = omega (arith, item_nests c.args.trees.now c.loop-tree.tree-index c.tree-item.result c.loop-tree-test.true c.tree-item.is, c.decreases)
+each_copied-copied_outcome-requires t c =
+    omega (
+      arith,
+      item_nests c.args.trees.now c.loop-tree.tree-index c.tree-item.result c.loop-tree-test.true
+          c.tree-item.is,
+      c.decreases,
+    )
 
 pub each_copied-loop-tree-init : goal.each_copied-loop-tree-init
-each_copied-loop-tree-init t c = no_copy_yet (known_by c.args.sight.now) (here c.args.sight.now) _ (ap (λ vs. Some (map member vs)) c.new.ensures.items)
+each_copied-loop-tree-init t c =
+    no_copy_yet (known_by c.args.sight.now) (here c.args.sight.now) _
+    (ap (λ vs. Some (map member vs)) c.new.ensures.items)
 
 pub each_copied-returns-in_err-field : goal.each_copied-returns-in_err-field
 each_copied-returns-in_err-field t c =
     let r = err_from_is_err_and c.from_residual.result c.from_residual.ensures.1 in
-    rw (r.1, r.2) (copy_stops (known_by c.args.sight.now) (here c.args.sight.now) _ c.args.trees.now c.loop-tree.tree-index c.tree-item.result (option_map (λ v. map member v.items) c.loop-tree.given) c.loop-tree-test.true c.tree-item.is c.loop-tree.invariant c.in_err-field.ensures)
+    rw (r.1, r.2)
+    (copy_stops (known_by c.args.sight.now) (here c.args.sight.now) _ c.args.trees.now c.loop-tree.tree-index
+    c.tree-item.result (option_map (λ v. map member v.items) c.loop-tree.given) c.loop-tree-test.true
+    c.tree-item.is c.loop-tree.invariant c.in_err-field.ensures)
 
 pub each_copied-loop-tree-preserved : goal.each_copied-loop-tree-preserved
 each_copied-loop-tree-preserved t c =
-    copy_turn (known_by c.args.sight.now) (here c.args.sight.now) c.args.trees.now c.loop-tree.tree-index c.tree-item.result (option_map (λ v. map member v.items) c.loop-tree.given) _ c.loop-tree-test.true c.tree-item.is c.loop-tree.invariant c.in_ok-field.ensures
+    copy_turn (known_by c.args.sight.now) (here c.args.sight.now) c.args.trees.now c.loop-tree.tree-index
+    c.tree-item.result (option_map (λ v. map member v.items) c.loop-tree.given) _ c.loop-tree-test.true
+    c.tree-item.is c.loop-tree.invariant c.in_ok-field.ensures
     ∙ ap given (sym c.in_ok-given.ensures)
 
 -- ---- an array
@@ -87,147 +135,232 @@ each_copied-loop-tree-preserved t c =
 pub array_value-returns-in_err-values : goal.array_value-returns-in_err-values
 array_value-returns-in_err-values t c =
     let r = err_from_is_err_and c.from_residual.result c.from_residual.ensures.1 in
-    rw (r.1, r.2, array_is (here c.args.sight.now) c.args.items.now c.as_slice.result.now c.as_slice.ensures.items) (array_stops (known_by c.args.sight.now) _ _ c.in_err-values.ensures)
+    rw (r.1, r.2, array_is (here c.args.sight.now) c.args.items.now c.as_slice.result.now c.as_slice.ensures.items)
+    (array_stops (known_by c.args.sight.now) _ _ c.in_err-values.ensures)
 
 pub array_value-returns : goal.array_value-returns
 array_value-returns t c =
     let p = known_by c.args.sight.now in
     let P : Answer Json → Type 0 = Gives json c.array_of.result in
-    subst P (sym (ap (answered p) (array_is (here c.args.sight.now) c.args.items.now c.as_slice.result.now c.as_slice.ensures.items) ∙ array_given p _ _ c.in_ok-values.ensures)) c.array_of.ensures
+    subst P
+    (sym
+    (ap (answered p)
+    (array_is (here c.args.sight.now) c.args.items.now c.as_slice.result.now c.as_slice.ensures.items)
+    ∙ array_given p _ _ c.in_ok-values.ensures)) c.array_of.ensures
 
 -- ---- an own member
 
 pub own_member-returns-then-is_copy-clause-value : goal.own_member-returns-then-is_copy-clause-value
-own_member-returns-then-is_copy-clause-value t c = own_copy (known_by c.args.sight.now) c.args.field.now.name _ (sym c.is_copy.ensures ∙ c.if-is_copy.true)
+own_member-returns-then-is_copy-clause-value t c =
+    own_copy (known_by c.args.sight.now) c.args.field.now.name _ (sym c.is_copy.ensures ∙ c.if-is_copy.true)
 
 pub own_member-returns-in_err-value-clause-value : goal.own_member-returns-in_err-value-clause-value
 own_member-returns-in_err-value-clause-value t c =
     let r = err_from_is_err_and c.from_residual.result c.from_residual.ensures.1 in
-    rw (r.1, r.2) (own_stops (known_by c.args.sight.now) _ c.args.field.now.name _ (sym c.is_copy.ensures ∙ c.if-is_copy.false) c.in_err-value.ensures.value)
+    rw (r.1, r.2) (own_stops (known_by c.args.sight.now) _ c.args.field.now.name _ (sym c.is_copy.ensures
+    ∙ c.if-is_copy.false) c.in_err-value.ensures.value)
 
 pub own_member-returns-in-Some-clause-value : goal.own_member-returns-in-Some-clause-value
 own_member-returns-in-Some-clause-value t c =
-    own_told (known_by c.args.sight.now) c.args.field.now.name _ (Some (json c.in-Some.value)) (sym c.is_copy.ensures ∙ c.if-is_copy.false) (c.in_ok-value.ensures.value ∙ ap (λ o. is (option_map json o)) c.in-Some.is)
+    own_told (known_by c.args.sight.now) c.args.field.now.name _ (Some (json c.in-Some.value)) (sym c.is_copy.ensures
+    ∙ c.if-is_copy.false) (c.in_ok-value.ensures.value ∙ ap (λ o. is (option_map json o)) c.in-Some.is)
 
 pub own_member-returns-in-None-clause-value : goal.own_member-returns-in-None-clause-value
 own_member-returns-in-None-clause-value t c =
-    own_told (known_by c.args.sight.now) c.args.field.now.name _ None (sym c.is_copy.ensures ∙ c.if-is_copy.false) (c.in_ok-value.ensures.value ∙ ap (λ o. is (option_map json o)) c.in-None.is)
+    own_told (known_by c.args.sight.now) c.args.field.now.name _ None (sym c.is_copy.ensures ∙ c.if-is_copy.false)
+    (c.in_ok-value.ensures.value ∙ ap (λ o. is (option_map json o)) c.in-None.is)
 
 -- ---- the members that `copy` gives
 
 pub given_members-returns-in-Some : goal.given_members-returns-in-Some
 given_members-returns-in-Some t c =
     let P : Answer (List Member) → Type 0 = Gives (λ v. map member v.items) c.copies.result in
-    subst P (sym (ap (answered (known_by c.args.sight.now)) (given_is (here c.args.sight.now) (map member c.args.fields.now) (json c.in-Some.tree.now) c.in-Some.ensures.tree))) c.copies.ensures
+    subst P
+    (sym
+    (ap (answered (known_by c.args.sight.now))
+    (given_is (here c.args.sight.now) (map member c.args.fields.now) (json c.in-Some.tree.now)
+    c.in-Some.ensures.tree))) c.copies.ensures
 
 pub given_members-returns-in-None : goal.given_members-returns-in-None
 given_members-returns-in-None t c =
-    nothing_given (known_by c.args.sight.now) (here c.args.sight.now) (map member c.args.fields.now) c.in-None.ensures.tree ∙ ap (λ vs. is (map member vs)) (sym c.new.ensures.items)
+    nothing_given (known_by c.args.sight.now) (here c.args.sight.now) (map member c.args.fields.now)
+    c.in-None.ensures.tree ∙ ap (λ vs. is (map member vs)) (sym c.new.ensures.items)
 
 pub copies-returns-in_err-given-in-Some : goal.copies-returns-in_err-given-in-Some
 copies-returns-in_err-given-in-Some t c =
     let r = err_from_is_err_and c.from_residual.result c.from_residual.ensures.1 in
-    rw (r.1, r.2, copies_are (here c.args.sight.now) (json c.args.tree.now) c.in-Some.trees.now c.in-Some.ensures.trees) (all_stop (known_by c.args.sight.now) _ _ c.in_err-given-in-Some.ensures)
+    rw (
+      r.1,
+      r.2,
+      copies_are (here c.args.sight.now) (json c.args.tree.now) c.in-Some.trees.now c.in-Some.ensures.trees,
+    )
+    (all_stop (known_by c.args.sight.now) _ _ c.in_err-given-in-Some.ensures)
 
 pub copies-returns-in_ok-given-in-Some : goal.copies-returns-in_ok-given-in-Some
 copies-returns-in_ok-given-in-Some t c =
     let p = known_by c.args.sight.now in
     let P : Answer (List Member) → Type 0 = Gives (λ v. map member v.items) c.all_given.result in
-    subst P (sym (ap (answered p) (copies_are (here c.args.sight.now) (json c.args.tree.now) c.in-Some.trees.now c.in-Some.ensures.trees) ∙ all_given p _ _ c.in_ok-given-in-Some.ensures)) c.all_given.ensures
+    subst P
+    (sym
+    (ap (answered p)
+    (copies_are (here c.args.sight.now) (json c.args.tree.now) c.in-Some.trees.now c.in-Some.ensures.trees)
+    ∙ all_given p _ _ c.in_ok-given-in-Some.ensures)) c.all_given.ensures
 
 pub copies-returns-in-None : goal.copies-returns-in-None
-copies-returns-in-None t c = no_copies (known_by c.args.sight.now) (here c.args.sight.now) (json c.args.tree.now) c.in-None.ensures.trees
+copies-returns-in-None t c =
+    no_copies (known_by c.args.sight.now) (here c.args.sight.now) (json c.args.tree.now) c.in-None.ensures.trees
 
 -- ---- an object
 
 pub object_value-returns-in_err-own : goal.object_value-returns-in_err-own
 object_value-returns-in_err-own t c =
     let r = err_from_is_err_and c.from_residual.result c.from_residual.ensures.1 in
-    rw (r.1, r.2, object_is (here c.args.sight.now) c.args.fields.now c.as_slice-fields.result.now c.as_slice-fields.ensures.members) (own_stops_object (known_by c.args.sight.now) _ _ _ _ c.in_err-own.ensures)
+    rw (
+      r.1,
+      r.2,
+      object_is (here c.args.sight.now) c.args.fields.now c.as_slice-fields.result.now
+          c.as_slice-fields.ensures.members,
+    ) (own_stops_object (known_by c.args.sight.now) _ _ _ _ c.in_err-own.ensures)
 
 pub object_value-returns-in_err-given : goal.object_value-returns-in_err-given
 object_value-returns-in_err-given t c =
     let r = err_from_is_err_and c.from_residual-in_err-given.result c.from_residual-in_err-given.ensures.1 in
-    rw (r.1, r.2, object_is (here c.args.sight.now) c.args.fields.now c.as_slice-fields.result.now c.as_slice-fields.ensures.members) (given_stops_object (known_by c.args.sight.now) _ _ _ _ _ c.in_ok-own.ensures c.in_err-given.ensures)
+    rw (
+      r.1,
+      r.2,
+      object_is (here c.args.sight.now) c.args.fields.now c.as_slice-fields.result.now
+          c.as_slice-fields.ensures.members,
+    )
+    (given_stops_object (known_by c.args.sight.now) _ _ _ _ _ c.in_ok-own.ensures c.in_err-given.ensures)
 
 pub object_value-returns : goal.object_value-returns
 object_value-returns t c =
     let p = known_by c.args.sight.now in
     let P : Answer Json → Type 0 = Gives json c.whole_object.result in
-    subst P (sym (ap (answered p) (object_is (here c.args.sight.now) c.args.fields.now c.as_slice-fields.result.now c.as_slice-fields.ensures.members) ∙ object_told p _ _ _ _ _ c.in_ok-own.ensures c.in_ok-given.ensures)) c.whole_object.ensures
+    subst P
+    (sym
+    (ap (answered p)
+    (object_is (here c.args.sight.now) c.args.fields.now c.as_slice-fields.result.now
+    c.as_slice-fields.ensures.members) ∙ object_told p _ _ _ _ _ c.in_ok-own.ensures c.in_ok-given.ensures))
+    c.whole_object.ensures
 
 pub object_value-whole_object-requires : goal.object_value-whole_object-requires
 object_value-whole_object-requires t c =
-    let deep = given_nest (known_by c.args.sight.now) (here c.args.sight.now) (map member c.as_slice-fields.result.now) (map member c.in_ok-given.given.items) c.in_ok-given.ensures in
+    let deep =
+    given_nest (known_by c.args.sight.now) (here c.args.sight.now) (map member c.as_slice-fields.result.now)
+    (map member c.in_ok-given.given.items) c.in_ok-given.ensures in
     omega (arith, deep)
 
 -- ---- a loop
 
 pub copied-returns-in-None : goal.copied-returns-in-None
 copied-returns-in-None t c =
-    ap (λ o. answered (known_by c.args.sight.now) (copied (here c.args.sight.now) o)) (sym c.in-None.ensures.copy) ∙ answered-done (known_by c.args.sight.now) None
+    ap (λ o. answered (known_by c.args.sight.now) (copied (here c.args.sight.now) o)) (sym c.in-None.ensures.copy)
+    ∙ answered-done (known_by c.args.sight.now) None
 
 pub counting-returns-in_err-value : goal.counting-returns-in_err-value
 counting-returns-in_err-value t c =
     let r = err_from_is_err_and c.from_residual.result c.from_residual.ensures.1 in
-    rw (r.1, r.2) (stops _ (known_by c.args.sight.now) (tree_value (json c.args.tree.now) (here c.args.sight.now)) _ c.in_err-value.ensures)
+    rw (r.1, r.2) (stops _ (known_by c.args.sight.now) (tree_value (json c.args.tree.now) (here c.args.sight.now)) _
+    c.in_err-value.ensures)
 
 pub counting-returns-in-Some : goal.counting-returns-in-Some
 counting-returns-in-Some t c =
     let p = known_by c.args.sight.now in
-    goes p (tree_value (json c.args.tree.now) (here c.args.sight.now)) _ _ c.in_ok-value.ensures ∙ answered-done p (count_of (json c.in_ok-value.value)) ∙ ap given (sym c.in-Some.ensures)
+    goes p (tree_value (json c.args.tree.now) (here c.args.sight.now)) _ _ c.in_ok-value.ensures
+    ∙ answered-done p (count_of (json c.in_ok-value.value)) ∙ ap given (sym c.in-Some.ensures)
 
 pub counting-returns : goal.counting-returns
 counting-returns t c =
     let p = known_by c.args.sight.now in
-    goes p (tree_value (json c.args.tree.now) (here c.args.sight.now)) _ _ c.in_ok-value.ensures ∙ answered-done p (count_of (json c.in_ok-value.value)) ∙ ap given (sym c.in-None.ensures)
+    goes p (tree_value (json c.args.tree.now) (here c.args.sight.now)) _ _ c.in_ok-value.ensures
+    ∙ answered-done p (count_of (json c.in_ok-value.value)) ∙ ap given (sym c.in-None.ensures)
 
 pub copied-returns-in_err-count-in-Some : goal.copied-returns-in_err-count-in-Some
 copied-returns-in_err-count-in-Some t c =
     let r = err_from_is_err_and c.from_residual.result c.from_residual.ensures.1 in
-    rw (r.1, r.2, sym c.in-Some.ensures.copy) (stops _ (known_by c.args.sight.now) (counting (tree_value (json c.in-Some.copy.count.now) (here c.args.sight.now))) _ c.in_err-count-in-Some.ensures)
+    rw (r.1, r.2, sym c.in-Some.ensures.copy)
+    (stops _ (known_by c.args.sight.now)
+    (counting (tree_value (json c.in-Some.copy.count.now) (here c.args.sight.now))) _
+    c.in_err-count-in-Some.ensures)
 
 pub copied-returns-in_err-values-in-Some : goal.copied-returns-in_err-values-in-Some
 copied-returns-in_err-values-in-Some t c =
-    let r = err_from_is_err_and c.from_residual-in_err-values-in-Some.result c.from_residual-in_err-values-in-Some.ensures.1 in
+    let r =
+    err_from_is_err_and c.from_residual-in_err-values-in-Some.result
+    c.from_residual-in_err-values-in-Some.ensures.1 in
     let p = known_by c.args.sight.now in
-    rw (r.1, r.2, sym c.in-Some.ensures.copy, goes p (counting (tree_value (json c.in-Some.copy.count.now) (here c.args.sight.now))) (counted (copying_of c.in-Some.copy) (here c.args.sight.now)) c.in_ok-count-in-Some.count c.in_ok-count-in-Some.ensures)
-    (counted_stops p _ (copying_of c.in-Some.copy) (here c.args.sight.now) c.in_ok-count-in-Some.count c.in_err-values-in-Some.ensures)
+    rw (
+      r.1,
+      r.2,
+      sym c.in-Some.ensures.copy,
+      goes p (counting (tree_value (json c.in-Some.copy.count.now) (here c.args.sight.now)))
+          (counted (copying_of c.in-Some.copy) (here c.args.sight.now)) c.in_ok-count-in-Some.count
+          c.in_ok-count-in-Some.ensures,
+    )
+    (counted_stops p _ (copying_of c.in-Some.copy) (here c.args.sight.now) c.in_ok-count-in-Some.count
+    c.in_err-values-in-Some.ensures)
 
 pub copied-returns-in_ok-values-in-Some : goal.copied-returns-in_ok-values-in-Some
 copied-returns-in_ok-values-in-Some t c =
     let p = known_by c.args.sight.now in
     let h = here c.args.sight.now in
     let P : Answer Member → Type 0 = Gives member c.field_of.result in
-    let whole = ap (λ o. answered p (copied h o)) (sym c.in-Some.ensures.copy) ∙ goes p (counting (tree_value (json c.in-Some.copy.count.now) h)) (counted (copying_of c.in-Some.copy) h) c.in_ok-count-in-Some.count c.in_ok-count-in-Some.ensures in
-    subst P (sym (whole ∙ counted_given p (copying_of c.in-Some.copy) h c.in_ok-count-in-Some.count _ c.in_ok-values-in-Some.ensures)) c.field_of.ensures
+    let whole = ap (λ o. answered p (copied h o)) (sym c.in-Some.ensures.copy)
+    ∙ goes p (counting (tree_value (json c.in-Some.copy.count.now) h)) (counted (copying_of c.in-Some.copy) h)
+    c.in_ok-count-in-Some.count c.in_ok-count-in-Some.ensures in
+    subst P
+    (sym (whole
+    ∙ counted_given p (copying_of c.in-Some.copy) h c.in_ok-count-in-Some.count _ c.in_ok-values-in-Some.ensures))
+    c.field_of.ensures
 
 -- ---- the turns of a loop
 
 pub turns-loop-index-init : goal.turns-loop-index-init
 turns-loop-index-init t c = record {
   nearest = (0, c.in_ok-loops.ensures);
-  values = no_turn_yet (known_by c.args.sight.now) (copying_of c.args.copy.now) (here c.args.sight.now) (Some c.new.result) (ap Some c.new.ensures);
+  values = no_turn_yet (known_by c.args.sight.now) (copying_of c.args.copy.now) (here c.args.sight.now)
+      (Some c.new.result) (ap Some c.new.ensures);
 }
 
 pub turns-returns-in_err-value : goal.turns-returns-in_err-value
 turns-returns-in_err-value t c =
     let r = err_from_is_err_and c.from_residual-in_err-value.result c.from_residual-in_err-value.ensures.1 in
     let p = known_by c.args.sight.now in
-    let near = c.as_slice.ensures.value ∙ c.turn_to.ensures c.args.copy.now.name.now c.loop-index.invariant.nearest.0 c.args.sight.now.loops.now c.loop-index.invariant.nearest.1 in
-    let P : List Looping → Type 0 = λ ls. Stops c.in_err-value.field-0.0 (outcome_answer (answered p (tree_value (json c.args.copy.now.input.now) (record (around c.args.sight.now.env.now) { loops = ls })))) in
-    rw (r.1, r.2) (index_stops p (copying_of c.args.copy.now) (here c.args.sight.now) c.in_err-value.field-0.0 c.args.count c.loop-index.index c.loop-index.values c.loop-index-test.true c.loop-index.invariant.values (subst P near c.in_err-value.ensures.value))
+    let near = c.as_slice.ensures.value
+    ∙ c.turn_to.ensures c.args.copy.now.name.now c.loop-index.invariant.nearest.0 c.args.sight.now.loops.now
+    c.loop-index.invariant.nearest.1 in
+    let P : List Looping
+    → Type 0 =
+    λ ls. Stops c.in_err-value.field-0.0
+    (outcome_answer
+    (answered p
+    (tree_value (json c.args.copy.now.input.now) (record (around c.args.sight.now.env.now) { loops = ls })))) in
+    rw (r.1, r.2) (index_stops p (copying_of c.args.copy.now) (here c.args.sight.now) c.in_err-value.field-0.0
+    c.args.count c.loop-index.index c.loop-index.values c.loop-index-test.true c.loop-index.invariant.values
+    (subst P near c.in_err-value.ensures.value))
 
 pub turns-loop-index-preserved : goal.turns-loop-index-preserved
 turns-loop-index-preserved t c =
     let p = known_by c.args.sight.now in
-    let turned = c.turn_to.ensures c.args.copy.now.name.now c.loop-index.invariant.nearest.0 c.args.sight.now.loops.now c.loop-index.invariant.nearest.1 in
+    let turned =
+    c.turn_to.ensures c.args.copy.now.name.now c.loop-index.invariant.nearest.0 c.args.sight.now.loops.now
+    c.loop-index.invariant.nearest.1 in
     let near = c.as_slice.ensures.value ∙ turned in
-    let P : List Looping → Type 0 = λ ls. outcome_answer (answered p (tree_value (json c.args.copy.now.input.now) (record (around c.args.sight.now.env.now) { loops = ls }))) ≡ is (option_map json c.in_ok-value.value) in
+    let P : List Looping
+    → Type 0 =
+    λ ls. outcome_answer
+    (answered p
+    (tree_value (json c.args.copy.now.input.now) (record (around c.args.sight.now.env.now) { loops = ls })))
+    ≡ is (option_map json c.in_ok-value.value) in
     record {
       nearest = (c.loop-index.index, turned);
-      values = index_turn p (copying_of c.args.copy.now) (here c.args.sight.now) c.args.count c.loop-index.index c.loop-index.values (option_map json c.in_ok-value.value) c.loop-index-test.true c.loop-index.invariant.values (subst P near c.in_ok-value.ensures.value) ∙ ap given (sym c.in_ok-values.ensures);
+      values = index_turn p (copying_of c.args.copy.now) (here c.args.sight.now) c.args.count c.loop-index.index
+          c.loop-index.values (option_map json c.in_ok-value.value) c.loop-index-test.true
+          c.loop-index.invariant.values (subst P near c.in_ok-value.ensures.value)
+          ∙ ap given (sym c.in_ok-values.ensures);
     }
 
 pub turns-returns : goal.turns-returns
-turns-returns t c = all_turns (known_by c.args.sight.now) (copying_of c.args.copy.now) (here c.args.sight.now) c.args.count c.loop-index.index c.loop-index.values c.loop-index-test.false c.loop-index.invariant.values
+turns-returns t c = all_turns (known_by c.args.sight.now) (copying_of c.args.copy.now) (here c.args.sight.now)
+    c.args.count c.loop-index.index c.loop-index.values c.loop-index-test.false c.loop-index.invariant.values

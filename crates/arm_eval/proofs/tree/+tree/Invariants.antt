@@ -54,18 +54,22 @@ decreases-object_value l = 8 * members_nesting l.fields.now + 6
 
 -- what is there so far, or nothing where one has no value
 abbrev pub invariant-values-loop-tree : goal.invariant-values-loop-tree
-invariant-values-loop-tree l = gathered (λ vs. vs) (known_by l.sight) (values_of (here l.sight) (take l.tree-index l.trees)) ≡ given l.values
+invariant-values-loop-tree l =
+    gathered (λ vs. vs) (known_by l.sight) (values_of (here l.sight) (take l.tree-index l.trees)) ≡ given l.values
 
 abbrev pub invariant-own_members-loop-field : goal.invariant-own_members-loop-field
-invariant-own_members-loop-field l = gathered put_all (known_by l.sight) (owns_of (here l.sight) (take l.field-index l.fields)) ≡ given l.own
+invariant-own_members-loop-field l =
+    gathered put_all (known_by l.sight) (owns_of (here l.sight) (take l.field-index l.fields)) ≡ given l.own
 
 abbrev pub invariant-each_copied-loop-tree : goal.invariant-each_copied-loop-tree
 invariant-each_copied-loop-tree l =
-    gathered (λ ms. ms) (known_by l.sight) (copies_of (here l.sight) (take l.tree-index l.trees)) ≡ given (option_map (λ v. map member v.items) l.given)
+    gathered (λ ms. ms) (known_by l.sight) (copies_of (here l.sight) (take l.tree-index l.trees))
+    ≡ given (option_map (λ v. map member v.items) l.given)
 
 -- and the nearest loop is that of the copy
 abbrev pub invariant-turns-loop-index : goal.invariant-turns-loop-index
 invariant-turns-loop-index l = record {
   nearest : (k : ℕ) × (l.loops.items ≡ looping_of l.copy.name.now k ∷ l.sight.loops.now);
-  values : gathered (λ vs. vs) (known_by l.sight) (map (turn_at (copying_of l.copy) (here l.sight)) (take l.index (below l.count))) ≡ given l.values;
+  values : gathered (λ vs. vs) (known_by l.sight)
+      (map (turn_at (copying_of l.copy) (here l.sight)) (take l.index (below l.count))) ≡ given l.values;
 }

@@ -10,7 +10,13 @@ returns-in-None c =
     let i = c.loop-d.d-index in
     let d = c.d-item.result in
     let e = at_drop_more (value_from c.loop-d.n) ds i d (omega arith) in
-    omega (arith, e, c.loop-d.invariant, value_from-grows (10 * c.loop-d.n + (get_or ds i d - 48)) (drop (i + 1) ds), c.in-None.ensures)
+    omega (
+      arith,
+      e,
+      c.loop-d.invariant,
+      value_from-grows (10 * c.loop-d.n + (get_or ds i d - 48)) (drop (i + 1) ds),
+      c.in-None.ensures,
+    )
 
 pub returns-in-None-checked_add : goal.returns-in-None-checked_add
 returns-in-None-checked_add c =
@@ -18,4 +24,14 @@ returns-in-None-checked_add c =
     let i = c.loop-d.d-index in
     let d = c.d-item.result in
     let e = at_drop_more (value_from c.loop-d.n) ds i d (omega arith) in
-    omega (arith, e, c.loop-d.invariant, value_from-grows (10 * c.loop-d.n + (get_or ds i d - 48)) (drop (i + 1) ds), c.in-None-checked_add.ensures, c.in-Some.ensures, c.saturating_sub-unit.ensures, c.from-in-loop-d.ensures, c.d-item.is)
+    omega (
+      arith,
+      e,
+      c.loop-d.invariant,
+      value_from-grows (10 * c.loop-d.n + (get_or ds i d - 48)) (drop (i + 1) ds),
+      c.in-None-checked_add.ensures,
+      c.in-Some.ensures,
+      c.saturating_sub-unit.ensures,
+      c.from-in-loop-d.ensures,
+      c.d-item.is,
+    )

@@ -5,4 +5,5 @@ use Rattle.arm_expr.specs.View.{text_of}
 use Rattle.arm_expr.proofs.printer.put_doubled.Given as goal
 
 abbrev pub invariant-loop-c : goal.invariant-loop-c
-invariant-loop-c l = text_of l.out ++ doubled (drop (length l.yielded) (chars l.text)) ≡ text_of l.fn.out ++ doubled (chars l.text)
+invariant-loop-c l = text_of l.out ++ doubled (drop (length l.yielded) (chars l.text)) ≡ text_of l.fn.out
+    ++ doubled (chars l.text)

@@ -9,5 +9,7 @@ use Rattle.arm_expr.proofs.printer.text_in_brackets.Goals as goal
 pub returns-clause-text : goal.returns-clause-text
 returns-clause-text c =
     c.from_string.ensures.characters
-    ∙ whole_text (text_of c.new-out.result) (text_of c.put.new.out) (text_of c.put_expr.new.out) (text_of c.put-2.new.out) (printed_onto (tree_of c.args.e.now))
-    (ap chars c.new-out.ensures.bytes ∙ chars-nil) c.in_ok-put.ensures c.in_ok-put_expr.ensures.written c.in_ok-put-2.ensures
+    ∙ whole_text (text_of c.new-out.result) (text_of c.put.new.out) (text_of c.put_expr.new.out)
+    (text_of c.put-2.new.out) (printed_onto (tree_of c.args.e.now))
+    (ap chars c.new-out.ensures.bytes ∙ chars-nil) c.in_ok-put.ensures c.in_ok-put_expr.ensures.written
+    c.in_ok-put-2.ensures

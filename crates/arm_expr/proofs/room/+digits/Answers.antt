@@ -1,4 +1,5 @@
-use Rattle.std.proofs.Common.{◌≡◌, ◌∙◌, ◌+◌, ◌^◌, ap, sym, length, arith, length-append, ◌∷◌, [], ◌/◌, ◌%◌, ◌<◌, ℕ, Fits, w64}
+use Rattle.std.proofs.Common.{◌≡◌, ◌∙◌, ◌+◌, ◌^◌, ap, sym, length, arith, length-append, ◌∷◌, [], ◌/◌, ◌%◌, ◌<◌, ℕ}
+use Rattle.std.proofs.Common.{Fits, w64}
 use Rattle.std.specs.Fmt.{decimal}
 use Rattle.std.proofs.lemmas.Fmt.{decimal_digit, decimal_step, length-decimal-le}
 use Rattle.arm_expr.proofs.room.+digits.Goals as goal
@@ -15,10 +16,16 @@ below n f = omega (arith, f)
 pub returns-else-n-lt10-clause-count : goal.returns-else-n-lt10-clause-count
 returns-else-n-lt10-clause-count t c =
     let n = c.args.n in
-    let step : length (decimal n) ≡ length (decimal (n / 10)) + 1 = ap length (decimal_step n c.if-n-lt10.false (below n c.ranges.n)) ∙ length-append (decimal (n / 10)) ((48 + n % 10) ∷ []) in
+    let step : length (decimal n) ≡ length (decimal (n / 10)) + 1 =
+    ap length (decimal_step n c.if-n-lt10.false (below n c.ranges.n))
+    ∙ length-append (decimal (n / 10)) ((48 + n % 10) ∷ []) in
     omega (arith, step, c.digits.ensures.count)
 
 pub returns-else-n-lt10-clause-few : goal.returns-else-n-lt10-clause-few
 returns-else-n-lt10-clause-few t c =
     let n = c.args.n in
-    omega (arith, returns-else-n-lt10-clause-count t c, length-decimal-le 20 n (omega arith) (ten_to_20 n (below n c.ranges.n)) (below n c.ranges.n))
+    omega (
+      arith,
+      returns-else-n-lt10-clause-count t c,
+      length-decimal-le 20 n (omega arith) (ten_to_20 n (below n c.ranges.n)) (below n c.ranges.n),
+    )

@@ -4,4 +4,5 @@ use Rattle.arm_ids.proofs.id.push_segments.Given as goal
 
 abbrev pub invariant-loop-segment : goal.invariant-loop-segment
 invariant-loop-segment l =
-    chars (string_bytes l.text) ++ slashed (drop l.segment-index l.segments) ≡ chars (string_bytes l.initial.text) ++ slashed l.segments
+    chars (string_bytes l.text) ++ slashed (drop l.segment-index l.segments) ≡ chars (string_bytes l.initial.text)
+    ++ slashed l.segments

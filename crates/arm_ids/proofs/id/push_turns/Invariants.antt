@@ -6,4 +6,6 @@ use Rattle.arm_ids.proofs.id.push_turns.Given as goal
 
 abbrev pub invariant-loop-kind : goal.invariant-loop-kind
 invariant-loop-kind l =
-    chars (string_bytes l.text) ++ slashed (by_turns (iter_rest (zip_first l.kind-iterator)) (iter_rest (zip_second l.kind-iterator))) ≡ chars (string_bytes l.initial.text) ++ slashed (by_turns l.types l.names)
+    chars (string_bytes l.text)
+    ++ slashed (by_turns (iter_rest (zip_first l.kind-iterator)) (iter_rest (zip_second l.kind-iterator)))
+    ≡ chars (string_bytes l.initial.text) ++ slashed (by_turns l.types l.names)

@@ -9,24 +9,30 @@ pub returns-in-Ok-clause-rows : goal.returns-in-Ok-clause-rows
 returns-in-Ok-clause-rows c =
     let P : List Row → Type 0 = λ rows. IsPlaceOf c.args.id.now (map order_of rows) (Ok c.in-Ok.i) in
     subst AreRows (sym c.remove-row.ensures.items)
-    (row_removed c.args.id.now c.args.rows.now.items c.in-Ok.i c.remove-row.result c.requires (subst P c.as_slice.ensures.value c.in-Ok.ensures) c.remove-row.ensures.value).rows
+    (row_removed c.args.id.now c.args.rows.now.items c.in-Ok.i c.remove-row.result c.requires
+    (subst P c.as_slice.ensures.value c.in-Ok.ensures) c.remove-row.ensures.value).rows
 
 pub returns-in-Ok-clause-taken : goal.returns-in-Ok-clause-taken
 returns-in-Ok-clause-taken c =
     let P : List Row → Type 0 = λ rows. IsPlaceOf c.args.id.now (map order_of rows) (Ok c.in-Ok.i) in
-    sym (row_found c.args.id.now c.args.rows.now.items c.in-Ok.i c.remove-row.result c.requires (subst P c.as_slice.ensures.value c.in-Ok.ensures) c.remove-row.ensures.value)
+    sym (row_found c.args.id.now c.args.rows.now.items c.in-Ok.i c.remove-row.result c.requires
+    (subst P c.as_slice.ensures.value c.in-Ok.ensures) c.remove-row.ensures.value)
 
 pub returns-in-Ok-clause-held : goal.returns-in-Ok-clause-held
 returns-in-Ok-clause-held c =
     let P : List Row → Type 0 = λ rows. IsPlaceOf c.args.id.now (map order_of rows) (Ok c.in-Ok.i) in
-    ap (map row_held) c.remove-row.ensures.items ∙ (row_removed c.args.id.now c.args.rows.now.items c.in-Ok.i c.remove-row.result c.requires (subst P c.as_slice.ensures.value c.in-Ok.ensures) c.remove-row.ensures.value).held
+    ap (map row_held) c.remove-row.ensures.items
+    ∙ (row_removed c.args.id.now c.args.rows.now.items c.in-Ok.i c.remove-row.result c.requires
+    (subst P c.as_slice.ensures.value c.in-Ok.ensures) c.remove-row.ensures.value).held
 
 pub returns-in-Err-clause-taken : goal.returns-in-Err-clause-taken
 returns-in-Err-clause-taken c =
     let P : List Row → Type 0 = λ rows. IsPlaceOf c.args.id.now (map order_of rows) (Err c.in-Err.field-0) in
-    sym (row_missing c.args.id.now c.args.rows.now.items c.in-Err.field-0 c.requires (subst P c.as_slice.ensures.value c.in-Err.ensures))
+    sym (row_missing c.args.id.now c.args.rows.now.items c.in-Err.field-0 c.requires
+    (subst P c.as_slice.ensures.value c.in-Err.ensures))
 
 pub returns-in-Err-clause-held : goal.returns-in-Err-clause-held
 returns-in-Err-clause-held c =
     let P : List Row → Type 0 = λ rows. IsPlaceOf c.args.id.now (map order_of rows) (Err c.in-Err.field-0) in
-    row_kept c.args.id.now c.args.rows.now.items c.in-Err.field-0 c.requires (subst P c.as_slice.ensures.value c.in-Err.ensures)
+    row_kept c.args.id.now c.args.rows.now.items c.in-Err.field-0 c.requires
+    (subst P c.as_slice.ensures.value c.in-Err.ensures)

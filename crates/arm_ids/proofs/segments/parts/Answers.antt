@@ -8,4 +8,6 @@ use Rattle.arm_ids.proofs.segments.parts.Goals as goal
 pub returns : goal.returns
 returns c =
     IfOk-weaker _ _ _ (λ v. parts_are v.items c.args.text.now c.utf8.text)
-    (map_from_collect _ c.collect.ensures.ran (YieldsList-from_str_split 47 c.args.text.now (lit< tt) c.split.ensures.text c.split.ensures.has_more c.split.ensures.pattern))
+    (map_from_collect _ c.collect.ensures.ran
+    (YieldsList-from_str_split 47 c.args.text.now (lit< tt) c.split.ensures.text c.split.ensures.has_more
+    c.split.ensures.pattern))

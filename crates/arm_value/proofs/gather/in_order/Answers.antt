@@ -22,15 +22,22 @@ pub push_last-requires-clause-last : goal.push_last-requires-clause-last
 push_last-requires-clause-last c =
     let all = c.loop-name.invariant.all ∙ ap (λ es. c.loop-name.fields ++ map entry es) c.in-Some.ensures.steps in
     let ordered = entries_in_order c.args.sorted.entries c.into_iter-name-iterator.ensures.into_iter_gives.5 in
-    rw c.from_string.ensures.characters (front_in_order _ (map entry c.next.new.self) (subst IsInOrder (all ∙ append_one c.loop-name.fields (map entry c.next.new.self) (entry (c.in-Some.name, c.in-Some.value))) ordered))
+    rw c.from_string.ensures.characters
+    (front_in_order _ (map entry c.next.new.self)
+    (subst IsInOrder (all
+    ∙ append_one c.loop-name.fields (map entry c.next.new.self) (entry (c.in-Some.name, c.in-Some.value)))
+    ordered))
 
 pub loop-name-preserved : goal.loop-name-preserved
 loop-name-preserved c =
     let left = subst (λ es. members_nesting (map entry es) ≤ 119) c.in-Some.ensures.steps c.loop-name.invariant.nests in
     record {
-      all = c.loop-name.invariant.all ∙ ap (λ es. c.loop-name.fields ++ map entry es) c.in-Some.ensures.steps ∙ append_one c.loop-name.fields (map entry c.next.new.self) _ ∙ rw (c.in_ok-push_last.ensures, c.from_string.ensures.characters) refl;
+      all = c.loop-name.invariant.all ∙ ap (λ es. c.loop-name.fields ++ map entry es) c.in-Some.ensures.steps
+          ∙ append_one c.loop-name.fields (map entry c.next.new.self) _
+          ∙ rw (c.in_ok-push_last.ensures, c.from_string.ensures.characters) refl;
       nests = omega (arith, left);
     }
 
 pub returns : goal.returns
-returns c = sym (c.loop-name.invariant.all ∙ ap (λ es. c.loop-name.fields ++ map entry es) c.in-None.ensures.steps.0 ∙ append-nil c.loop-name.fields)
+returns c = sym (c.loop-name.invariant.all ∙ ap (λ es. c.loop-name.fields ++ map entry es) c.in-None.ensures.steps.0
+    ∙ append-nil c.loop-name.fields)

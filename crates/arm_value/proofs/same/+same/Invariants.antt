@@ -19,4 +19,5 @@ invariant-items_are_same-loop-i l =
 
 abbrev pub invariant-members_are_same-loop-i : goal.invariant-members_are_same-loop-i
 invariant-members_are_same-loop-i l =
-    is_same_pairs (pairs l.one) (pairs l.other) ≡ is_same_pairs (pairs (map member (drop l.i l.a))) (pairs (map member (drop l.i l.b)))
+    is_same_pairs (pairs l.one) (pairs l.other) ≡ is_same_pairs (pairs (map member (drop l.i l.a)))
+    (pairs (map member (drop l.i l.b)))

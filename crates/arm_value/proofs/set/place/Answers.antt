@@ -7,5 +7,6 @@ use Rattle.arm_value.proofs.set.place.Goals as goal
 pub returns : goal.returns
 returns c =
     let facts = c.binary_search_by.ensures in
-    let by_name = facts.position (λ field. key_cmp field.name (chars c.args.name.now)) (always_returns_same _ _ _ (λ a r f called. (search rules, search rules))) in
+    let by_name = facts.position (λ field. key_cmp field.name (chars c.args.name.now))
+    (always_returns_same _ _ _ (λ a r f called. (search rules, search rules))) in
     is_place (chars c.args.name.now) c.args.fields.now c.binary_search_by.result c.requires facts.bound by_name

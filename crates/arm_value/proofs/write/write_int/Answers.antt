@@ -23,4 +23,5 @@ returns-clause-ok c =
     let z = c.args.n in
     let text : signed_decimal (to_z w64 (of_z w64 z)) ≡ signed_decimal z = ap signed_decimal (to_z-of_z c.ranges.n) in
     let read = ap number_of text ∙ reads z c.ranges.n in
-    on_ok_weaker c.i64.result (λ e. (_, e, read, rw (unless_float-number_of _ _ read, no_float z) (text ∙ same_text z))) c.i64.ensures.ok
+    on_ok_weaker c.i64.result
+    (λ e. (_, e, read, rw (unless_float-number_of _ _ read, no_float z) (text ∙ same_text z))) c.i64.ensures.ok

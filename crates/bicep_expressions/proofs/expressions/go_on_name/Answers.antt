@@ -10,6 +10,7 @@ returns-in-Access c = rw c.in-Access.is (c.dot.ensures (frames_of c.args.stack.n
 pub returns-in-Ok : goal.returns-in-Ok
 returns-in-Ok c =
     let S = frames_of c.args.stack.now.items in
-    let e = named-other c.args.name c.args.inside S c.args.at c.args.terminal c.in_default.not-OpenParen c.in_default.not-Access c.in_default.not-Name in
+    let e = named-other c.args.name c.args.inside S c.args.at c.args.terminal c.in_default.not-OpenParen
+    c.in_default.not-Access c.in_default.not-Name in
     let k = ap (λ k. gone_on 64 k c.args.inside S c.args.terminal) (sym c.in-Ok.ensures) in
     rw (e ∙ k) c.go_on.ensures

@@ -6,7 +6,8 @@ use Rattle.bicep_lexer.proofs.lexer.read.Given as goal
 -- what was found and what is left are read as the source is
 abbrev pub invariant-loop-lexer : goal.invariant-loop-lexer
 invariant-loop-lexer l = record {
-  same : whole l.lexer.text.now l.lexer.at l.lexer.opened.items l.lexer.line (map standing l.lexer.found.items) ≡ reading l.fn.text;
+  same : whole l.lexer.text.now l.lexer.at l.lexer.opened.items l.lexer.line (map standing l.lexer.found.items)
+      ≡ reading l.fn.text;
   source : l.lexer.text.now ≡ l.fn.text;
   within : l.lexer.at ≤ length l.fn.text;
 }

@@ -7,4 +7,6 @@ use Rattle.bicep_lexer.proofs.texts.verbatim_length.Goals as goal
 pub loop-at-preserved : goal.loop-at-preserved
 loop-at-preserved c =
     let few : nat_le 3 c.quotes-count.result ≡ false = grind (arith, nat_tests, c.if-count-ge3.false) in
-    sym (verbatim_step c.args.bytes.now c.loop-at.at c.loop-at-test.true (ap (λ xs. nat_le 3 (quotes 5 xs)) (sym (tail_is c.args.bytes.now c.loop-at.at)) ∙ sym (ap (nat_le 3) c.quotes-count.ensures.value) ∙ few)) ∙ c.loop-at.invariant
+    sym (verbatim_step c.args.bytes.now c.loop-at.at c.loop-at-test.true
+    (ap (λ xs. nat_le 3 (quotes 5 xs)) (sym (tail_is c.args.bytes.now c.loop-at.at))
+    ∙ sym (ap (nat_le 3) c.quotes-count.ensures.value) ∙ few)) ∙ c.loop-at.invariant

@@ -5,4 +5,5 @@ use Rattle.bicep_lexer.proofs.Characters.{chars-push}
 use Rattle.bicep_lexer.proofs.value.put.Goals as goal
 
 pub returns : goal.returns
-returns c = ap chars c.in_ok-push.ensures.bytes ∙ chars-push _ c.args.character (IsUtf8-had _ c.args.text.now.ok) (search rules)
+returns c = ap chars c.in_ok-push.ensures.bytes
+    ∙ chars-push _ c.args.character (IsUtf8-had _ c.args.text.now.ok) (search rules)

@@ -5,4 +5,6 @@ use Rattle.bicep_lexer.proofs.value.unescaped.Given as goal
 
 -- what was put, and what the rest gives
 abbrev pub invariant-loop-character : goal.invariant-loop-character
-invariant-loop-character l = chars (string_bytes l.text) ++ unescaped_from l.mode (drop l.character-index l.characters) ≡ unescaped l.characters
+invariant-loop-character l =
+    chars (string_bytes l.text) ++ unescaped_from l.mode (drop l.character-index l.characters)
+    ≡ unescaped l.characters

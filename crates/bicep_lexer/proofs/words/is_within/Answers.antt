@@ -21,4 +21,14 @@ returns-in-None-checked_add c =
     let n = c.loop-digit.number in
     let e = at_drop_more (number_from n) ds i 0 c.loop-digit-test.true in
     let g = number_from-grows (10 * n + (get_or ds i 0 - 48)) (drop (i + 1) ds) in
-    grind (arith, nat_tests, e, c.loop-digit.invariant, g, c.in-None-checked_add.ensures, c.in-Some.ensures, c.saturating_sub-unit.ensures, c.from.ensures)
+    grind (
+      arith,
+      nat_tests,
+      e,
+      c.loop-digit.invariant,
+      g,
+      c.in-None-checked_add.ensures,
+      c.in-Some.ensures,
+      c.saturating_sub-unit.ensures,
+      c.from.ensures,
+    )

@@ -8,4 +8,5 @@ use Rattle.bicep_literal.proofs.compare.is_taken.Goals as goal
 
 pub returns : goal.returns
 unfolding is_taken
-returns c = c.is_among.ensures ∙ any_word (is_same_folded (chars c.as_str.result.now)) taken refl ∙ ap (is_among taken) c.as_str.ensures.characters
+returns c = c.is_among.ensures ∙ any_word (is_same_folded (chars c.as_str.result.now)) taken refl
+    ∙ ap (is_among taken) c.as_str.ensures.characters

@@ -4,7 +4,8 @@ use Rattle.bicep_literal.proofs.DividedLemmas.{undivided, divided_there}
 use Rattle.bicep_literal.proofs.entry.divided.Goals as goal
 
 pub returns-in-None : goal.returns-in-None
-returns-in-None c = undivided c.args.path.now c.utf8.path (split_parts 64 c.args.path.now None c.in-None.ensures.cases (lit< tt))
+returns-in-None c =
+    undivided c.args.path.now c.utf8.path (split_parts 64 c.args.path.now None c.in-None.ensures.cases (lit< tt))
 
 pub returns-in_ok-of-in-Some-2 : goal.returns-in_ok-of-in-Some-2
 returns-in_ok-of-in-Some-2 c =

@@ -6,4 +6,5 @@ use Rattle.bicep_literal.specs.Source.{is_reserved}
 use Rattle.bicep_literal.proofs.entry.has_reserved.Given as goal
 
 abbrev pub invariant-loop-field : goal.invariant-loop-field
-invariant-loop-field l = list_any is_reserved (keys (map member l.fields)) ≡ list_any is_reserved (keys (map member (drop l.field-index l.fields)))
+invariant-loop-field l = list_any is_reserved (keys (map member l.fields)) ≡ list_any is_reserved
+    (keys (map member (drop l.field-index l.fields)))

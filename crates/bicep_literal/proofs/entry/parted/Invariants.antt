@@ -5,4 +5,6 @@ use Rattle.bicep_literal.proofs.entry.parted.Given as goal
 
 -- what is left is parted as all of it is
 abbrev pub invariant-loop-field : goal.invariant-loop-field
-invariant-loop-field l = parting l.name (map member l.others.items) (map member (drop (length l.yielded) l.fn.members.items)) ≡ parted (map member l.fn.members.items)
+invariant-loop-field l =
+    parting l.name (map member l.others.items) (map member (drop (length l.yielded) l.fn.members.items))
+    ≡ parted (map member l.fn.members.items)

@@ -7,4 +7,5 @@ use Rattle.bicep_literal.proofs.proper.is_deployment.Goals as goal
 pub returns : goal.returns
 unfolding is_deployment
 returns c =
-    c.is_same_word.ensures ∙ ap (λ s. is_same_folded s _) c.as_str.ensures.characters ∙ ap (is_same_folded _) (word (codes "Microsoft.Resources/deployments") refl)
+    c.is_same_word.ensures ∙ ap (λ s. is_same_folded s _) c.as_str.ensures.characters
+    ∙ ap (is_same_folded _) (word (codes "Microsoft.Resources/deployments") refl)

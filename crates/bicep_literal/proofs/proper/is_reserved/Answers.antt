@@ -7,4 +7,5 @@ use Rattle.bicep_literal.proofs.proper.is_reserved.Goals as goal
 
 pub returns : goal.returns
 unfolding is_reserved
-returns c = c.is_among.ensures ∙ any_word (is_same_folded (chars c.as_str.result.now)) reserved refl ∙ ap (is_among reserved) c.as_str.ensures.characters
+returns c = c.is_among.ensures ∙ any_word (is_same_folded (chars c.as_str.result.now)) reserved refl
+    ∙ ap (is_among reserved) c.as_str.ensures.characters

@@ -6,15 +6,24 @@ use Rattle.bicep_literal.proofs.statement.read.Goals as goal
 
 pub loop-statement-init : goal.loop-statement-init
 loop-statement-init c =
-    rw c.new-found.ensures.items (rest_begins statement_entry view.statement_of c.args.file.now _ (sym (entries_are (map view.statement_of c.args.file.now))))
+    rw c.new-found.ensures.items
+    (rest_begins statement_entry view.statement_of c.args.file.now _
+    (sym (entries_are (map view.statement_of c.args.file.now))))
 
 pub returns-in-Err : goal.returns-in-Err
 returns-in-Err c =
-    rw c.stopped.ensures (rest_stops c.in-Err.stop statement_entry view.statement_of c.loop-statement.found.items c.args.file.now c.loop-statement.statement-index c.statement-item.result _ c.loop-statement-test.true c.statement-item.is c.in-Err.ensures c.loop-statement.invariant)
+    rw c.stopped.ensures
+    (rest_stops c.in-Err.stop statement_entry view.statement_of c.loop-statement.found.items c.args.file.now
+    c.loop-statement.statement-index c.statement-item.result _ c.loop-statement-test.true c.statement-item.is
+    c.in-Err.ensures c.loop-statement.invariant)
 
 pub loop-statement-preserved : goal.loop-statement-preserved
 loop-statement-preserved c =
-    rest_more statement_entry view.statement_of c.loop-statement.found.items c.in_ok-found-in-Ok.found.items c.in-Ok.entry c.args.file.now c.loop-statement.statement-index c.statement-item.result _ c.loop-statement-test.true c.statement-item.is c.in-Ok.ensures c.in_ok-found-in-Ok.ensures c.loop-statement.invariant
+    rest_more statement_entry view.statement_of c.loop-statement.found.items c.in_ok-found-in-Ok.found.items
+    c.in-Ok.entry c.args.file.now c.loop-statement.statement-index c.statement-item.result _
+    c.loop-statement-test.true c.statement-item.is c.in-Ok.ensures c.in_ok-found-in-Ok.ensures
+    c.loop-statement.invariant
 
 pub returns : goal.returns
-returns c = rest_ends statement_entry view.statement_of c.loop-statement.found.items c.args.file.now c.loop-statement.statement-index _ c.loop-statement-test.false c.loop-statement.invariant
+returns c = rest_ends statement_entry view.statement_of c.loop-statement.found.items c.args.file.now
+    c.loop-statement.statement-index _ c.loop-statement-test.false c.loop-statement.invariant

@@ -10,8 +10,11 @@ use Rattle.bicep_literal.proofs.value.+values.Given as goal
 
 -- the members so far, and those of what is left
 abbrev pub invariant-fields-loop-member : goal.invariant-fields-loop-member
-invariant-fields-loop-member l = Rest member_of view.member_of (map member l.found.items) (drop l.member-index l.members) (each_of (tree.members (map view.member_of l.members)))
+invariant-fields-loop-member l =
+    Rest member_of view.member_of (map member l.found.items) (drop l.member-index l.members)
+    (each_of (tree.members (map view.member_of l.members)))
 
 -- the items so far, and those of what is left
 abbrev pub invariant-values-loop-expr : goal.invariant-values-loop-expr
-invariant-values-loop-expr l = Rest value_of tree_of (map json l.found.items) (drop l.expr-index l.exprs) (values_of (trees (map tree_of l.exprs)))
+invariant-values-loop-expr l = Rest value_of tree_of (map json l.found.items) (drop l.expr-index l.exprs)
+    (values_of (trees (map tree_of l.exprs)))

@@ -6,4 +6,5 @@ use Rattle.bicep_parser.proofs.parsing.read.Given as goal
 
 -- so far the tokens lead here, and the place of a part that nests too deep is noted
 abbrev pub invariant-loop-token : goal.invariant-loop-token
-invariant-loop-token l = Noted (map standing l.tokens) (map standing (drop l.token-index l.tokens)) (state_of l.state) l.inside (frames_of l.stack.items) l.deep
+invariant-loop-token l = Noted (map standing l.tokens) (map standing (drop l.token-index l.tokens)) (state_of l.state)
+    l.inside (frames_of l.stack.items) l.deep

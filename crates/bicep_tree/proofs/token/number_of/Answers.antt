@@ -23,5 +23,16 @@ returns-in-None-checked_add c =
     let n = c.loop-digit.number in
     let e = at_drop_more (number_from n) ds i 0 c.loop-digit-test.true in
     let g = number_from-grows (10 * n + (get_or ds i 0 - 48)) (drop (i + 1) ds) in
-    let large : 2 ^ 63 ≤ number_from 0 ds = grind (arith, nat_tests, e, c.loop-digit.invariant, g, c.in-None-checked_add.ensures, c.in-Some.ensures, c.saturating_sub-unit.ensures, c.from.ensures) in
+    let large : 2 ^ 63 ≤ number_from 0 ds =
+    grind (
+      arith,
+      nat_tests,
+      e,
+      c.loop-digit.invariant,
+      g,
+      c.in-None-checked_add.ensures,
+      c.in-Some.ensures,
+      c.saturating_sub-unit.ensures,
+      c.from.ensures,
+    ) in
     too_large (number_from 0 ds) large

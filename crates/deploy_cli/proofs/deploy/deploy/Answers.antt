@@ -11,4 +11,5 @@ pub put_all-requires-clause-can : goal.put_all-requires-clause-can
 put_all-requires-clause-can g c κs within =
     subst (λ (rs : List Resource). AllByRecursion (CanPut c.in-Ok-place_of.place) rs) (sym c.as_slice.ensures.value)
     (subst (λ (p : Place). AllByRecursion (CanPut p) c.in-Ok.resources.items) (sym c.in-Ok-place_of.ensures)
-    (all_can (record { tells = g.T.Tree.tells_files; file = g.T.Tree.file c.args.tree.now }) (deploy_of c.args.command.now) c.in-Ok.resources.items c.in-Ok.ensures.ready c.in-Ok.ensures.literal))
+    (all_can (record { tells = g.T.Tree.tells_files; file = g.T.Tree.file c.args.tree.now })
+    (deploy_of c.args.command.now) c.in-Ok.resources.items c.in-Ok.ensures.ready c.in-Ok.ensures.literal))

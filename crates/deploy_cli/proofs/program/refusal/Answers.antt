@@ -5,4 +5,5 @@ use Rattle.deploy_cli.proofs.Programs.{not_literal}
 use Rattle.deploy_cli.proofs.program.refusal.Goals as goal
 
 pub returns-in-NotLiteral : goal.returns-in-NotLiteral
-returns-in-NotLiteral c = λ source text is. not_literal source text (subst (λ (f : SourceFault). IsNoSource source f) c.in-NotLiteral.is is)
+returns-in-NotLiteral c =
+    λ source text is. not_literal source text (subst (λ (f : SourceFault). IsNoSource source f) c.in-NotLiteral.is is)

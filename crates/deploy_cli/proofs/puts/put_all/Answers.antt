@@ -7,28 +7,49 @@ use Rattle.deploy_cli.proofs.puts.put_all.Goals as goal
 
 pub returns-in-Err-clause-comes : goal.returns-in-Err-clause-comes
 returns-in-Err-clause-comes g c =
-    let at = found_at c.args.resources.now c.loop-resource.states.items c.len.result c.in-Some.resource.now c.in-Some.ensures.lookup.0 c.in-Some.ensures.lookup.1 (c.len.ensures ∙ c.loop-resource.states.ok.0) in
-    come_to_stop g.P.Provider.may c.args.place.now c.args.resources.now c.loop-resource.states.items c.in-Some.resource.now c.in-Err.ending c.loop-resource.invariant.kept at c.in-Err.ensures.not_stored
+    let at = found_at c.args.resources.now c.loop-resource.states.items c.len.result c.in-Some.resource.now
+    c.in-Some.ensures.lookup.0 c.in-Some.ensures.lookup.1 (c.len.ensures ∙ c.loop-resource.states.ok.0) in
+    come_to_stop g.P.Provider.may c.args.place.now c.args.resources.now c.loop-resource.states.items
+    c.in-Some.resource.now c.in-Err.ending c.loop-resource.invariant.kept at c.in-Err.ensures.not_stored
 
 pub returns-in-Err-clause-told : goal.returns-in-Err-clause-told
 returns-in-Err-clause-told g c = λ tells.
-    let at = found_at c.args.resources.now c.loop-resource.states.items c.len.result c.in-Some.resource.now c.in-Some.ensures.lookup.0 c.in-Some.ensures.lookup.1 (c.len.ensures ∙ c.loop-resource.states.ok.0) in
-    told_more c.args.place.now c.loop-resource.task c.args.resources.now c.loop-resource.states.items c.in-Some.resource.now (last_gave c.in-Err.ending) (g.P.Provider.calls c.args.provider.now) (g.P.Provider.calls c.loop-resource.provider) (g.P.Provider.calls c.put_one.new.provider)
-    at c.loop-resource.invariant.task (one_last c.in-Err.ending) (c.loop-resource.invariant.told tells) (c.in-Err.ensures.told tells)
+    let at = found_at c.args.resources.now c.loop-resource.states.items c.len.result c.in-Some.resource.now
+    c.in-Some.ensures.lookup.0 c.in-Some.ensures.lookup.1 (c.len.ensures ∙ c.loop-resource.states.ok.0) in
+    told_more c.args.place.now c.loop-resource.task c.args.resources.now c.loop-resource.states.items
+    c.in-Some.resource.now (last_gave c.in-Err.ending) (g.P.Provider.calls c.args.provider.now)
+    (g.P.Provider.calls c.loop-resource.provider) (g.P.Provider.calls c.put_one.new.provider)
+    at c.loop-resource.invariant.task (one_last c.in-Err.ending) (c.loop-resource.invariant.told tells)
+    (c.in-Err.ensures.told tells)
 
 pub loop-resource-preserved : goal.loop-resource-preserved
 loop-resource-preserved g c =
-    let at = found_at c.args.resources.now c.loop-resource.states.items c.len.result c.in-Some.resource.now c.in-Some.ensures.lookup.0 c.in-Some.ensures.lookup.1 (c.len.ensures ∙ c.loop-resource.states.ok.0) in
+    let at = found_at c.args.resources.now c.loop-resource.states.items c.len.result c.in-Some.resource.now
+    c.in-Some.ensures.lookup.0 c.in-Some.ensures.lookup.1 (c.len.ensures ∙ c.loop-resource.states.ok.0) in
     record {
-      within = one_within c.args.resources.now c.loop-resource.states.items c.add.new.states.items c.in-Ok-put_one.state c.in-Some.resource.now at c.add.ensures.items;
-      task = omega (arith, c.loop-resource.invariant.task, ap (λ (l : List Json). length l) c.add.ensures.items, length-append c.loop-resource.states.items (c.in-Ok-put_one.state ∷ []));
-      kept = subst (λ (l : List Json). MayStore g.P.Provider.may c.args.place.now c.args.resources.now l) (sym c.add.ensures.items)
-          (store_more g.P.Provider.may c.args.place.now c.args.resources.now c.loop-resource.states.items c.in-Some.resource.now c.in-Ok-put_one.state c.loop-resource.invariant.kept at c.in-Ok-put_one.ensures.stored);
+      within = one_within c.args.resources.now c.loop-resource.states.items c.add.new.states.items
+          c.in-Ok-put_one.state c.in-Some.resource.now at c.add.ensures.items;
+      task = omega (
+        arith,
+        c.loop-resource.invariant.task,
+        ap (λ (l : List Json). length l) c.add.ensures.items,
+        length-append c.loop-resource.states.items (c.in-Ok-put_one.state ∷ []),
+      );
+      kept = subst (λ (l : List Json). MayStore g.P.Provider.may c.args.place.now c.args.resources.now l)
+          (sym c.add.ensures.items)
+          (store_more g.P.Provider.may c.args.place.now c.args.resources.now c.loop-resource.states.items
+          c.in-Some.resource.now c.in-Ok-put_one.state c.loop-resource.invariant.kept at
+          c.in-Ok-put_one.ensures.stored);
       told = λ tells.
-          told_more c.args.place.now c.loop-resource.task c.args.resources.now c.loop-resource.states.items c.in-Some.resource.now (stored_in c.in-Ok-put_one.state ∷ []) (g.P.Provider.calls c.args.provider.now) (g.P.Provider.calls c.loop-resource.provider) (g.P.Provider.calls c.put_one.new.provider)
-          at c.loop-resource.invariant.task (omega arith) (c.loop-resource.invariant.told tells) (c.in-Ok-put_one.ensures.told tells)
-          ∙ ap (λ (l : List Gave). g.P.Provider.calls c.args.provider.now ++ calls_of (puts c.args.place.now 1 c.args.resources.now) l)
-          (sym (map_more c.loop-resource.states.items c.in-Ok-put_one.state) ∙ ap (λ (l : List Json). map stored_in l) (sym c.add.ensures.items));
+          told_more c.args.place.now c.loop-resource.task c.args.resources.now c.loop-resource.states.items
+          c.in-Some.resource.now (stored_in c.in-Ok-put_one.state ∷ []) (g.P.Provider.calls c.args.provider.now)
+          (g.P.Provider.calls c.loop-resource.provider) (g.P.Provider.calls c.put_one.new.provider)
+          at c.loop-resource.invariant.task (omega arith) (c.loop-resource.invariant.told tells)
+          (c.in-Ok-put_one.ensures.told tells)
+          ∙ ap (λ (l : List Gave). g.P.Provider.calls c.args.provider.now
+          ++ calls_of (puts c.args.place.now 1 c.args.resources.now) l)
+          (sym (map_more c.loop-resource.states.items c.in-Ok-put_one.state)
+          ∙ ap (λ (l : List Json). map stored_in l) (sym c.add.ensures.items));
       faults = c.in-Ok-put_one.ensures.count ∙ c.loop-resource.invariant.faults;
       room = omega (arith, c.loop-resource.invariant.room, c.add.ensures.room);
     }

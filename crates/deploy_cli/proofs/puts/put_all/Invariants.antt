@@ -9,7 +9,8 @@ invariant-loop-resource g l = record {
   within : length l.states.items ≤ length l.resources;
   task : l.task ≡ 1 + length l.states.items;
   kept : MayStore g.P.Provider.may l.place l.resources l.states.items;
-  told : g.P.Provider.tells ≡ true → g.P.Provider.calls l.provider ≡ g.P.Provider.calls l.initial.provider ++ calls_of (puts l.place 1 l.resources) (map stored_in l.states.items);
+  told : g.P.Provider.tells ≡ true → g.P.Provider.calls l.provider ≡ g.P.Provider.calls l.initial.provider
+      ++ calls_of (puts l.place 1 l.resources) (map stored_in l.states.items);
   faults : g.P.Provider.faults l.provider ≡ g.P.Provider.faults l.initial.provider;
   room : length l.resources ≤ vec_capacity l.states;
 }

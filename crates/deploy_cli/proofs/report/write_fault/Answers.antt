@@ -4,7 +4,12 @@ use Rattle.deploy_cli.proofs.Parts.{wrote_then, wrote_short}
 use Rattle.deploy_cli.proofs.report.write_fault.Goals as goal
 
 pub returns-in-Ok-clause-wrote : goal.returns-in-Ok-clause-wrote
-returns-in-Ok-clause-wrote g c = wrote_then (g.O.Sink.written c.args.out.now) (three c.args.prefix.now c.args.file.now (codes ":")) (c.args.place.now ++ codes "\n") (g.O.Sink.written c.write_both.new.out) c.write_both.result c.in-Ok.ensures.wrote c.write_both.ensures.wrote
+returns-in-Ok-clause-wrote g c =
+    wrote_then (g.O.Sink.written c.args.out.now) (three c.args.prefix.now c.args.file.now (codes ":"))
+    (c.args.place.now ++ codes "\n") (g.O.Sink.written c.write_both.new.out) c.write_both.result c.in-Ok.ensures.wrote
+    c.write_both.ensures.wrote
 
 pub returns-in-Err-clause-wrote : goal.returns-in-Err-clause-wrote
-returns-in-Err-clause-wrote g c = wrote_short (g.O.Sink.written c.args.out.now) (three c.args.prefix.now c.args.file.now (codes ":")) (c.args.place.now ++ codes "\n") c.in-Err.ensures.wrote
+returns-in-Err-clause-wrote g c =
+    wrote_short (g.O.Sink.written c.args.out.now) (three c.args.prefix.now c.args.file.now (codes ":"))
+    (c.args.place.now ++ codes "\n") c.in-Err.ensures.wrote

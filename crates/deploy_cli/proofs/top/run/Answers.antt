@@ -7,13 +7,38 @@ use Rattle.deploy_cli.proofs.top.run.Goals as goal
 pub returns-clause-theorem : goal.returns-clause-theorem
 returns-clause-theorem g c = λ seat others is.
     let lent = c.index_mut-seat.result.now in
-    let first : lent ≡ seat = c.index_mut-seat.ensures.value ∙ ap (λ (l : List (Seat g.row.P.Denot)). slice_index_or l 0 lent) is in (
+    let first : lent ≡ seat = c.index_mut-seat.ensures.value
+    ∙ ap (λ (l : List (Seat g.row.P.Denot)). slice_index_or l 0 lent) is in (
       c.command-status.new.provider,
-      ap (λ (l : List (Seat g.row.P.Denot)). slice_set l 0 (record lent { provider = c.command-status.new.provider })) is ∙ ap (λ (s : Seat g.row.P.Denot). record s { provider = c.command-status.new.provider } ∷ others) first,
+      ap (λ (l : List (Seat g.row.P.Denot)). slice_set l 0 (record lent { provider = c.command-status.new.provider }))
+          is ∙ ap (λ (s : Seat g.row.P.Denot). record s { provider = c.command-status.new.provider } ∷ others) first,
       subst (λ (s : Seat g.row.P.Denot). DeploymentTheorem
-          (record { folder = record { tells = g.T.Tree.tells_files; file = g.T.Tree.file c.args.tree.now }; may = g.P.Provider.may; tells_calls = g.P.Provider.tells; tells_written = g.O.Sink.tells_written })
-          (record { tree_faults = g.T.Tree.faults c.args.tree.now; provider_faults = g.P.Provider.faults s.provider; calls = g.P.Provider.calls s.provider; out_faults = g.O.Sink.faults c.args.out.now; written = g.O.Sink.written c.args.out.now })
-          (record { tree_faults = g.T.Tree.faults c.command-status.new.tree; provider_faults = g.P.Provider.faults c.command-status.new.provider; calls = g.P.Provider.calls c.command-status.new.provider; out_faults = g.O.Sink.faults c.command-status.new.out; written = g.O.Sink.written c.command-status.new.out })
+          (record {
+            folder = record { tells = g.T.Tree.tells_files; file = g.T.Tree.file c.args.tree.now };
+            may =
+                g.P.Provider.may;
+            tells_calls = g.P.Provider.tells;
+            tells_written = g.O.Sink.tells_written;
+          })
+          (record {
+            tree_faults = g.T.Tree.faults c.args.tree.now;
+            provider_faults =
+                g.P.Provider.faults s.provider;
+            calls = g.P.Provider.calls s.provider;
+            out_faults =
+                g.O.Sink.faults c.args.out.now;
+            written = g.O.Sink.written c.args.out.now;
+          })
+          (record {
+            tree_faults = g.T.Tree.faults c.command-status.new.tree;
+            provider_faults =
+                g.P.Provider.faults c.command-status.new.provider;
+            calls =
+                g.P.Provider.calls c.command-status.new.provider;
+            out_faults =
+                g.O.Sink.faults c.command-status.new.out;
+            written = g.O.Sink.written c.command-status.new.out;
+          })
           (map string_bytes c.args.words.now) c.command-status.result) first
           (theorem _ _ _ _ _ c.command-status.ensures),
     )

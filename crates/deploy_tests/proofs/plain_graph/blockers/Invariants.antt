@@ -6,4 +6,5 @@ use Rattle.deploy_tests.proofs.plain_graph.blockers.Given as goal
 
 abbrev pub invariant-loop-need : goal.invariant-loop-need
 invariant-loop-need l =
-    blockers_of l.edges l.done l.count l.node ≡ l.found.items ++ filter (is_blocker l.edges l.done l.node) (range_with_len l.need (l.count - l.need))
+    blockers_of l.edges l.done l.count l.node ≡ l.found.items ++ filter (is_blocker l.edges l.done l.node)
+    (range_with_len l.need (l.count - l.need))

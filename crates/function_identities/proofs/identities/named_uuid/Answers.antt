@@ -9,4 +9,5 @@ pub returns : goal.returns
 unfolding version_5
 returns c =
     let uuid = c.hyphenated.ensures ∙ c.new_v5-uuid.ensures.value in
-    subst (λ x. IfOk c.of.result (λ t. t ≡ x)) (ap chars (c.encode_lower.ensures.text ∙ ap (hyphenated_text lower) uuid) ∙ uuid_characters _) c.of.ensures
+    subst (λ x. IfOk c.of.result (λ t. t ≡ x))
+    (ap chars (c.encode_lower.ensures.text ∙ ap (hyphenated_text lower) uuid) ∙ uuid_characters _) c.of.ensures

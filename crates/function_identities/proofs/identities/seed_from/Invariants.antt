@@ -6,4 +6,5 @@ use Rattle.function_identities.proofs.identities.seed_from.Given as goal
 -- the bytes so far, and those of the texts that are left
 abbrev pub invariant-loop-other : goal.invariant-loop-other
 invariant-loop-other l =
-    option_map (λ rest. l.seed.items ++ rest) (behind_zeros (map json (drop l.other-index l.others))) ≡ option_map (λ rest. encode_utf8_all l.first ++ rest) (behind_zeros (map json l.others))
+    option_map (λ rest. l.seed.items ++ rest) (behind_zeros (map json (drop l.other-index l.others)))
+    ≡ option_map (λ rest. encode_utf8_all l.first ++ rest) (behind_zeros (map json l.others))

@@ -6,4 +6,6 @@ use Rattle.function_lists.proofs.ends.items_before.Goals as goal
 
 pub returns : goal.returns
 returns c =
-    c.array_of.ensures ∙ ap array_of (c.in_ok-copies.ensures ∙ ap (map json) c.before-2.ensures ∙ map-take json c.as_slice.result.now c.args.count ∙ ap (take c.args.count) c.as_slice.ensures.items)
+    c.array_of.ensures
+    ∙ ap array_of (c.in_ok-copies.ensures ∙ ap (map json) c.before-2.ensures
+    ∙ map-take json c.as_slice.result.now c.args.count ∙ ap (take c.args.count) c.as_slice.ensures.items)

@@ -6,4 +6,6 @@ use Rattle.function_lists.proofs.ends.items_behind.Goals as goal
 
 pub returns : goal.returns
 returns c =
-    c.array_of.ensures ∙ ap array_of (c.in_ok-copies.ensures ∙ ap (map json) c.behind.ensures ∙ sym (drop-map json c.args.count c.as_slice.result.now) ∙ ap (drop c.args.count) c.as_slice.ensures.items)
+    c.array_of.ensures
+    ∙ ap array_of (c.in_ok-copies.ensures ∙ ap (map json) c.behind.ensures
+    ∙ sym (drop-map json c.args.count c.as_slice.result.now) ∙ ap (drop c.args.count) c.as_slice.ensures.items)

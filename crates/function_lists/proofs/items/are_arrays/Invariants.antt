@@ -5,4 +5,5 @@ use Rattle.function_lists.specs.Items.{is_array}
 use Rattle.function_lists.proofs.items.are_arrays.Given as goal
 
 abbrev pub invariant-loop-value : goal.invariant-loop-value
-invariant-loop-value l = list_all is_array (map json (drop l.value-index l.values)) ≡ list_all is_array (map json l.values)
+invariant-loop-value l = list_all is_array (map json (drop l.value-index l.values)) ≡ list_all is_array
+    (map json l.values)

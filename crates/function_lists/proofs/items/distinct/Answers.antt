@@ -14,9 +14,13 @@ loop-value-preserved c =
     let front = map json (take i vs) in
     record {
       all = distinct_more kept (map json c.add_passing.new.all.items) vs i v _ c.loop-value-test.true c.value-item.is
-          (c.in_ok-add_passing.ensures ∙ ap (λ b. if b then kept ++ json v ∷ [] else kept) (c.in_ok-is_new.ensures.is_new front c.loop-value.invariant.before)) c.loop-value.invariant.all;
-      before = subst (IsIndexOf c.add.new.texts) (front_more vs i v c.loop-value-test.true c.value-item.is) (c.in_ok-is_new.ensures.added front c.loop-value.invariant.before);
+          (c.in_ok-add_passing.ensures
+          ∙ ap (λ b. if b then kept ++ json v ∷ [] else kept)
+          (c.in_ok-is_new.ensures.is_new front c.loop-value.invariant.before)) c.loop-value.invariant.all;
+      before = subst (IsIndexOf c.add.new.texts) (front_more vs i v c.loop-value-test.true c.value-item.is)
+          (c.in_ok-is_new.ensures.added front c.loop-value.invariant.before);
     }
 
 pub returns : goal.returns
-returns c = distinct_ends (map json c.loop-value.all.items) c.args.values.now c.loop-value.value-index _ c.loop-value-test.false c.loop-value.invariant.all
+returns c = distinct_ends (map json c.loop-value.all.items) c.args.values.now c.loop-value.value-index _
+    c.loop-value-test.false c.loop-value.invariant.all

@@ -17,6 +17,7 @@ decreases-under l = 3 * nesting (json l.second.now)
 -- the members so far with what the rests of both make are all, and the rest of the first is in order
 abbrev pub invariant-united-loop-field : goal.invariant-united-loop-field
 invariant-united-loop-field l = record {
-  all : map member l.members.items ++ merged (map member l.rest.items) (pairs (map member (drop l.field-index l.field-items))) ≡ united l.fn.first (pairs l.second);
+  all : map member l.members.items ++ merged (map member l.rest.items)
+      (pairs (map member (drop l.field-index l.field-items))) ≡ united l.fn.first (pairs l.second);
   ordered : IsInOrder (map member l.rest.items);
 }

@@ -5,4 +5,5 @@ use Rattle.function_lists.specs.Members.{is_object}
 use Rattle.function_lists.proofs.unions.are_objects.Given as goal
 
 abbrev pub invariant-loop-value : goal.invariant-loop-value
-invariant-loop-value l = list_all is_object (map json (drop l.value-index l.values)) ≡ list_all is_object (map json l.values)
+invariant-loop-value l = list_all is_object (map json (drop l.value-index l.values)) ≡ list_all is_object
+    (map json l.values)

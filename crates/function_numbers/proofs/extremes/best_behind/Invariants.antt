@@ -8,4 +8,5 @@ use Rattle.function_numbers.proofs.extremes.best_behind.Given as goal
 -- the best so far and of what is left is the best of all
 abbrev pub invariant-loop-value : goal.invariant-loop-value
 invariant-loop-value l =
-    option_map (fold (better l.extreme) l.best) (numbers_in (map json (drop l.value-index l.rest))) ≡ option_map (fold (better l.extreme) l.first) (numbers_in (map json l.rest))
+    option_map (fold (better l.extreme) l.best) (numbers_in (map json (drop l.value-index l.rest)))
+    ≡ option_map (fold (better l.extreme) l.first) (numbers_in (map json l.rest))

@@ -5,7 +5,9 @@ use Rattle.arm_value.specs.Json.{int}
 use Rattle.function_numbers.specs.Numbers.{is_zero, has_64_bits}
 use Rattle.function_numbers.proofs.laws.division_recombines.Goals as goal
 
-recombine : (zero fits : Bool) (x y q r : ℤ) → option_map int (if zero then None else (if fits then Some (int_div x y) else None)) ≡ Some (int q) → option_map int (if zero then None else Some (int_rem x y)) ≡ Some (int r) → ((q *ℤ y) +ℤ r) ≡ x
+recombine : (zero fits : Bool) (x y q r : ℤ)
+    → option_map int (if zero then None else (if fits then Some (int_div x y) else None)) ≡ Some (int q)
+    → option_map int (if zero then None else Some (int_rem x y)) ≡ Some (int r) → ((q *ℤ y) +ℤ r) ≡ x
 recombine true fits x y q r a b = absurd (cc)
 recombine false true x y q r a b =
     let is_q : q ≡ int_div x y = cc in

@@ -7,4 +7,5 @@ use Rattle.function_prints.proofs.filling.filled.Given as goal
 
 -- what is put out, and what is left with its fields filled
 abbrev pub invariant-loop-i : goal.invariant-loop-i
-invariant-loop-i l = filled_after (chars (string_bytes l.out)) (map json l.args) l.taken (drop l.i l.characters) ≡ filled (map json l.args) l.characters
+invariant-loop-i l = filled_after (chars (string_bytes l.out)) (map json l.args) l.taken (drop l.i l.characters)
+    ≡ filled (map json l.args) l.characters

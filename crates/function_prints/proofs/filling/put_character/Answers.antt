@@ -5,4 +5,5 @@ use Rattle.function_lists.proofs.CharacterLemmas.{chars-push}
 use Rattle.function_prints.proofs.filling.put_character.Goals as goal
 
 pub returns : goal.returns
-returns c = ap chars c.in_ok-push.ensures.bytes ∙ chars-push _ c.args.character (IsUtf8-had _ c.args.out.now.ok) (search rules)
+returns c = ap chars c.in_ok-push.ensures.bytes
+    ∙ chars-push _ c.args.character (IsUtf8-had _ c.args.out.now.ok) (search rules)

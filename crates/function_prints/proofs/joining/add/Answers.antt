@@ -5,4 +5,6 @@ use Rattle.function_prints.proofs.joining.add.Goals as goal
 
 pub returns : goal.returns
 returns c =
-    ap chars c.in_ok-push_str.ensures.bytes ∙ chars-append (string_bytes c.args.out.now) c.as_str.result.now (IsUtf8-had _ c.args.out.now.ok) ∙ ap (λ r. chars (string_bytes c.args.out.now) ++ r) c.as_str.ensures.characters
+    ap chars c.in_ok-push_str.ensures.bytes
+    ∙ chars-append (string_bytes c.args.out.now) c.as_str.result.now (IsUtf8-had _ c.args.out.now.ok)
+    ∙ ap (λ r. chars (string_bytes c.args.out.now) ++ r) c.as_str.ensures.characters

@@ -8,4 +8,5 @@ use Rattle.function_prints.proofs.joining.add_all.Given as goal
 -- what was put, and what is left
 abbrev pub invariant-loop-value : goal.invariant-loop-value
 invariant-loop-value l =
-    chars (string_bytes l.out) ++ flat_map (λ j. l.between ++ printed j) (map json (drop l.value-index l.values)) ≡ chars (string_bytes l.fn.out) ++ flat_map (λ j. l.between ++ printed j) (map json l.values)
+    chars (string_bytes l.out) ++ flat_map (λ j. l.between ++ printed j) (map json (drop l.value-index l.values))
+    ≡ chars (string_bytes l.fn.out) ++ flat_map (λ j. l.between ++ printed j) (map json l.values)

@@ -8,4 +8,5 @@ use Rattle.function_prints.proofs.printed.number_text.Goals as goal
 pub returns : goal.returns
 returns c =
     let fits : FitsSigned w64 c.args.number = c.ranges.number in
-    c.from_string.ensures.characters ∙ ap chars (simp to_z-of_z at c.in_ok-text.ensures.ok) ∙ number_characters c.args.number c.ranges.number
+    c.from_string.ensures.characters ∙ ap chars (simp to_z-of_z at c.in_ok-text.ensures.ok)
+    ∙ number_characters c.args.number c.ranges.number

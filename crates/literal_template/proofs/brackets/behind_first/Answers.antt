@@ -4,7 +4,9 @@ use Rattle.literal_template.proofs.BracketLemmas.{no_bracket, no_last, in_bracke
 use Rattle.literal_template.proofs.brackets.behind_first.Goals as goal
 
 pub returns-in-None : goal.returns-in-None
-returns-in-None c = no_bracket c.args.text.now c.utf8.text (strip_prefix_char 91 c.args.text.now None c.in-None.ensures.cases (lit< tt))
+returns-in-None c =
+    no_bracket c.args.text.now c.utf8.text
+    (strip_prefix_char 91 c.args.text.now None c.in-None.ensures.cases (lit< tt))
 
 pub returns-in-None-strip_suffix : goal.returns-in-None-strip_suffix
 returns-in-None-strip_suffix c =
@@ -15,5 +17,9 @@ returns-in-None-strip_suffix c =
 pub returns-in-Some-strip_suffix : goal.returns-in-Some-strip_suffix
 returns-in-Some-strip_suffix c =
     let first = strip_prefix_char 91 c.args.text.now (Some c.in-Some.rest) c.in-Some.ensures.cases (lit< tt) in
-    let last = strip_suffix_char 93 c.in-Some.rest.now (Some c.in-Some-strip_suffix._inner) c.in-Some-strip_suffix.ensures.cases (lit< tt) in
-    (in_brackets c.args.text.now c.in-Some.rest.now c.in-Some-strip_suffix._inner.now (search rules) first last, chars_behind c.args.text.now c.in-Some.rest.now first)
+    let last =
+    strip_suffix_char 93 c.in-Some.rest.now (Some c.in-Some-strip_suffix._inner)
+    c.in-Some-strip_suffix.ensures.cases (lit< tt) in (
+      in_brackets c.args.text.now c.in-Some.rest.now c.in-Some-strip_suffix._inner.now (search rules) first last,
+      chars_behind c.args.text.now c.in-Some.rest.now first,
+    )

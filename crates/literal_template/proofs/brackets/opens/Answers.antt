@@ -4,8 +4,11 @@ use Rattle.literal_template.proofs.BracketLemmas.{no_first, opened}
 use Rattle.literal_template.proofs.brackets.opens.Goals as goal
 
 pub returns-in-None : goal.returns-in-None
-returns-in-None c = sym (no_first c.args.text.now c.utf8.text (strip_prefix_char 91 c.args.text.now None c.in-None.ensures.cases (lit< tt)))
+returns-in-None c =
+    sym (no_first c.args.text.now c.utf8.text
+    (strip_prefix_char 91 c.args.text.now None c.in-None.ensures.cases (lit< tt)))
 
 pub returns-in-Some : goal.returns-in-Some
 returns-in-Some c =
-    sym (opened c.args.text.now c.in-Some._rest.now (strip_prefix_char 91 c.args.text.now (Some c.in-Some._rest) c.in-Some.ensures.cases (lit< tt)))
+    sym (opened c.args.text.now c.in-Some._rest.now
+    (strip_prefix_char 91 c.args.text.now (Some c.in-Some._rest) c.in-Some.ensures.cases (lit< tt)))

@@ -16,10 +16,12 @@ decreases-stated l = 2 * nesting (json l.value.now)
 
 abbrev pub invariant-fields_stated-loop-field : goal.invariant-fields_stated-loop-field
 invariant-fields_stated-loop-field l = record {
-  all : pairs_stated (pairs (map member l.field-items)) ≡ with_pairs l.found (pairs_stated (pairs (map member (drop l.field-index l.field-items))));
+  all : pairs_stated (pairs (map member l.field-items)) ≡ with_pairs l.found
+      (pairs_stated (pairs (map member (drop l.field-index l.field-items))));
   ordered : IsInOrder (l.found ++ map member (drop l.field-index l.field-items));
 }
 
 abbrev pub invariant-items_stated-loop-item : goal.invariant-items_stated-loop-item
 invariant-items_stated-loop-item l =
-    row_stated (row (map json l.item-items)) ≡ with_row l.found (row_stated (row (map json (drop l.item-index l.item-items))))
+    row_stated (row (map json l.item-items)) ≡ with_row l.found
+    (row_stated (row (map json (drop l.item-index l.item-items))))

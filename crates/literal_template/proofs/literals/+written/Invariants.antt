@@ -17,13 +17,15 @@ decreases-written l = 2 * nesting (json l.value.now)
 
 abbrev pub invariant-fields_written-loop-field : goal.invariant-fields_written-loop-field
 invariant-fields_written-loop-field l = record {
-  all : pairs_written (pairs (map member l.field-items)) ≡ then_pairs l.found (pairs_written (pairs (map member (drop l.field-index l.field-items))));
+  all : pairs_written (pairs (map member l.field-items)) ≡ then_pairs l.found
+      (pairs_written (pairs (map member (drop l.field-index l.field-items))));
   ordered : IsInOrder (l.found ++ map member (drop l.field-index l.field-items));
   whole : PairsAreWhole (pairs l.found);
 }
 
 abbrev pub invariant-items_written-loop-item : goal.invariant-items_written-loop-item
 invariant-items_written-loop-item l = record {
-  all : row_written (row (map json l.item-items)) ≡ then_row l.found (row_written (row (map json (drop l.item-index l.item-items))));
+  all : row_written (row (map json l.item-items)) ≡ then_row l.found
+      (row_written (row (map json (drop l.item-index l.item-items))));
   whole : RowIsWhole (row l.found);
 }

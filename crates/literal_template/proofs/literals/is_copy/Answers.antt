@@ -3,4 +3,5 @@ use Rattle.literal_template.proofs.Words.{same_bytes}
 use Rattle.literal_template.proofs.literals.is_copy.Goals as goal
 
 pub returns : goal.returns
-returns c = c.eq.ensures ∙ same_bytes c.as_str.result.now c.args.name.now (codes "copy") c.as_str.utf8 c.as_str.ensures.characters refl
+returns c = c.eq.ensures
+    ∙ same_bytes c.as_str.result.now c.args.name.now (codes "copy") c.as_str.utf8 c.as_str.ensures.characters refl

@@ -15,7 +15,9 @@ decreases-is_plain l = 2 * nesting (json l.value.now)
 
 abbrev pub invariant-fields_are_plain-loop-field : goal.invariant-fields_are_plain-loop-field
 invariant-fields_are_plain-loop-field l =
-    pairs_are_plain (pairs (map member l.field-items)) ≡ pairs_are_plain (pairs (map member (drop l.field-index l.field-items)))
+    pairs_are_plain (pairs (map member l.field-items)) ≡ pairs_are_plain
+    (pairs (map member (drop l.field-index l.field-items)))
 
 abbrev pub invariant-items_are_plain-loop-item : goal.invariant-items_are_plain-loop-item
-invariant-items_are_plain-loop-item l = row_is_plain (row (map json l.item-items)) ≡ row_is_plain (row (map json (drop l.item-index l.item-items)))
+invariant-items_are_plain-loop-item l =
+    row_is_plain (row (map json l.item-items)) ≡ row_is_plain (row (map json (drop l.item-index l.item-items)))

@@ -4,4 +4,5 @@ use Rattle.literal_template.specs.Resources.{IsLiteral}
 use Rattle.literal_template.proofs.plain.are_literal.Given as goal
 
 abbrev pub invariant-loop-resource : goal.invariant-loop-resource
-invariant-loop-resource l = AllByRecursion IsLiteral (drop l.resource-index l.resources) ↔ AllByRecursion IsLiteral l.resources
+invariant-loop-resource l = AllByRecursion IsLiteral (drop l.resource-index l.resources)
+    ↔ AllByRecursion IsLiteral l.resources

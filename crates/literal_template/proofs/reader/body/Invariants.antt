@@ -8,6 +8,7 @@ use Rattle.literal_template.proofs.reader.body.Given as goal
 
 abbrev pub invariant-loop-field : goal.invariant-loop-field
 invariant-loop-field l = record {
-  all : pairs_stated (body_members (pairs (map member l.field-items))) ≡ with_pairs l.found (pairs_stated (body_members (pairs (map member (drop l.field-index l.field-items)))));
+  all : pairs_stated (body_members (pairs (map member l.field-items))) ≡ with_pairs l.found
+      (pairs_stated (body_members (pairs (map member (drop l.field-index l.field-items)))));
   ordered : IsInOrder (l.found ++ map member (drop l.field-index l.field-items));
 }

@@ -8,4 +8,6 @@ use Rattle.literal_template.proofs.reader.has_version.Goals as goal
 
 pub returns : goal.returns
 returns c =
-    c.is_some.ensures ∙ is_some-map (λ t. t.now) c.text_at.result ∙ ap is_some (c.text_at.ensures ∙ ap (λ n. text_of (look_in n (pairs c.args.fields.now))) (word (codes "contentVersion") refl))
+    c.is_some.ensures ∙ is_some-map (λ t. t.now) c.text_at.result
+    ∙ ap is_some (c.text_at.ensures
+    ∙ ap (λ n. text_of (look_in n (pairs c.args.fields.now))) (word (codes "contentVersion") refl))

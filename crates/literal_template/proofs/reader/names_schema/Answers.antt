@@ -7,7 +7,11 @@ use Rattle.literal_template.proofs.reader.names_schema.Goals as goal
 
 pub returns-in_ok-is_schema-in-Some : goal.returns-in_ok-is_schema-in-Some
 returns-in_ok-is_schema-in-Some c =
-    c.in_ok-is_schema-in-Some.ensures ∙ ap names_schema (c.in-Some.ensures ∙ ap (λ n. text_of (look_in n (pairs c.args.fields.now))) (word (codes "$schema") refl))
+    c.in_ok-is_schema-in-Some.ensures
+    ∙ ap names_schema (c.in-Some.ensures
+    ∙ ap (λ n. text_of (look_in n (pairs c.args.fields.now))) (word (codes "$schema") refl))
 
 pub returns-in-None : goal.returns-in-None
-returns-in-None c = ap names_schema (c.in-None.ensures ∙ ap (λ n. text_of (look_in n (pairs c.args.fields.now))) (word (codes "$schema") refl))
+returns-in-None c =
+    ap names_schema (c.in-None.ensures
+    ∙ ap (λ n. text_of (look_in n (pairs c.args.fields.now))) (word (codes "$schema") refl))

@@ -16,4 +16,5 @@ returns-in-Ok-clause-written c =
 
 pub returns-in-Ok-clause-unrefused : goal.returns-in-Ok-clause-unrefused
 returns-in-Ok-clause-unrefused c =
-    read_unrefused c.args.bytes.now (json c.in-Ok.value) c.stated_by.result c.in-Ok.ensures.ok c.stated_by.ensures.refused
+    read_unrefused c.args.bytes.now (json c.in-Ok.value) c.stated_by.result c.in-Ok.ensures.ok
+    c.stated_by.ensures.refused

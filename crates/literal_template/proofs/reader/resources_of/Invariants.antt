@@ -7,4 +7,5 @@ use Rattle.literal_template.proofs.reader.resources_of.Given as goal
 
 abbrev pub invariant-loop-item : goal.invariant-loop-item
 invariant-loop-item l =
-    resources_of (row (map json l.item-items)) ≡ with_resources l.found.items (resources_of (row (map json (drop l.item-index l.item-items))))
+    resources_of (row (map json l.item-items)) ≡ with_resources l.found.items
+    (resources_of (row (map json (drop l.item-index l.item-items))))

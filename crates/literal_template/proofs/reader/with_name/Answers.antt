@@ -6,4 +6,6 @@ pub returns-in_ok-resource-in-Ok-Some : goal.returns-in_ok-resource-in-Ok-Some
 returns-in_ok-resource-in-Ok-Some c =
     let kind = c.args.kind.now in
     let api = c.args.api.now in
-    ap Some c.in_ok-resource-in-Ok-Some.ensures ∙ parts_made kind api kind api (Some c.args.name) c.args.name _ _ c.in-Ok-Some.body c.requires refl refl refl c.in-Ok-Some.ensures c.in-Ok-Some.field-0-is
+    ap Some c.in_ok-resource-in-Ok-Some.ensures
+    ∙ parts_made kind api kind api (Some c.args.name) c.args.name _ _ c.in-Ok-Some.body c.requires refl refl refl
+    c.in-Ok-Some.ensures c.in-Ok-Some.field-0-is

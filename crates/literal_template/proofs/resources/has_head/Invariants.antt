@@ -7,4 +7,5 @@ use Rattle.literal_template.proofs.resources.has_head.Given as goal
 
 abbrev pub invariant-loop-field : goal.invariant-loop-field
 invariant-loop-field l =
-    list_any is_head (pair_keys (pairs (map member l.field-items))) ≡ list_any is_head (pair_keys (pairs (map member (drop l.field-index l.field-items))))
+    list_any is_head (pair_keys (pairs (map member l.field-items))) ≡ list_any is_head
+    (pair_keys (pairs (map member (drop l.field-index l.field-items))))

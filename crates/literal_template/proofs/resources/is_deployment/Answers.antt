@@ -6,4 +6,5 @@ use Rattle.literal_template.proofs.resources.is_deployment.Goals as goal
 
 pub returns : goal.returns
 unfolding is_deployment
-returns c = c.is_same.ensures ∙ ap₂ is_same_folded c.as_str.ensures.characters (word (codes "Microsoft.Resources/deployments") refl)
+returns c = c.is_same.ensures
+    ∙ ap₂ is_same_folded c.as_str.ensures.characters (word (codes "Microsoft.Resources/deployments") refl)

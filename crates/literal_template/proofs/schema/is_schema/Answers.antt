@@ -9,5 +9,6 @@ pub returns : goal.returns
 unfolding is_schema
 returns c =
     c.ends_as_schema.ensures
-    ∙ ap (λ (bs : List ℕ). ends_with nat_eq bs (codes "/deploymenttemplate.json") || ends_with nat_eq bs (codes "/deploymenttemplate.json#"))
+    ∙ ap (λ (bs : List ℕ). ends_with nat_eq bs (codes "/deploymenttemplate.json") || ends_with nat_eq bs
+    (codes "/deploymenttemplate.json#"))
     (c.as_bytes.ensures.value ∙ c.in_ok-address.ensures ∙ ap fold c.as_str.ensures.bytes ∙ fold-encodes c.args.text.now)

@@ -10,7 +10,9 @@ with_item-requires c =
     let r = c.resource-item.result in
     let all = c.args.resources.now in
     let i = c.loop-resource.resource-index in
-    value_nests r (drop (i + 1) all) _ (literal_step all i r c.loop-resource.invariant.literal c.loop-resource-test.true c.resource-item.is) c.in-Ok.ensures.value
+    value_nests r (drop (i + 1) all) _
+    (literal_step all i r c.loop-resource.invariant.literal c.loop-resource-test.true c.resource-item.is)
+    c.in-Ok.ensures.value
 
 pub loop-resource-preserved : goal.loop-resource-preserved
 loop-resource-preserved c =
@@ -18,10 +20,14 @@ loop-resource-preserved c =
     let all = c.args.resources.now in
     let i = c.loop-resource.resource-index in
     record {
-      all = values_step _ c.in_ok-values-in-Ok.values c.loop-resource.values all i r _ c.loop-resource.invariant.all c.loop-resource-test.true c.resource-item.is c.in-Ok.ensures.value c.in_ok-values-in-Ok.ensures;
-      whole = subst (λ js. RowIsWhole (row js)) (sym c.in_ok-values-in-Ok.ensures) (RowIsWhole-push c.loop-resource.values _ c.loop-resource.invariant.whole c.in-Ok.ensures.whole);
+      all = values_step _ c.in_ok-values-in-Ok.values c.loop-resource.values all i r _ c.loop-resource.invariant.all
+          c.loop-resource-test.true c.resource-item.is c.in-Ok.ensures.value c.in_ok-values-in-Ok.ensures;
+      whole = subst (λ js. RowIsWhole (row js)) (sym c.in_ok-values-in-Ok.ensures)
+          (RowIsWhole-push c.loop-resource.values _ c.loop-resource.invariant.whole c.in-Ok.ensures.whole);
       literal = (literal_step all i r c.loop-resource.invariant.literal c.loop-resource-test.true c.resource-item.is).1;
     }
 
 pub returns-clause-values : goal.returns-clause-values
-returns-clause-values c = values_end c.loop-resource.values c.args.resources.now c.loop-resource.resource-index c.loop-resource.invariant.all c.loop-resource-test.false
+returns-clause-values c =
+    values_end c.loop-resource.values c.args.resources.now c.loop-resource.resource-index
+    c.loop-resource.invariant.all c.loop-resource-test.false

@@ -10,4 +10,6 @@ pub returns-clause-stated : goal.returns-clause-stated
 returns-clause-stated c =
     let v = json c.in_ok-template.template in
     let rs = c.args.resources.now in
-    IfOk-weaker c.to_json.result (λ b. reading b ≡ Some (data_of v)) (λ b. StatedBy b rs) (λ (b : List ℕ) r. bytes_state b rs v c.requires c.in_ok-template.ensures.value c.in_ok-template.ensures.whole r) c.to_json.ensures.reads_back
+    IfOk-weaker c.to_json.result (λ b. reading b ≡ Some (data_of v)) (λ b. StatedBy b rs)
+    (λ (b : List ℕ) r. bytes_state b rs v c.requires c.in_ok-template.ensures.value c.in_ok-template.ensures.whole
+    r) c.to_json.ensures.reads_back

@@ -5,4 +5,6 @@ use Rattle.mem_disk.proofs.crash.leave_write.Goals as goal
 
 pub returns-in_ok-overwrite-in-Front : goal.returns-in_ok-overwrite-in-Front
 returns-in_ok-overwrite-in-Front c =
-    torn_by c.args.at (length c.args.bytes.now) (take c.min.result c.args.bytes.now) c.args.file.now.items c.overwrite-in-Front.new.file.items c.in_ok-overwrite-in-Front.ensures.ok (omega (arith, length-take c.min.result c.args.bytes.now))
+    torn_by c.args.at (length c.args.bytes.now) (take c.min.result c.args.bytes.now) c.args.file.now.items
+    c.overwrite-in-Front.new.file.items c.in_ok-overwrite-in-Front.ensures.ok
+    (omega (arith, length-take c.min.result c.args.bytes.now))

@@ -7,4 +7,6 @@ use Rattle.provider_trait.proofs.catalog.has_wrong_properties.Goals as goal
 
 pub returns : goal.returns
 returns c =
-    ap not (c.is_object_or_none.ensures ∙ ap is_object_or_none (c.look.ensures ∙ ap (λ n. look n (json c.args.body.now)) (word (codes "properties") refl)))
+    ap not (c.is_object_or_none.ensures
+    ∙ ap is_object_or_none (c.look.ensures
+    ∙ ap (λ n. look n (json c.args.body.now)) (word (codes "properties") refl)))

@@ -8,4 +8,6 @@ use Rattle.provider_trait.proofs.catalog.lacks_location.Goals as goal
 
 pub returns-then-needs_location : goal.returns-then-needs_location
 returns-then-needs_location c =
-    asks (needs_location c.args.named.now.kind) _ _ (sym c.needs_location.ensures ∙ c.if-needs_location.true) (ap not (c.is_text.ensures ∙ ap is_text (c.look.ensures ∙ ap (λ n. look n (json c.args.body.now)) (word (codes "location") refl))))
+    asks (needs_location c.args.named.now.kind) _ _ (sym c.needs_location.ensures ∙ c.if-needs_location.true)
+    (ap not (c.is_text.ensures
+    ∙ ap is_text (c.look.ensures ∙ ap (λ n. look n (json c.args.body.now)) (word (codes "location") refl))))

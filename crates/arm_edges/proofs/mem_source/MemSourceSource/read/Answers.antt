@@ -11,7 +11,14 @@ returns-clause-told c = λ _.
     let rest : take (length c.deref.result.now - at) (drop at c.deref.result.now) ≡ drop at bytes =
     take_rest c.deref.result.now at ∙ ap (λ (l : List ℕ). drop at l) c.deref.ensures.value in
     let within : n ≤ length (drop at bytes) = omega (arith, ap length rest) in
-    let copied : c.copy_from_slice.new.self ≡ take n (drop at bytes) = c.copy_from_slice.ensures.after ∙ ap (λ (l : List ℕ). take n l) rest in
+    let copied : c.copy_from_slice.new.self ≡ take n (drop at bytes) = c.copy_from_slice.ensures.after
+    ∙ ap (λ (l : List ℕ). take n l) rest in
     moved bytes c.args.buf.now c.copy_from_slice.new.self at n within copied
     (λ none some. drop_all at bytes (omega (arith, ap length rest, length-drop at bytes, c.in_ok-limit.ensures.some)))
-    (omega (arith, length-append c.copy_from_slice.new.self (drop n c.args.buf.now), length-drop n c.args.buf.now, ap length copied, length-take-le n (drop at bytes) within))
+    (omega (
+      arith,
+      length-append c.copy_from_slice.new.self (drop n c.args.buf.now),
+      length-drop n c.args.buf.now,
+      ap length copied,
+      length-take-le n (drop at bytes) within,
+    ))

@@ -5,4 +5,5 @@ use Rattle.arm_ids.proofs.key.Key.to_id.Goals as goal
 
 pub returns-clause-reads_back : goal.returns-clause-reads_back
 returns-clause-reads_back c =
-    copy_reads_back c.copy.result c.args.self.now c.self.inside.id c.copy.ensures (c.self.invariant.1 ∙ ap folded_text c.self.view_is) (subst IsKey c.self.view_is c.self.invariant.0)
+    copy_reads_back c.copy.result c.args.self.now c.self.inside.id c.copy.ensures (c.self.invariant.1
+    ∙ ap folded_text c.self.view_is) (subst IsKey c.self.view_is c.self.invariant.0)

@@ -10,5 +10,14 @@ invariant_of-self-2 c =
     let m : Member = (c.args.name, json c.args.value) in
     let deep = members_nesting-push old m in
     let last : IsInOrder (old ++ m ∷ []) = rw c.self.view_is c.requires.last in
-    rw (c.in_ok-add.ensures, map-push member (held c.self.inside.fields) (record { name = c.args.name; value = c.args.value }))
-    (omega (arith, deep), (last, PairsAreOrderly-push old m c.self.invariant.1.1 c.nesting-depth.ensures.rules.0, omega (arith, deep)))
+    rw (
+      c.in_ok-add.ensures,
+      map-push member (held c.self.inside.fields) (record { name = c.args.name; value = c.args.value }),
+    ) (
+      omega (arith, deep),
+      (
+        last,
+        PairsAreOrderly-push old m c.self.invariant.1.1 c.nesting-depth.ensures.rules.0,
+        omega (arith, deep),
+      ),
+    )

@@ -17,7 +17,9 @@ returns-clause-text c =
     let j = json c.args.self.now in
     let ts = c.write.new.out.tokens in
     let end = c.into_inner.ensures in
-    let bytes : c.into_inner.result.items ≡ print ts = end.items ∙ ap (λ b. b ++ print ts) (c.in_ok-write.ensures.before ∙ c.new-out.ensures.before ∙ c.in_ok-with_capacity.ensures.items) in
+    let bytes : c.into_inner.result.items ≡ print ts = end.items
+    ∙ ap (λ b. b ++ print ts) (c.in_ok-write.ensures.before ∙ c.new-out.ensures.before
+    ∙ c.in_ok-with_capacity.ensures.items) in
     let w = subst (λ old. WritesValue (data_of j) old ts) c.new-out.ensures.tokens c.in_ok-write.ensures.ok in
     let order = tokens_from_order (print ts) (data_of j) (w.0, end.reads_back ∙ w.1, w.4) (has_float-data_of j) in
     c.from_vec.ensures ∙ bytes ∙ ap print (sym end.reads_back ∙ order) ∙ print-outline (data_of j)
@@ -27,8 +29,11 @@ returns-clause-reads_back c =
     let j = json c.args.self.now in
     let ts = c.write.new.out.tokens in
     let end = c.into_inner.ensures in
-    let bytes : c.into_inner.result.items ≡ print ts = end.items ∙ ap (λ b. b ++ print ts) (c.in_ok-write.ensures.before ∙ c.new-out.ensures.before ∙ c.in_ok-with_capacity.ensures.items) in
+    let bytes : c.into_inner.result.items ≡ print ts = end.items
+    ∙ ap (λ b. b ++ print ts) (c.in_ok-write.ensures.before ∙ c.new-out.ensures.before
+    ∙ c.in_ok-with_capacity.ensures.items) in
     let w = subst (λ old. WritesValue (data_of j) old ts) c.new-out.ensures.tokens c.in_ok-write.ensures.ok in
     let within : depth (data_of j) ≤ 127 = omega (arith, depth-data_of j, c.nesting-nesting.ensures.rules.1) in
-    let read = read_of_tokens (data_of j) w.0 c.into_inner.result.items (ap tokens bytes ∙ end.reads_back ∙ w.1) w.2 (omega (arith, w.3, within)) in
+    let read = read_of_tokens (data_of j) w.0 c.into_inner.result.items (ap tokens bytes ∙ end.reads_back ∙ w.1) w.2
+    (omega (arith, w.3, within)) in
     rw c.from_vec.ensures (reading_some c.into_inner.result.items (data_of j) (subst IsUtf8 (sym bytes) end.utf8) read)

@@ -8,7 +8,8 @@ use Rattle.bicep_lexer.proofs.lexer.Lexer.step.Goals as goal
 pub returns-in-Err-clause-fault : goal.returns-in-Err-clause-fault
 returns-in-Err-clause-fault c ne =
     let s = c.args.self.now in
-    step_is s.text.now s.at s.opened.items s.line (map standing s.found.items) (Err c.in-Err.fault) c.requires c.in-Err.ensures.value
+    step_is s.text.now s.at s.opened.items s.line (map standing s.found.items) (Err c.in-Err.fault) c.requires
+    c.in-Err.ensures.value
 
 pub overflow_add-self : goal.overflow_add-self
 overflow_add-self c =
@@ -20,7 +21,8 @@ pub returns-in-Ok-Skipped-clause-reading : goal.returns-in-Ok-Skipped-clause-rea
 returns-in-Ok-Skipped-clause-reading c =
     let s = c.args.self.now in
     let is = rw c.in-Ok-Skipped.field-0-is at c.in-Ok-Skipped.ensures.value in
-    sym (step_is s.text.now s.at s.opened.items s.line (map standing s.found.items) (Ok (front.Skipped c.in-Ok-Skipped.count c.in-Ok-Skipped.line)) c.requires is)
+    sym (step_is s.text.now s.at s.opened.items s.line (map standing s.found.items)
+    (Ok (front.Skipped c.in-Ok-Skipped.count c.in-Ok-Skipped.line)) c.requires is)
 
 pub push-requires : goal.push-requires
 push-requires c = rw c.in-Ok-Newline.field-0-is at c.in-Ok-Newline.ensures.span
@@ -31,7 +33,8 @@ returns-in_ok-push-in-Ok-Newline-clause-reading c =
     let p = c.in_ok-push-in-Ok-Newline.ensures in
     let is = rw c.in-Ok-Newline.field-0-is at c.in-Ok-Newline.ensures.value in
     whole_same _ _ _ _ _ _ _ _ _ _ p.rest.0 p.at p.rest.1 p.found
-    (sym (step_is s.text.now s.at s.opened.items s.line (map standing s.found.items) (Ok (front.Newline c.in-Ok-Newline.count)) c.requires is))
+    (sym (step_is s.text.now s.at s.opened.items s.line (map standing s.found.items)
+    (Ok (front.Newline c.in-Ok-Newline.count)) c.requires is))
 
 pub push-requires-in-Ok-Word : goal.push-requires-in-Ok-Word
 push-requires-in-Ok-Word c = rw c.in-Ok-Word.field-0-is at c.in-Ok-Word.ensures.span
@@ -42,5 +45,7 @@ returns-in_ok-turn-in-Ok-Word-clause-reading c =
     let is = rw c.in-Ok-Word.field-0-is at c.in-Ok-Word.ensures.value in
     let p = c.in_ok-push-in-Ok-Word.ensures in
     let t = c.in_ok-turn-in-Ok-Word.ensures in
-    whole_same _ _ _ _ _ _ _ _ _ _ (t.rest.0 ∙ p.rest.0) (t.rest.1 ∙ p.at) (t.opened ∙ ap (turned c.in-Ok-Word.turn) p.rest.1) (t.rest.3 ∙ p.found)
-    (sym (step_is s.text.now s.at s.opened.items s.line (map standing s.found.items) (Ok (front.Word c.in-Ok-Word.kind c.in-Ok-Word.count c.in-Ok-Word.turn)) c.requires is))
+    whole_same _ _ _ _ _ _ _ _ _ _ (t.rest.0 ∙ p.rest.0) (t.rest.1 ∙ p.at) (t.opened
+    ∙ ap (turned c.in-Ok-Word.turn) p.rest.1) (t.rest.3 ∙ p.found)
+    (sym (step_is s.text.now s.at s.opened.items s.line (map standing s.found.items)
+    (Ok (front.Word c.in-Ok-Word.kind c.in-Ok-Word.count c.in-Ok-Word.turn)) c.requires is))

@@ -5,4 +5,6 @@ use Rattle.provider_trait.proofs.named.Named.is_storage.Goals as goal
 
 pub returns : goal.returns
 returns c =
-    c.is_kind.ensures ∙ kind_is c.args.self.now.kind (codes "Microsoft.Storage/storageAccounts") (word (codes "Microsoft.Storage/storageAccounts") refl)
+    c.is_kind.ensures
+    ∙ kind_is c.args.self.now.kind (codes "Microsoft.Storage/storageAccounts")
+    (word (codes "Microsoft.Storage/storageAccounts") refl)

@@ -1,4 +1,4 @@
--- A tree and the data of `serde_json` that it stands for, part by part.
+-- A tree and its data of `serde_json`, part by part.
 use Rattle.std.proofs.Common.{◌≡◌, ◌≤◌, ℕ, zero, suc, ◌<◌, length, get_or, max, Option, Some, None, List, [], ◌∷◌}
 use Rattle.std.proofs.Common.{◌++◌, option_map, map, string_bytes, String, Global, encode_utf8_all, refl, ap, ap₂}
 use Rattle.std.proofs.Common.{sym, ◌∙◌, arith, rules, subst, Less, nat_cmp}

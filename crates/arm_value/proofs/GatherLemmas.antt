@@ -20,7 +20,7 @@ use Rattle.arm_value.proofs.SetLemmas.{equal_keys, members_nesting-put}
 abbrev pub Entry : Type 0
 Entry = String Global × Value
 
--- strings compare as the keys that they stand for
+-- strings compare as their keys do
 pub key_cmp-strings : (a b : String Global) → key_cmp (chars (string_bytes a)) (chars (string_bytes b)) ≡ string_cmp a b
 key_cmp-strings a b = ap₂ (slice_cmp nat_cmp) (encodes-chars (string_bytes a) (IsUtf8-string_bytes a))
     (encodes-chars (string_bytes b) (IsUtf8-string_bytes b))

@@ -23,7 +23,7 @@ pub whole_name : (bytes yielded all : List ℕ) → map (λ x. x) yielded ≡ al
     → bytes ≡ encode_utf8_all (token all)
 whole_name bytes yielded all e b = b ∙ ap (λ cs. encode_utf8_all (token cs)) (sym (map-itself yielded) ∙ e)
 
--- a text is told by its bytes
+-- texts with the same bytes are the same
 pub text_is : (text bytes wanted : List ℕ) → encode_utf8_all text ≡ bytes → bytes ≡ encode_utf8_all wanted
     → text ≡ wanted
 text_is text bytes wanted e w = encodes_same text wanted (e ∙ w)

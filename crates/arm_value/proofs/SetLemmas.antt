@@ -27,7 +27,7 @@ pub drop_from : {A : Type 0} (xs : List A) (i : ℕ) (x : A) → i < length xs �
     → drop i xs ≡ x ∷ drop (i + 1) xs
 drop_from xs i x h e = rw add-one (drop-cons xs i x h ∙ ap (λ y. y ∷ drop (suc i) xs) (sym e))
 
--- ---- where a key stands
+-- ---- the place of a key
 
 reversed : (k l : List ℕ) (o : Ordering) → key_cmp l k ≡ o → key_cmp k l ≡ ordering_reverse o
 reversed k l o e = nat_list_cmp_total.antisymm (encode_utf8_all k) (encode_utf8_all l) ∙ ap ordering_reverse e

@@ -1,4 +1,4 @@
--- Where a key stands among members, or where it would stand.
+-- The place of a key among members, or the place where it would be inserted.
 use Rattle.std.specs.Prelude.{◌≡◌, ◌<◌, ◌≤◌, ℕ, zero, suc, max, List, [], ◌∷◌, length, insert, Result, Ok, Err}
 use Rattle.arm_value.specs.Json.{Json, Member, nesting, members_nesting, put}
 

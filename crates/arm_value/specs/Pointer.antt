@@ -10,6 +10,6 @@ abbrev pub token : List ℕ → List ℕ
 token [] = []
 token (c ∷ cs) = token_character c ++ token cs
 
--- one step of a pointer: `/` and what stands behind it
+-- one step of a pointer: `/` and what follows it
 abbrev pub step : List ℕ → List ℕ
 step spelled = 47 ∷ spelled

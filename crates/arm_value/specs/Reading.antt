@@ -8,7 +8,7 @@ use Rattle.serde_json.specs.Find.{as_i64, of_integer}
 use Rattle.arm_value.specs.Pointer.{step, token}
 use Rattle.arm_value.specs.Json.{Json, null, bool, int, text, array, object, Row, no_items, item, Pairs, no_pairs, pair}
 
--- the data of `serde_json` that a tree stands for: its texts in UTF-8
+-- the data of `serde_json` for a tree: its texts in UTF-8
 abbrev mutual
   pub data_of : Json → d.Data
   data_of null = d.null

@@ -1,4 +1,4 @@
--- The tree that a value of the code stands for.
+-- The tree of a value of the code.
 use Rattle.std.specs.Prelude.{List, [], Option, Some, None, chars, string_bytes}
 use Rattle.std.specs.declared.vec.Vec.{Vec}
 use Rattle.std.specs.declared.alloc.Global.{Global}
@@ -19,7 +19,7 @@ json (Object ms) = object (pairs ms)
 abbrev pub member : Field → Member
 member f = (f.name, json f.value)
 
--- the member that a map's entry stands for
+-- the member of a map's entry
 abbrev pub entry : String Global × Value → Member
 entry e = (chars (string_bytes e.0), json e.1)
 

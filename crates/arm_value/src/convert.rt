@@ -5,7 +5,8 @@ ghost use Rattle.serde_json.specs.View.{view, items_view, members_view};
 ghost use Rattle.arm_value.specs.Json.{pairs, row};
 ghost use Rattle.arm_value.specs.View.{json};
 ghost use Rattle.arm_value.specs.Pointer.{token};
-ghost use Rattle.arm_value.specs.Reading.{data_of, row_data, pairs_data, not_whole, items_not_whole, members_not_whole, below};
+ghost use Rattle.arm_value.specs.Reading.{data_of, row_data, pairs_data, not_whole, items_not_whole};
+ghost use Rattle.arm_value.specs.Reading.{members_not_whole, below};
 
 use crate::memory::OutOfMemory;
 use crate::path::Path;

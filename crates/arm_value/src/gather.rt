@@ -20,7 +20,7 @@ fn sorted(alloc: Global, members: Vec<Field>) -> Result<BTreeMap<String, Value>,
     Ok(sorted)
 }
 
-// The members of values that stand by their names.
+// The members of values that are sorted by their names.
 fn in_order(alloc: Global, sorted: BTreeMap<String, Value>) -> Result<Fields, OutOfMemory>
     requires { members_nesting (map entry sorted.entries) ≤ 119 }
     ensures { IfOk result (λ f. f ≡ map entry sorted.entries) }
@@ -35,7 +35,7 @@ fn in_order(alloc: Global, sorted: BTreeMap<String, Value>) -> Result<Fields, Ou
 impl Fields {
     /// The members of these names and values; where a name comes again, the later value wins.
     ///
-    /// It takes time in the order of n log n for n members. `deepest_member` tells their nesting.
+    /// It takes time in the order of n log n for n members. `deepest_member` returns their nesting.
     pub fn from_members(alloc: Global, members: Vec<Field>) -> Result<Fields, OutOfMemory>
         requires { members_nesting (map member members.items) ≤ 119 }
         ensures { IfOk result (λ f. f ≡ put_each [] (map member members.items)) }

@@ -1,7 +1,7 @@
 //! JSON values whose numbers are whole, as trees of owned parts.
 //!
-//! A caller may rely on what the contracts say of the tree that a value stands for (`json` of
-//! `specs/View`, over the trees of `specs/Json`): members stand in byte order under differing keys,
+//! A caller may rely on what the contracts say of the tree of a value (`json` of `specs/View`, over
+//! the trees of `specs/Json`): the members of an object are in byte order and have different names,
 //! and nothing nests above 120. Reading and writing rest on `serde_json` (`specs/Reading`).
 //! Beside values it has texts, bytes, JSON pointers and lists of these.
 #![tactic(auto)]

@@ -1,4 +1,6 @@
-ghost use Rattle.std.specs.Prelude.{◌≡◌, ◌∷◌, ◌++◌, [], length, slice_get, option_copied, if◌then◌else◌, is_ok, ◌<◌, ◌^◌};
+// Lists whose elements contracts see by their own models.
+ghost use Rattle.std.specs.Prelude.{◌≡◌, ◌∷◌, ◌++◌, [], length, slice_get, option_copied, if◌then◌else◌, is_ok, ◌<◌};
+ghost use Rattle.std.specs.Prelude.{◌^◌};
 
 use crate::memory::OutOfMemory;
 use std::alloc::Global;

@@ -1,6 +1,7 @@
+// The answer to an allocation that is refused.
 use std::alloc::AllocError;
 
-/// Want of memory: an allocation was refused.
+/// Out of memory: an allocation was refused.
 ///
-/// Where a call answers so, what it was lent is as it was, unless the call says otherwise.
+/// After a call with this answer, what it borrowed is unchanged, unless the call says otherwise.
 pub type OutOfMemory = AllocError;

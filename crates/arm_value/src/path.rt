@@ -1,3 +1,4 @@
+// JSON pointers: paths into a value (RFC 6901).
 ghost use Rattle.std.specs.Prelude.{◌≡◌, ◌∷◌, ◌++◌, [], chars, string_bytes, encode_utf8_all, decimal, IfOk, OnOk};
 ghost use Rattle.arm_value.specs.Pointer.{step, token, token_character};
 

@@ -8,10 +8,11 @@ ghost use Rattle.arm_value.specs.Fault.{Gives, Explains};
 use crate::convert::{convert, find_not_whole, is_within};
 use crate::path::Path;
 use crate::value::Value;
+use foundation::limits::MAX_JSON_NESTING;
 use std::alloc::{AllocError, Global};
 use thiserror::Error;
 
-/// Why bytes give no value. Where several hold, the first of them in this order is told.
+/// Why bytes give no value. Where several hold, the answer is the first of them in this order.
 #[derive(Debug, Drop, Error)]
 pub enum JsonFault {
     /// `serde_json` reads no value: the bytes are no JSON text (RFC 8259) in UTF-8, or nest above 127.
@@ -55,7 +56,7 @@ impl Value {
                 JsonFault::NotJson
             }),
         };
-        if !is_within(&data, 120) {
+        if !is_within(&data, MAX_JSON_NESTING) {
             return Err(JsonFault::TooDeep);
         }
         match find_not_whole(alloc, &data)? {

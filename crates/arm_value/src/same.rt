@@ -13,7 +13,7 @@ impl Text {
         ensures test { result ≡ bytes_eq self.now other.now }
         ensures equal { IsTrue result ↔ (self.now ≡ other.now) }
     {
-        other.is(self.as_str())
+        other.equals(self.as_str())
     }
 }
 

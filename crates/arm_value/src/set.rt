@@ -16,7 +16,7 @@ fn compare(field: &Field, name: &str) -> Ordering
     field.name.as_str().cmp(name)
 }
 
-// Where the name stands among these, or where it would stand.
+// The place of the name among these, or the place where it would be inserted.
 pub(crate) fn place(fields: &[Field], name: &str) -> Result<usize, usize>
     requires { IsInOrder (map member fields.now) }
     ensures { IsPlace (chars name.now) (map member fields.now) result }

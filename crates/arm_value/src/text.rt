@@ -1,3 +1,4 @@
+// Texts: lists of Unicode characters.
 ghost use Rattle.std.specs.Prelude.{◌≡◌, chars, encode_utf8_all, IfOk, string_bytes};
 
 use crate::memory::OutOfMemory;

@@ -1,3 +1,4 @@
+// Lists of texts.
 ghost use Rattle.std.specs.Prelude.{◌≡◌, IfOk};
 
 use crate::list_of::ListOf;

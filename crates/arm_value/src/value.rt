@@ -1,5 +1,8 @@
-ghost use Rattle.std.specs.Prelude.{◌≡◌, ◌≤◌, ℕ, List, [], ◌∷◌, ◌++◌, length, map, max, IfOk, OnOk, OnErr, slice_get, option_map, encode_utf8_all, if◌then◌else◌, is_ok, chars, insert, ◌<◌};
-ghost use Rattle.arm_value.specs.Json.{Json, Member, nesting, items_nesting, members_nesting, IsValue, AreItems, AreMembers, IsInOrder, RowIsOrderly, row, put, type_name};
+// JSON values, arrays and objects, and their parts.
+ghost use Rattle.std.specs.Prelude.{◌≡◌, ◌≤◌, ℕ, List, [], ◌∷◌, ◌++◌, length, map, max, IfOk, OnOk, OnErr, slice_get};
+ghost use Rattle.std.specs.Prelude.{option_map, encode_utf8_all, if◌then◌else◌, is_ok, chars, insert, ◌<◌};
+ghost use Rattle.arm_value.specs.Json.{Json, Member, nesting, items_nesting, members_nesting, IsValue, AreItems};
+ghost use Rattle.arm_value.specs.Json.{AreMembers, IsInOrder, RowIsOrderly, row, put, type_name};
 ghost use Rattle.arm_value.specs.View.{json, member, held};
 ghost use Rattle.arm_value.specs.Place.{replaced};
 
@@ -50,7 +53,7 @@ pub struct Field {
 
 /// The members of an object, which contracts see as the list of their names and trees.
 ///
-/// The names differ, and stand in the order of their bytes in UTF-8.
+/// The names differ, and are in the order of their bytes in UTF-8.
 #[cycle(value)]
 #[derive(Drop)]
 pub struct Fields {
@@ -147,7 +150,7 @@ impl Items {
         }
     }
 
-    /// The items of a vector, of which `deepest_item` tells the nesting. It takes no memory.
+    /// The items of a vector, of which `deepest_item` returns the nesting. It takes no memory.
     pub fn from_vec(values: Vec<Value>) -> Items
         requires { items_nesting (map json values.items) ≤ 119 }
         ensures { result ≡ map json values.items }
@@ -265,7 +268,7 @@ impl Fields {
         self.depth
     }
 
-    /// Adds a member whose name comes behind all that are there.
+    /// Adds a member whose name comes after all that are there.
     /// After want of memory the members are as they were.
     pub fn push_last(&mut self, alloc: Global, name: Text, value: Value) -> Result<(), OutOfMemory>
         requires nests { nesting (json value) ≤ 119 }

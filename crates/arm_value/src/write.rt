@@ -3,7 +3,8 @@ ghost use Rattle.std.specs.Prelude.{◌≡◌, ◌≤◌, [], ◌∷◌, ◌++�
 ghost use Rattle.json.specs.Token.{number};
 ghost use Rattle.serde_json.specs.Read.{number_of};
 ghost use Rattle.serde_json.specs.Find.{of_integer};
-ghost use Rattle.serde_json.specs.Written.{compact_text, number_text, unless_float, WritesValue, WritesItems, WritesMembers};
+ghost use Rattle.serde_json.specs.Written.{compact_text, number_text, unless_float, WritesValue, WritesItems};
+ghost use Rattle.serde_json.specs.Written.{WritesMembers};
 ghost use Rattle.arm_value.specs.Json.{pairs, row};
 ghost use Rattle.arm_value.specs.View.{json};
 ghost use Rattle.arm_value.specs.Reading.{data_of, row_data, pairs_data, reading};
@@ -14,7 +15,7 @@ use crate::value::{Fields, Items, Value};
 use json::Writer;
 use std::alloc::Global;
 
-// Writes the value behind what was written before.
+// Writes the value after what was written before.
 #[cycle(write)]
 fn write(value: &Value, out: &mut Writer) -> Result<(), OutOfMemory>
     ensures ok { OnOk result

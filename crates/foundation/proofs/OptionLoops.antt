@@ -1,7 +1,7 @@
 -- Loops that make a list, item by item, and stop where one has no value.
 use Rattle.std.proofs.Common.{◌≡◌, ◌<◌, ◌≤◌, ◌+◌, ℕ, suc, List, [], ◌∷◌, ◌++◌, length, get_or, drop, map, Option}
 use Rattle.std.proofs.Common.{Some, None, option_map, option_and_then, refl, sym, ap, ◌∙◌, append-nil, append_assoc}
-use Rattle.std.proofs.Common.{add-one, arith}
+use Rattle.std.proofs.Common.{add-one}
 use Rattle.std.proofs.Math.Seq.{drop-cons}
 use Rattle.std.proofs.lemmas.List.{drop_all}
 use Rattle.foundation.specs.Stopping.{Stops}

@@ -13,8 +13,8 @@ is_listed fails call = list_any (λ k. k == call) fails
 abbrev pub one_more : ℕ → ℕ
 one_more n = min (n + 1) 18446744073709551615
 
--- how many bytes the call of that number moves at most: its cut, or the last cut behind them, but one byte at least;
--- with no cuts any number
+-- how many bytes the call of that number moves at most: its cut, or the last cut after the end of the
+-- list, but one byte at least; with no cuts any number
 abbrev pub limit_at : List ℕ → ℕ → ℕ
 limit_at cuts call = if length cuts == 0 then 18446744073709551615
     else max 1 (slice_index cuts (min call (length cuts - 1)))

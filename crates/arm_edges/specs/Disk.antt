@@ -79,7 +79,7 @@ IsKept part parts images = (image : Parts) → images image → on part image �
 abbrev pub AreWithin : ℕ → Parts → Type 0
 AreWithin reach parts = (length parts.a ≤ reach) × (length parts.b ≤ reach)
 
--- the parts of a disk that tells nothing
+-- the parts of a disk that reports nothing
 abbrev pub no_parts : Parts
 no_parts = record { a = []; b = [] }
 

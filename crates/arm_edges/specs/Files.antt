@@ -11,12 +11,12 @@ abbrev pub file_in : List MemFile → List ℕ → Option (List ℕ)
 file_in [] name = None
 file_in (file ∷ files) name = if bytes_eq (string_bytes file.name) name then Some file.bytes else file_in files name
 
--- no file is told
+-- the files of a tree that reports none
 abbrev pub no_files : List ℕ → Option (List ℕ)
 no_files name = None
 
--- an answer to the call for this file, or for none: nothing only where there is none, its bytes where they are not
--- too many, and a refusal where they are
+-- an answer to the call for this file, or for none: None only where there is none, its bytes where they are not too
+-- many, and a refusal where they are
 abbrev pub AnswersFile : Option (List ℕ) → Result (Option (List ℕ)) TreeFault → Type 0
 AnswersFile file (Ok None) = file ≡ None
 AnswersFile file (Ok (Some bytes)) = (file ≡ Some bytes) × (length bytes ≤ 4194304)

@@ -4,3 +4,5 @@ pub mod Flow
 pub mod Files
 pub mod Inside
 pub mod Disk
+pub mod Ends
+pub mod Finished

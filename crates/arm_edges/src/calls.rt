@@ -6,10 +6,11 @@ ghost use Rattle.arm_edges.specs.Calls.{after_call, is_listed, limit_at, one_mor
 
 use crate::Failed;
 
-/// How the calls of an object in memory go, as it was told when it was made.
+/// How the calls of an object in memory go, by the lists that it was made with.
 #[derive(Debug, Drop)]
 pub struct Calls {
-    /// The most bytes that each call moves, in order, and at least one; the last holds for every later call. None: any number.
+    /// The most bytes that each call moves, in order, and at least one; the last holds for every later call. An empty
+    /// list: any number.
     pub cuts: Vec<usize>,
     /// The numbers of the calls that fail, from 0.
     pub fails: Vec<u64>,
@@ -20,7 +21,7 @@ pub struct Calls {
 }
 
 impl Calls {
-    /// No call was made.
+    /// No call was made yet.
     pub fn new(cuts: Vec<usize>, fails: Vec<u64>) -> Calls
         ensures cuts { result.cuts.items ≡ cuts.items }
         ensures fails { result.fails.items ≡ fails.items }
@@ -35,7 +36,8 @@ impl Calls {
         }
     }
 
-    /// Makes the next call, and says how many bytes it moves at most, one at least. It fails, and counts that, exactly where it is listed.
+    /// Makes the next call, and returns how many bytes it moves at most, one at least. It fails, and counts that,
+    /// exactly where it is listed.
     pub fn begin(&mut self) -> Result<usize, Failed>
         ensures listed { IsErr result ↔ IsTrue (is_listed self.old.fails.items self.old.made) }
         ensures limit { IfOk result (λ n. n ≡ limit_at self.old.cuts.items self.old.made) }

@@ -1,6 +1,8 @@
+// Disks of two parts.
 ghost use Rattle.std.specs.Prelude.{◌≡◌, ◌<◌, ◌^◌, ◌≤◌, ◌+◌, ℕ, Bool, true, length, IfOk, OnOk};
 ghost use Rattle.arm_edges.specs.Faults.{HasCause};
-ghost use Rattle.arm_edges.specs.Disk.{Parts, on, other, overwritten, resized, At, Torn, Cut, Unchanged, GoesOn, ReadsAt, IsKept, AreWithin};
+ghost use Rattle.arm_edges.specs.Disk.{Parts, on, other, overwritten, resized, At, Torn, Cut, Unchanged, GoesOn};
+ghost use Rattle.arm_edges.specs.Disk.{ReadsAt, IsKept, AreWithin};
 
 use crate::Failed;
 
@@ -13,13 +15,13 @@ pub enum Part {
 
 /// A disk of two parts, each a row of bytes. Places and lengths are in bytes.
 pub trait Disk: Send {
-    /// Whether disks of this kind tell what a read gives.
+    /// Whether disks of this kind report what a read returns.
     ghost tells_reads: { Bool };
 
-    /// Whether they tell what a crash leaves.
+    /// Whether they report what a crash leaves.
     ghost tells_images: { Bool };
 
-    /// The bytes that a read gives.
+    /// The bytes that a read returns.
     ghost reads: { Self → Parts };
 
     /// The number of this moment, which grows.
@@ -43,7 +45,8 @@ pub trait Disk: Send {
         ensures cause { HasCause (faults self.old) (faults self.new) result }
         ensures reach { reach self.new ≡ reach self.old };
 
-    /// Puts the bytes from that place on at the front of the buffer, and says how many; 0 for a buffer that is not empty is the end.
+    /// Puts the bytes from that place on at the front of the buffer, and returns how many; 0 for a buffer that is not
+    /// empty is the end.
     fn read_at(&mut self, part: Part, at: u64, buf: &mut [u8]) -> Result<usize, Failed>
         ensures bound { IfOk result (λ n. n ≤ length buf.old) }
         ensures told { IfOk result (λ n. tells_reads ≡ true
@@ -53,7 +56,8 @@ pub trait Disk: Send {
         ensures cause { HasCause (faults self.old) (faults self.new) result }
         ensures reach { reach self.new ≡ reach self.old };
 
-    /// Writes all the bytes at that place. A crash before the next sync may leave any bytes in their range and past the old end.
+    /// Writes all the bytes at that place. A crash before the next sync may leave any bytes in their range and past the
+    /// old end.
     fn write_at(&mut self, part: Part, at: u64, bytes: &[u8]) -> Result<(), Failed>
         requires { at + length bytes.now ≤ reach self.old }
         ensures told { OnOk result (tells_reads ≡ true
@@ -66,7 +70,8 @@ pub trait Disk: Send {
         ensures cause { HasCause (faults self.old) (faults self.new) result }
         ensures reach { reach self.new ≡ reach self.old };
 
-    /// Cuts the part to that length, or fills it up to it with zeros. A crash before the next sync may leave any bytes past that length.
+    /// Cuts the part to that length, or fills it up to it with zeros. A crash before the next sync may leave any bytes
+    /// past that length.
     fn cut(&mut self, part: Part, length: u64) -> Result<(), Failed>
         requires { length ≤ reach self.old }
         ensures told { OnOk result (tells_reads ≡ true

@@ -1,3 +1,4 @@
+// Names that stay inside a folder.
 ghost use Rattle.std.specs.Prelude.{◌≡◌};
 ghost use Rattle.std.specs.Path.{path_components};
 ghost use Rattle.arm_edges.specs.Inside.{stays_inside};

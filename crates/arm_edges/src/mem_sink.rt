@@ -1,6 +1,9 @@
-ghost use Rattle.std.specs.Prelude.{◌≡◌, ◌⊎◌, ◌+◌, ◌≤◌, ◌<◌, ◌↔◌, true, [], ◌++◌, length, take, min, IsErr, IsTrue, IfOk, OnErr, if◌then◌else◌};
+// A sink in memory.
+ghost use Rattle.std.specs.Prelude.{◌≡◌, ◌⊎◌, ◌+◌, ◌≤◌, ◌<◌, ◌↔◌, true, [], ◌++◌, length, take, min, IsErr, IsTrue};
+ghost use Rattle.std.specs.Prelude.{IfOk, OnErr, if◌then◌else◌};
 ghost use Rattle.std.specs.Vec.{vec_capacity};
 ghost use Rattle.arm_edges.specs.Faults.{HasCause};
+ghost use Rattle.arm_edges.specs.Ends.{nothing_in};
 ghost use Rattle.arm_edges.specs.Calls.{answered, is_listed, limit_at, one_more};
 
 use crate::{Calls, Failed, Sink};
@@ -55,6 +58,8 @@ impl Sink for MemSink {
 
     ghost written = { λ s. s.bytes.items };
 
+    ghost incoming = { λ _. nothing_in };
+
     ghost faults = { λ s. s.calls.faults };
 
     fn write(&mut self, bytes: &[u8]) -> Result<usize, Failed>
@@ -63,6 +68,7 @@ impl Sink for MemSink {
         ensures told { IfOk result (λ n. true ≡ true
             → self.new.bytes.items ≡ self.old.bytes.items ++ take n bytes.now) }
         ensures failed { OnErr result (true ≡ true → self.new.bytes.items ≡ self.old.bytes.items) }
+        ensures apart { nothing_in ≡ nothing_in }
         ensures cause { HasCause self.old.calls.faults self.new.calls.faults result }
         ensures once { OnErr result (self.new.calls.faults ≡ one_more self.old.calls.faults) }
         ensures piece { IfOk result (λ n.

@@ -1,3 +1,4 @@
+// Files in memory.
 ghost use Rattle.std.specs.Prelude.{◌≡◌, ◌≤◌, ◌↔◌, true, length, IfOk, IfSome, IsTrue, IsErrOf, if◌then◌else◌};
 ghost use Rattle.std.specs.Option.{option_copied};
 ghost use Rattle.arm_edges.specs.Files.{AnswersFile, FileCause, file_in};
@@ -5,6 +6,7 @@ ghost use Rattle.arm_edges.specs.Calls.{after_call, is_listed};
 
 use crate::{Calls, Tree, TreeFault};
 use arm_value::Bytes;
+use foundation::limits::MAX_FILE_BYTES;
 use std::alloc::Global;
 
 /// A file in memory.
@@ -23,9 +25,6 @@ pub struct MemTree {
     pub calls: Calls,
 }
 
-/// The most bytes that a file may have.
-pub(crate) const LARGEST_FILE: usize = 4_194_304;
-
 impl MemTree {
     /// A tree of these files. The calls of those numbers fail.
     pub fn new(alloc: Global, files: Vec<MemFile>, fails: Vec<u64>) -> MemTree
@@ -40,7 +39,7 @@ impl MemTree {
         }
     }
 
-    // The place of that file's bytes.
+    // The bytes of that file.
     fn find(&self, name: &str) -> Option<&Bytes>
         ensures { file_in self.now.files.items name.now ≡ option_copied result }
     {
@@ -75,7 +74,7 @@ impl Tree for MemTree {
         let Some(bytes) = self.find(name) else {
             return Ok(None);
         };
-        if bytes.as_slice().len() > LARGEST_FILE {
+        if bytes.as_slice().len() > MAX_FILE_BYTES {
             return Err(TreeFault::TooLarge);
         }
         match bytes.as_slice().to_vec(alloc) {

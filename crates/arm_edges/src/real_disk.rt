@@ -1,7 +1,8 @@
-ghost use Rattle.std.specs.Prelude.{◌≡◌, ◌≤◌, false, length, Ok, IfOk, string_bytes};
-ghost use Rattle.arm_edges.specs.Faults.{HasCause};
+// A disk of two real files.
+ghost use Rattle.std.specs.Prelude.{◌≡◌, ◌≤◌, false, length, IfOk, string_bytes};
 ghost use Rattle.arm_edges.specs.Disk.{no_parts, of_part, largest_fits};
 
+use crate::faults::counted;
 use crate::{Disk, Failed, Part};
 use std::fs::{File, OpenOptions};
 use std::io;
@@ -20,20 +21,30 @@ struct LazyFile {
 impl LazyFile {
     fn opened<R: Files<File = File>>(&mut self, rt: &R) -> io::Result<&File> {
         if self.file.is_none() {
-            let path = self.path.as_str();
-            let file = OpenOptions::new()
-                .read(true)
-                .write(true)
-                .create(true)
-                .open(rt, path)?;
-            File::open(rt, folder_of(path))?.sync_all()?;
-            self.file = Some(file);
+            self.file = Some(open_synced(rt, self.path.as_str())?);
         }
         match &self.file {
             Some(file) => Ok(file),
             None => unreachable!(),
         }
     }
+}
+
+// The file at that path, made empty where it is missing. Its folder was synced.
+fn open_synced<R: Files<File = File>>(rt: &R, path: &str) -> io::Result<File> {
+    let file = OpenOptions::new()
+        .read(true)
+        .write(true)
+        .create(true)
+        .open(rt, path)?;
+    match sync_folder(rt, folder_of(path)) {
+        Ok(()) => Ok(file),
+        Err(error) => Err(error),
+    }
+}
+
+fn sync_folder<R: Files<File = File>>(rt: &R, folder: &str) -> io::Result<()> {
+    File::open(rt, folder)?.sync_all()
 }
 
 // The folder that holds the file at that path.
@@ -83,7 +94,8 @@ impl<R: Files<File = File> + Drop> PartFiles<R> {
     }
 }
 
-/// Two files. Each is opened at its first call, and made empty where it is missing; its folder is synced then. What they hold is not told.
+/// Two files. Each is opened at its first call, and made empty where it is missing; its folder is synced then. A real
+/// disk does not report what they hold.
 #[derive(Drop)]
 pub struct RealDisk<R: Files<File = File> + Send + Drop> {
     files: PartFiles<R>,
@@ -108,7 +120,7 @@ impl<R: Files<File = File> + Send + Drop> RealDisk<R> {
         }
     }
 
-    /// The files at these paths, in part A and part B.
+    /// The disk of the files at these paths: part A, then part B.
     pub fn new(rt: R, path_a: String, path_b: String) -> RealDisk<R>
         ensures paths { result.files.a.path ≡ path_a × result.files.b.path ≡ path_b }
         ensures faults { result.faults ≡ 0 }
@@ -126,20 +138,6 @@ impl<R: Files<File = File> + Send + Drop> RealDisk<R> {
                 },
             },
             faults: 0,
-        }
-    }
-}
-
-// Counts an error.
-fn counted<T>(faults: &mut u64, answer: io::Result<T>) -> Result<T, Failed>
-    ensures cause { HasCause faults.old faults.new result }
-    ensures value { IfOk result (λ value. answer ≡ Ok value) }
-{
-    match answer {
-        Ok(value) => Ok(value),
-        Err(_) => {
-            *faults = faults.saturating_add(1);
-            Err(Failed)
         }
     }
 }

@@ -1,10 +1,12 @@
+// Standard output.
 ghost use Rattle.std.specs.Prelude.{◌≡◌, false, []};
+ghost use Rattle.arm_edges.specs.Ends.{nothing_in};
 
+use crate::faults::written;
 use crate::{Failed, Sink};
 use std::io;
-use std::io::Write;
 
-/// Standard output. What was written to it is not told.
+/// Standard output. It does not report what was written.
 #[derive(Drop)]
 pub struct RealOut<R: Print + Drop> {
     rt: R,
@@ -32,16 +34,11 @@ impl<R: Print + Drop> Sink for RealOut<R> {
 
     ghost written = { λ _. [] };
 
+    ghost incoming = { λ _. nothing_in };
+
     ghost faults = { λ o. o.faults };
 
     fn write(&mut self, bytes: &[u8]) -> Result<usize, Failed> {
-        let answer = io::writer(&self.rt).write(bytes);
-        match answer {
-            Ok(count) if count > 0 || bytes.is_empty() => Ok(count),
-            _ => {
-                self.faults = self.faults.saturating_add(1);
-                Err(Failed)
-            }
-        }
+        written(&mut io::writer(&self.rt), bytes, &mut self.faults)
     }
 }

@@ -1,19 +1,20 @@
+// The files of a real folder.
 ghost use Rattle.std.specs.Prelude.{◌≡◌, ◌≤◌, false, true, None, Ok, length, IfOk, IfSome};
 ghost use Rattle.std.specs.Path.{path_components};
 ghost use Rattle.arm_edges.specs.Files.{AnswersFile, FileCause, no_files};
 ghost use Rattle.arm_edges.specs.Inside.{stays_inside};
 
 use crate::inside::is_inside;
-use crate::mem_tree::LARGEST_FILE;
 use crate::{Tree, TreeFault};
 use arm_value::Bytes;
+use foundation::limits::MAX_FILE_BYTES;
 use std::alloc::Global;
 use std::fs::File;
 use std::io;
 use std::io::{ErrorKind, Read};
 use std::rt::Files;
 
-/// The files of a folder and the folders in it. What they hold is not told.
+/// The files of a folder and the folders in it. A real tree does not report what they hold.
 #[derive(Drop)]
 pub struct RealTree<R: Files<File = File> + Drop> {
     rt: R,
@@ -48,13 +49,9 @@ impl<R: Files<File = File> + Drop> RealTree<R> {
         if !is_inside(name) {
             return Ok(None);
         }
-        let Ok(path) = format!(in alloc; "{}/{name}", self.folder) else {
-            return Err(TreeFault::OutOfMemory);
-        };
-        match open(&self.rt, path.as_str()) {
-            Ok(Some(file)) => read_whole(alloc, file),
-            Ok(None) => Ok(None),
-            Err(_) => Err(TreeFault::Fault),
+        match format!(in alloc; "{}/{name}", self.folder) {
+            Ok(path) => read_at(alloc, &self.rt, path.as_str()),
+            Err(_) => Err(TreeFault::OutOfMemory),
         }
     }
 }
@@ -66,7 +63,7 @@ impl<R: Files<File = File> + Drop> Tree for RealTree<R> {
 
     ghost faults = { λ t. t.faults };
 
-    /// A name that leaves the folder, or that begins at the root, is not there.
+    /// There is no file of a name that leaves the folder, or that begins at the root.
     fn read_file(&mut self, alloc: Global, name: &str) -> Result<Option<Bytes>, TreeFault>
         ensures told { false ≡ true → AnswersFile (no_files name.now) result }
         ensures size { IfOk result (λ o. IfSome o (λ bytes. length bytes ≤ 4194304)) }
@@ -85,7 +82,22 @@ impl<R: Files<File = File> + Drop> Tree for RealTree<R> {
     }
 }
 
-// The file at that path, or none where there is no file.
+// All bytes of the file at that path, or None where there is no file.
+fn read_at<R: Files<File = File>>(
+    alloc: Global,
+    rt: &R,
+    path: &str,
+) -> Result<Option<Bytes>, TreeFault>
+    ensures size { IfOk result (λ o. IfSome o (λ bytes. length bytes ≤ 4194304)) }
+{
+    match open(rt, path) {
+        Ok(Some(file)) => read_whole(alloc, file),
+        Ok(None) => Ok(None),
+        Err(_) => Err(TreeFault::Fault),
+    }
+}
+
+// The file at that path, or None where there is no file.
 fn open<R: Files<File = File>>(rt: &R, path: &str) -> io::Result<Option<File>> {
     match File::open(rt, path) {
         Ok(file) => {
@@ -106,7 +118,7 @@ fn read_whole(alloc: Global, mut file: File) -> Result<Option<Bytes>, TreeFault>
     let Ok(metadata) = file.metadata() else {
         return Err(TreeFault::Fault);
     };
-    if metadata.len() > LARGEST_FILE as u64 {
+    if metadata.len() > MAX_FILE_BYTES as u64 {
         return Err(TreeFault::TooLarge);
     }
     let Ok(mut bytes) = vec![in alloc; 0u8; metadata.len() as usize] else {
@@ -119,7 +131,7 @@ fn read_whole(alloc: Global, mut file: File) -> Result<Option<Bytes>, TreeFault>
     Ok(Some(Bytes::from_vec(bytes)))
 }
 
-// Reads until the buffer is full or the file ends, and says how many bytes came.
+// Reads until the buffer is full or the file ends, and returns how many bytes it read.
 fn read_front(file: &mut File, buf: &mut [u8]) -> io::Result<usize>
     ensures { IfOk result (λ n. n ≤ length buf.old) }
 {

@@ -1,3 +1,4 @@
+// Files by their names.
 ghost use Rattle.std.specs.Prelude.{◌≡◌, ℕ, ◌≤◌, Bool, true, List, Option, length, IfOk, IfSome};
 ghost use Rattle.arm_edges.specs.Files.{AnswersFile, FileCause};
 
@@ -7,7 +8,7 @@ use std::alloc::Global;
 
 /// Files by their names.
 pub trait Tree {
-    /// Whether trees of this kind tell what they hold.
+    /// Whether trees of this kind report what they hold.
     ghost tells_files: { Bool };
 
     /// The bytes of the file of that name, where there is one. A name is its bytes in UTF-8.
@@ -16,7 +17,7 @@ pub trait Tree {
     /// How often a call has failed.
     ghost faults: { Self → ℕ };
 
-    /// The file of that name, or none where no such file is. A file above 4,194,304 bytes is too large.
+    /// The file of that name, or none where there is no such file. A file above 4,194,304 bytes is too large.
     fn read_file(&mut self, alloc: Global, name: &str) -> Result<Option<Bytes>, TreeFault>
         ensures told { tells_files ≡ true → AnswersFile (file self.old name.now) result }
         ensures size { IfOk result (λ o. IfSome o (λ bytes. length bytes ≤ 4194304)) }

@@ -1,5 +1,5 @@
 -- What is answered of readings that are made of others.
-use Rattle.std.proofs.Common.{◌≡◌, ℕ, List, Option, Some, None, option_map, refl, ap, ◌∙◌}
+use Rattle.std.proofs.Common.{◌≡◌, ℕ, List, Option, Some, None, option_map, Result, Ok, Err, refl, ap, ◌∙◌}
 use Rattle.arm_value.specs.Json.{Json}
 use Rattle.arm_ids.specs.declared.id.ResourceId.{ResourceId}
 use Rattle.reading.specs.Reading.{done, pure, continued, both, read, joined}
@@ -11,7 +11,7 @@ use Rattle.arm_env.specs.Part.{kept}
 use Rattle.arm_env.specs.Held.{plain, capped, held_value}
 use Rattle.arm_env.specs.Answer.{Answer, is, is_none, needs, is_late, without, answer_of, answered}
 use Rattle.arm_env.specs.Answer.{given, entry_answer, state_answer, plain_answer}
-use Rattle.arm_env.specs.Answer.{next, Stops}
+use Rattle.arm_env.specs.Answer.{next, Stops, Gives, outcome_answer, outcome_of}
 use Rattle.arm_env.specs.declared.stop.Stop.{Stop}
 use Rattle.arm_env.specs.declared.stop.Stop.TheVariants as stop
 
@@ -150,7 +150,7 @@ module _ (p : Look → Known Json) where
   answered-plain o = answered-held_value (done o)
       ∙ ap (λ t. next t (λ j. plain_answer (Some j))) (answered-done o) ∙ plain_done o
 
--- what goes on behind a value
+-- what goes on after a value
 pub goes : {A B : Type 0} (p : Look → Known Json) (r : Looking A) (f : A → Looking B) (x : A)
     → answered p r ≡ is x → answered p (continued r f) ≡ answered p (f x)
 goes p r f x e = answered-continued p r f ∙ ap (λ t. next t (λ x. answered p (f x))) e
@@ -171,10 +171,19 @@ stopped stop.Late (needs k) f h = absurd cc
 stopped stop.Late is_late f h = refl
 stopped stop.OutOfMemory t f h = tt
 
--- what stops stops all that goes on behind it
+-- a stop of a part is a stop of all that goes on after it
 pub stops : {A B : Type 0} (s : Stop) (p : Look → Known Json) (r : Looking A) (f : A → Looking B)
     → Stops s (answered p r) → Stops s (answered p (continued r f))
 stops s p r f h = rw answered-continued (stopped s (answered p r) (λ x. answered p (f x)) h)
+
+-- the outcome of what gives an answer gives the outcome of that answer
+pub outcome_gives : {X A : Type 0} (view : X → A) (r : Result X Stop) (t : Answer A) → Gives view r t
+    → Gives (option_map view) (outcome_of r) (outcome_answer t)
+outcome_gives view (Ok x) t h = ap outcome_answer h
+outcome_gives view (Err stop.NoValue) t h = ap outcome_answer h
+outcome_gives view (Err (stop.Needs k)) t h = ap outcome_answer h
+outcome_gives view (Err stop.Late) t h = ap outcome_answer h
+outcome_gives view (Err stop.OutOfMemory) t h = tt
 
 pub ruleset answers = (
   answered-done,

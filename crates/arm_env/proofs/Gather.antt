@@ -13,7 +13,7 @@ use Rattle.arm_env.specs.declared.stop.Stop.{Stop}
 use Rattle.arm_env.specs.declared.stop.Stop.TheVariants as stop
 use Rattle.arm_env.proofs.Answers.{both_answers, answered-done, answered-continued, answered-both}
 
--- an answer before others, and others behind others
+-- an answer before others, and others after others
 abbrev pub before : {A : Type 0} → Answer A → Answer (List A) → Answer (List A)
 before s t = next (both_answers s t) (λ p. is (p.0 ∷ p.1))
 
@@ -215,19 +215,3 @@ module _ (A : Type 0) where
         pub at_end : (xs : List X) (i : ℕ) (c : Bool) (b : B) → length xs ≤ i
             → gathered f p (map h (take i xs)) ≡ so_far c b → gathered f p (map h xs) ≡ so_far c b
         at_end xs i c b l e = ap (λ ys. gathered f p (map h ys)) (sym (take_all i xs l)) ∙ e
-
-itself : {A : Type 0} (t : Answer A) → next t (λ x. is x) ≡ t
-itself (is x) = refl
-itself is_none = refl
-itself (needs k) = refl
-itself is_late = refl
-
--- one that stops, where nothing is made of the list
-pub all_stops : (A X : Type 0) (p : Look → Known Json) (h : X → Looking A) (s : Stop) (xs : List X)
-    (i : ℕ) (x : X) (c : Bool) (b : List A) → i < length xs → x ≡ get_or xs i x
-    → gathered (λ xs. xs) p (map h (take i xs)) ≡ so_far c b
-    → Stops s (outcome_answer (answered p (h x))) → Stops s (answered p (all (map h xs)))
-all_stops A X p h s xs i x c b l e before_it found =
-    let P : Answer (List A) → Type 0 = Stops s in
-    subst P (itself (answered p (all (map h xs))))
-    (one_stops A p (List A) (λ xs. xs) X h s xs i x c b l e before_it found)

@@ -1,6 +1,6 @@
 -- What is held, and the outputs of nested deployments.
 use Rattle.std.proofs.Common.{◌≡◌, ℕ, List, [], ◌∷◌, ◌++◌, codes, map, Option, Some, None}
-use Rattle.std.proofs.Common.{option_map, Bool, true, false, Result, Ok, Err, refl, sym, ap, ◌∙◌}
+use Rattle.std.proofs.Common.{option_map, true, false, Result, Ok, Err, refl, sym, ap, ◌∙◌}
 use Rattle.std.proofs.Common.{subst, Bor}
 use Rattle.std.specs.Str.{chars}
 use Rattle.std.specs.Prelude.{if◌then◌else◌, is_some}
@@ -18,13 +18,13 @@ use Rattle.arm_env.specs.Answer.{outcome_answer, Stops, Gives, Sees}
 use Rattle.arm_env.specs.declared.stop.Stop.{Stop}
 use Rattle.arm_env.specs.declared.stop.Stop.TheVariants as stop
 use Rattle.arm_env.proofs.Answers.{answered-done, answered-continued}
-use Rattle.arm_env.specs.Object.{object_of}
+use Rattle.arm_env.specs.Object.{object_of, group_members}
 use Rattle.arm_env.specs.Find.{outputs_of, output_named, is_same_key}
 use Rattle.arm_env.specs.Known.{declared, deployment_of, module_with, output_with}
 use Rattle.arm_env.specs.declared.env.OutputAt.{OutputAt}
 use Rattle.arm_env.specs.declared.env.ModuleAt.{ModuleAt}
 use Rattle.arm_env.proofs.Words.{word_type, word_value, word_id, word_subscriptionId}
-use Rattle.arm_env.proofs.Words.{word_location, word_name, word_properties, word_tags}
+use Rattle.arm_env.proofs.Words.{word_location, word_name}
 use Rattle.foundation.proofs.Choices.{chosen}
 
 pub typed_put : (k v : Json) (ms ns : List Member) → ms ≡ put (chars (codes "type")) k []
@@ -161,7 +161,7 @@ sees_err A stop.Late (needs l) e = absurd cc
 sees_err A stop.Late is_late e = refl
 sees_err A stop.OutOfMemory t e = tt
 
--- what only tells whether all have values
+-- what only says whether all have values
 pub sees : (A : Type 0) (r : Result (Unit {0}) Stop) (t : Answer A)
     → Gives (λ _. true) r (next t (λ x. is true)) → Sees r t
 sees A (Ok u) t e = sees_ok A t e
@@ -210,20 +210,15 @@ subscription_put i s f₀ f₁ f₂ e₀ e₁ e₂ =
     let one : f₁ ≡ put (codes "id") i [] = e₁ ∙ (λ k. put (word_id k) i (e₀ k)) in
     ap (λ ms. object (pairs ms)) (e₂ ∙ (λ k. put (word_subscriptionId k) s (one k)))
 
-pub group_put : (i l n p t k : Json) (f₀ f₁ f₂ f₃ f₄ f₅ f₆ : List Member) → f₀ ≡ []
+pub group_put : (i l n : Json) (f₀ f₁ f₂ f₃ f₄ : List Member) → f₀ ≡ []
     → f₁ ≡ put (chars (codes "id")) i f₀ → f₂ ≡ put (chars (codes "location")) l f₁
-    → f₃ ≡ put (chars (codes "name")) n f₂
-    → f₄ ≡ put (chars (codes "properties")) p f₃ → f₅ ≡ put (chars (codes "tags")) t f₄
-    → f₆ ≡ put (chars (codes "type")) k f₅
-    → object (pairs f₆) ≡ object_of
-    ((codes "id", i) ∷ (codes "location", l) ∷ (codes "name", n) ∷ (codes "properties", p)
-    ∷ (codes "tags", t) ∷ (codes "type", k) ∷ [])
-group_put i l n p t k f₀ f₁ f₂ f₃ f₄ f₅ f₆ e₀ e₁ e₂ e₃ e₄ e₅ e₆ =
+    → f₃ ≡ put (chars (codes "name")) n f₂ → f₄ ≡ put_each f₃ group_members
+    → object (pairs f₄)
+    ≡ object_of ((codes "id", i) ∷ (codes "location", l) ∷ (codes "name", n) ∷ group_members)
+group_put i l n f₀ f₁ f₂ f₃ f₄ e₀ e₁ e₂ e₃ e₄ =
     let m₁ : f₁ ≡ put (codes "id") i [] = e₁ ∙ (λ j. put (word_id j) i (e₀ j)) in
     let m₂ : f₂ ≡ put (codes "location") l (put (codes "id") i []) =
     e₂ ∙ (λ j. put (word_location j) l (m₁ j)) in
     let m₃ : f₃ ≡ put (codes "name") n (put (codes "location") l (put (codes "id") i [])) =
     e₃ ∙ (λ j. put (word_name j) n (m₂ j)) in
-    let m₄ = e₄ ∙ (λ j. put (word_properties j) p (m₃ j)) in
-    let m₅ = e₅ ∙ (λ j. put (word_tags j) t (m₄ j)) in
-    ap (λ ms. object (pairs ms)) (e₆ ∙ (λ j. put (word_type j) k (m₅ j)))
+    ap (λ ms. object (pairs ms)) (e₄ ∙ (λ j. put_each (m₃ j) group_members))

@@ -1,5 +1,5 @@
 -- When two keys are one.
-use Rattle.std.proofs.Common.{◌≡◌, ◌↔◌, ℕ, List, [], ◌∷◌, Bool, true, false, ◌&&◌, IsTrue, bytes_eq}
+use Rattle.std.proofs.Common.{◌≡◌, ◌↔◌, ℕ, List, [], ◌∷◌, Bool, true, IsTrue, bytes_eq}
 use Rattle.std.proofs.Common.{refl, sym, ap, ◌∙◌}
 use Rattle.std.proofs.lemmas.Slice.Eq.{bytes_eq-Decides}
 use Rattle.arm_ids.specs.declared.id.ResourceId.{ResourceId}

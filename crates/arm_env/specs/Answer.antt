@@ -1,8 +1,9 @@
 -- What is to be answered by what is known.
-use Rattle.std.specs.Prelude.{◌≡◌, List, Bool, true, false, Option, Some, None, option_map, Result}
+use Rattle.std.specs.Prelude.{◌≡◌, ◌++◌, List, [], ◌∷◌, Bool, true, false, Option, Some, None, option_map, Result}
 use Rattle.std.specs.Prelude.{Ok, Err}
 use Rattle.arm_value.specs.Json.{Json}
 use Rattle.arm_ids.specs.declared.id.ResourceId.{ResourceId}
+use Rattle.reading.specs.Reading.{joined}
 use Rattle.reading.specs.Knowledge.{Known, known, absent, missing, Told, value, no_value, waits}
 use Rattle.reading.specs.Knowledge.{told}
 use Rattle.arm_env.specs.Look.{Look, parameter, variable, output, state, Looking, all}
@@ -49,7 +50,7 @@ state_answer k (known j) = is j
 state_answer k absent = is_none
 state_answer k missing = needs k
 
--- what is answered of a value that an access may stand behind
+-- the answer for a value of which a part may be accessed
 abbrev pub plain_answer : Option Json → Answer Held
 plain_answer None = is_none
 plain_answer (Some j) = given (option_map plain (kept j))
@@ -68,6 +69,14 @@ outcome_answer is_none = is None
 outcome_answer (needs k) = needs k
 outcome_answer is_late = is_late
 
+-- what was found, or that it has no value; any other stop stays
+abbrev pub outcome_of : {X : Type 0} → Result X Stop → Result (Option X) Stop
+outcome_of (Ok x) = Ok (Some x)
+outcome_of (Err stop.NoValue) = Ok None
+outcome_of (Err (stop.Needs k)) = Err (stop.Needs k)
+outcome_of (Err stop.Late) = Err stop.Late
+outcome_of (Err stop.OutOfMemory) = Err stop.OutOfMemory
+
 -- why there is no value, unless memory ran out
 abbrev pub Stops : {A : Type 0} → Stop → Answer A → Type 0
 Stops stop.NoValue t = t ≡ is_none
@@ -84,6 +93,10 @@ Gives view (Err s) t = Stops s t
 abbrev pub gathered : {A B : Type 0} → (List A → B) → (Look → Known Json) → List (Looking A)
     → Answer B
 gathered f p os = next (answered p (all os)) (λ xs. is (f xs))
+
+-- the parts with one more at their end, where all are there
+abbrev pub with_last : {A : Type 0} → Option (List A) → Option A → Option (List A)
+with_last xs x = option_map (λ p. p.0 ++ p.1 ∷ []) (joined xs x)
 
 -- what was gathered so far, where all had a value
 abbrev pub so_far : {B : Type 0} → Bool → B → Answer B

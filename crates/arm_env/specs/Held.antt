@@ -1,4 +1,4 @@
--- What an expression gives to an access right behind it.
+-- What an expression gives to an access to a part of it.
 use Rattle.std.specs.Prelude.{ℕ, Bool, false, List, [], ◌∷◌, Option, Some, None, codes, map}
 use Rattle.std.specs.Prelude.{if◌then◌else◌}
 use Rattle.arm_value.specs.Json.{Json, text, Member}
@@ -61,7 +61,7 @@ all_outputs here k = all (map (output_member k) (outputs_at here k))
 abbrev pub no_part : {A : Type 0} → Surroundings → ResourceId → Looking A
 no_part here k = continued (all_outputs here k) (λ ms. none)
 
--- its value, where it is used without an access behind it
+-- its value, where no part of it is accessed
 abbrev pub forced : Surroundings → Held → Looking Json
 forced here (plain j) = pure j
 forced here (state_whole j) = pure j
@@ -101,7 +101,7 @@ abbrev pub part_of_no_output : Surroundings → ResourceId → List ℕ → Json
 part_of_no_output here k name i =
     if is_word (codes "value") i then held_value (value_named k name) else no_part here k
 
--- what stands under a name or at a place
+-- the part under a name or at a place
 abbrev pub access : Surroundings → Held → Json → Looking Held
 access here (plain j) i = held_value (done (part_of j i))
 access here (state_whole j) i = held_value (done (part_of j i))

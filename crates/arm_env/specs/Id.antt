@@ -7,7 +7,7 @@ use Rattle.arm_ids.specs.Id.{path, text_of}
 use Rattle.arm_ids.specs.declared.id.Place.{Place}
 use Rattle.arm_ids.specs.declared.id.ResourceId.{ResourceId}
 
--- whether there is one name for each segment of the type behind the first, none is empty, and no
+-- whether there is one name for each segment of the type after the first, none is empty, and no
 -- name has a slash
 abbrev pub are_paired : List (List ℕ) → List (List ℕ) → Bool
 are_paired types names =
@@ -46,8 +46,8 @@ with_group subscription group [] = None
 with_group subscription group (t ∷ ts) =
     if has_slash t then id_in_group subscription group t ts else with_both group t ts
 
--- the first text with a slash is the type: behind it stand names, before it nothing, a group, or a
--- subscription and a group
+-- the first text with a slash is the type: names follow it, and nothing, a group, or a subscription
+-- and a group come before it
 abbrev pub resource_id : Place → List (List ℕ) → Option (List ℕ)
 resource_id place [] = None
 resource_id place (t ∷ ts) =

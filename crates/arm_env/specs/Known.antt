@@ -1,4 +1,4 @@
--- What an environment of the code says of each entry, and what stands around in it.
+-- What an environment of the code knows of each entry, and the surroundings that it has.
 use Rattle.std.specs.Prelude.{ℕ, List, [], ◌∷◌, map, bytes_eq, Option, Some, None, option_map}
 use Rattle.std.specs.Prelude.{if◌then◌else◌}
 use Rattle.arm_value.specs.Json.{Json}

@@ -1,4 +1,4 @@
--- What an expression looks at, and what stands around it.
+-- The entries that an expression looks at, and its surroundings.
 use Rattle.std.specs.Prelude.{ℕ, List, [], ◌∷◌}
 use Rattle.arm_value.specs.Json.{Json}
 use Rattle.arm_ids.specs.declared.id.Place.{Place}
@@ -19,7 +19,7 @@ pub data Look : Type 0 where
 abbrev pub Looking : Type 0 → Type 0
 Looking A = Reading Look Json A
 
--- the values of all of these, all of which are looked at, also behind one without a value
+-- the values of all of these, all of which are looked at, also after one without a value
 unfoldable pub all : {A : Type 0} → List (Looking A) → Looking (List A)
 all [] = pure []
 all (o ∷ os) = continued (both o (all os)) (λ p. pure (p.0 ∷ p.1))
@@ -34,13 +34,13 @@ pub record Deployment : Type 0 where
   pub key : ResourceId
   pub outputs : List Declared
 
--- what stands around an expression, and is always known
+-- the surroundings of an expression, which are always known
 pub record Surroundings : Type 0 where
   -- the nearest first
   pub loops : List Looping
   pub place : Place
   -- the resources of the template instance, its nested deployments among them
   pub names : List Spelled
-  -- those of the template instance, and behind them those of the instances around that an
+  -- those of the template instance, and after them those of the instances around that an
   -- expression in an `outer` scope can see (not those around an `inner` scope)
   pub deployments : List Deployment

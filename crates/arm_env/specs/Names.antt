@@ -1,4 +1,4 @@
--- The names of the functions that need what stands around them, or look only as far as needed.
+-- The names of the functions that need an environment, or look only as far as needed.
 use Rattle.std.specs.Prelude.{ℕ, List, Option, Some, None, codes, if◌then◌else◌}
 use Rattle.arm_value.specs.Look.{is_same_folded}
 use Rattle.arm_env.specs.declared.function.Lazy.{Lazy}
@@ -26,7 +26,7 @@ placed_named name =
     else if is_same_folded name (codes "deployment") then Some strict.Deployment
     else None
 
--- those that need whatever stands around them
+-- the functions of the values of all their arguments that need an environment
 unfoldable pub strict_named : List ℕ → Option Strict
 strict_named name =
     if is_same_folded name (codes "parameters") then Some strict.Parameters

@@ -18,13 +18,20 @@ abbrev pub group_id : Place → List ℕ
 group_id place =
     slashed (codes "subscriptions" ∷ place.subscription ∷ codes "resourceGroups" ∷ place.group ∷ [])
 
+abbrev pub group_properties : Json
+group_properties = object_of ((codes "provisioningState", text (codes "Succeeded")) ∷ [])
+
+-- the members that are the same for all groups
+abbrev pub group_members : List Member
+group_members =
+    (codes "properties", group_properties)
+    ∷ (codes "tags", object_of [])
+    ∷ (codes "type", text (codes "Microsoft.Resources/resourceGroups")) ∷ []
+
 abbrev pub resource_group : Place → Json
 resource_group place =
     object_of ((codes "id", text (group_id place)) ∷ (codes "location", text place.location)
-    ∷ (codes "name", text place.group)
-    ∷ (codes "properties", object_of ((codes "provisioningState", text (codes "Succeeded")) ∷ []))
-    ∷ (codes "tags", object_of [])
-    ∷ (codes "type", text (codes "Microsoft.Resources/resourceGroups")) ∷ [])
+    ∷ (codes "name", text place.group) ∷ group_members)
 
 abbrev pub deployment : Place → Json
 deployment place = object_of ((codes "name", text place.deployment) ∷ [])

@@ -1,6 +1,7 @@
 -- Parts of values (Microsoft Learn, "Syntax and expressions in ARM templates", property accessors).
 use Rattle.std.specs.Prelude.{ℤ, pos, negsuc, nat_le, List, Option, Some, None, slice_get}
 use Rattle.std.specs.Prelude.{if◌then◌else◌}
+use Rattle.foundation.specs.declared.limits.TheConstants.{MAX_VALUE_NESTING}
 use Rattle.arm_value.specs.Json.{Json, int, text, array, object, items, nesting}
 use Rattle.arm_value.specs.Look.{look_in}
 
@@ -15,6 +16,6 @@ part_of (object ms) (text name) = look_in name ms
 part_of (array js) (int place) = item_at place (items js)
 part_of _ _ = None
 
--- the value, where it nests at most 100
+-- the value, where it nests at most 100 deep
 abbrev pub kept : Json → Option Json
-kept j = if nat_le (nesting j) 100 then Some j else None
+kept j = if nat_le (nesting j) MAX_VALUE_NESTING then Some j else None

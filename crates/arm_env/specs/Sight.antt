@@ -1,4 +1,4 @@
--- What the evaluator of the code sees, and what it holds.
+-- The view and the held values of the code.
 use Rattle.arm_value.specs.Json.{Json}
 use Rattle.arm_value.specs.View.{json}
 use Rattle.reading.specs.Knowledge.{Known}
@@ -13,7 +13,7 @@ use Rattle.arm_env.specs.declared.held.Held.TheVariants as code
 abbrev pub known_by : Sight → Look → Known Json
 known_by s = known_in s.unlisted s.env.now
 
--- what stands around
+-- the surroundings
 abbrev pub here : Sight → Surroundings
 here s = record (around s.env.now) { loops = s.loops.now }
 

@@ -1,4 +1,4 @@
-// What an expression sees.
+// The environment of an expression.
 
 use arm_ids::{Key, Place};
 use arm_value::{Text, Value};
@@ -83,7 +83,7 @@ pub struct OutputAt {
     pub slot: Slot,
 }
 
-/// What an expression sees.
+/// The environment of an expression.
 ///
 /// Of entries of one name, or of one key, the first counts. A parameter, variable or output that is
 /// not listed has no value.
@@ -99,11 +99,11 @@ pub struct Env<'a> {
     pub place: &'a Place,
     /// The states of resources; what a key means that is not listed, `Unlisted` says.
     pub states: Vec<StateAt>,
-    /// The resources of the template instance in which the expression stands. The nested
+    /// The resources of the template instance that has the expression. The nested
     /// deployments of that instance are among them, so that a text which two of them match has no
     /// value.
     pub names: Vec<Spelled>,
-    /// The nested deployments of that instance, and behind them those of the instances around that
+    /// The nested deployments of that instance, and after them those of the instances around that
     /// an expression in an `outer` scope can see (not those around an `inner` scope).
     pub modules: Vec<ModuleAt>,
 }

@@ -19,7 +19,7 @@ pub enum Lazy {
     Coalesce,
 }
 
-/// A function of the values of all its arguments that needs what stands around it.
+/// A function of the values of all its arguments that needs an environment.
 #[derive(Clone, Copy, PartialEq, Eq, Debug)]
 pub enum Strict {
     /// `parameters(name)`
@@ -31,10 +31,10 @@ pub enum Strict {
     Reference,
     /// `copyIndex()`, `copyIndex(offset)`, `copyIndex(loop)` and `copyIndex(loop, offset)`
     CopyIndex,
-    /// `resourceId(type, name, ..)`; a group, or a subscription and a group, may stand before the
+    /// `resourceId(type, name, ..)`; a group, or a subscription and a group, may come before the
     /// type
     ResourceId,
-    /// `subscriptionResourceId(type, name, ..)`; a subscription may stand before the type
+    /// `subscriptionResourceId(type, name, ..)`; a subscription may come before the type
     SubscriptionResourceId,
     /// `resourceGroup()`
     ResourceGroup,
@@ -47,7 +47,7 @@ pub enum Strict {
 /// What `reference` asks of a state: its properties, or the whole.
 #[derive(Clone, Copy, PartialEq, Eq, Debug)]
 pub enum Asked {
-    /// What stands in it under `properties`.
+    /// The value of its member `properties`.
     Properties,
     /// The state as it is.
     Whole,
@@ -99,7 +99,7 @@ fn placed_named(name: &Text) -> Option<Strict>
     }
 }
 
-/// The function of the name that needs what stands around it.
+/// The function of the name that needs an environment.
 #[tactic(auto, unfolding(crate::specs::Names::strict_named), using(crate::proofs::Words::words))]
 pub fn strict_named(name: &Text) -> Option<Strict>
     ensures { result ≡ strict_named name.now }

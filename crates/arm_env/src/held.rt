@@ -1,4 +1,4 @@
-// What an expression gives to an access right behind it.
+// What an expression gives to an access to a part of it.
 ghost use Rattle.std.specs.Prelude.{◌≡◌, ◌∷◌, [], true, chars, Some, None, map, option_map, IfOk};
 ghost use Rattle.std.specs.Prelude.{MatchOption, ◌≤◌, codes, nat_le, if◌then◌else◌};
 ghost use Rattle.arm_value.specs.Json.{Json, nesting, put, put_each, text, array, object, row};
@@ -12,15 +12,13 @@ ghost use Rattle.arm_env.specs.Answer.{given, plain_answer, Gives};
 ghost use Rattle.arm_env.specs.Sight.{held_of};
 
 use crate::env::OutputAt;
-use crate::stop::Stop;
+use crate::stop::{Stop, let_go, stopped};
 use arm_ids::Key;
-use arm_value::{Field, Fields, Items, OutOfMemory, Text, Value, folded_eq};
+use arm_value::{Fields, Items, Text, Value};
+use foundation::limits::MAX_VALUE_NESTING;
 use std::alloc::Global;
 
-/// The deepest nesting of the value of a part.
-const MOST_NESTING: u32 = 100;
-
-/// What an expression gives to an access right behind it.
+/// What an expression gives to an access to a part of it.
 #[derive(Drop)]
 pub enum Held<'a> {
     /// A value that was made.
@@ -31,22 +29,32 @@ pub enum Held<'a> {
     Whole(&'a Value),
     /// The nested deployment at a key.
     Deployment(Key),
-    /// Its outputs.
+    /// The outputs of the nested deployment at a key.
     Outputs(Key),
-    /// One of its outputs.
-    Output(Key, &'a OutputAt),
-    /// An output of that name, where none of the name is listed.
-    Unlisted(Key, Text),
+    /// An output of a nested deployment.
+    Output {
+        /// The key of the deployment.
+        key: Key,
+        /// The output.
+        output: &'a OutputAt,
+    },
+    /// An output of a nested deployment that is not listed.
+    Unlisted {
+        /// The key of the deployment.
+        key: Key,
+        /// The name of the output, as it is spelled.
+        name: Text,
+    },
 }
 
 /// The value; no value where it nests deeper than 100.
 pub fn keep(value: Value) -> Result<Value, Stop>
     ensures { Gives json result (given (kept (json value))) }
 {
-    if value.nesting() <= MOST_NESTING {
+    if value.nesting() <= MAX_VALUE_NESTING {
         Ok(value)
     } else {
-        Err(Stop::NoValue)
+        stopped(Stop::NoValue, value)
     }
 }
 
@@ -54,35 +62,42 @@ pub fn keep(value: Value) -> Result<Value, Stop>
 pub fn keep_copy(alloc: Global, value: &Value) -> Result<Value, Stop>
     ensures { Gives json result (given (kept (json value.now))) }
 {
-    if value.nesting() <= MOST_NESTING {
+    if value.nesting() <= MAX_VALUE_NESTING {
         Ok(value.copy(alloc)?)
     } else {
         Err(Stop::NoValue)
     }
 }
 
-/// A value that was made, for an access behind it; no value where there is none, or where it nests
-/// deeper than 100.
+// The value, for an access to a part of it; no value where it nests deeper than 100.
+fn own_value<'a>(value: Value) -> Result<Held<'a>, Stop>
+    ensures { Gives held_of result (plain_answer (Some (json value))) }
+{
+    if value.nesting() <= MAX_VALUE_NESTING {
+        Ok(Held::Owned(value))
+    } else {
+        stopped(Stop::NoValue, value)
+    }
+}
+
+/// A value that was made, for an access to a part of it; no value where there is none, or where it
+/// nests deeper than 100.
 pub fn own<'a>(value: Option<Value>) -> Result<Held<'a>, Stop>
     ensures { Gives held_of result (plain_answer (option_map json value)) }
 {
     match value {
-        Some(value) => if value.nesting() <= MOST_NESTING {
-            Ok(Held::Owned(value))
-        } else {
-            Err(Stop::NoValue)
-        },
+        Some(value) => own_value(value),
         None => Err(Stop::NoValue),
     }
 }
 
-/// A value of the environment, for an access behind it; no value where there is none, or where it
-/// nests deeper than 100.
+/// A value of the environment, for an access to a part of it; no value where there is none, or where
+/// it nests deeper than 100.
 pub fn lend<'a>(value: Option<&'a Value>) -> Result<Held<'a>, Stop>
     ensures { Gives held_of result (plain_answer (option_map (λ v. json v.now) value.entry)) }
 {
     match value {
-        Some(value) => if value.nesting() <= MOST_NESTING {
+        Some(value) => if value.nesting() <= MAX_VALUE_NESTING {
             Ok(Held::Lent(value))
         } else {
             Err(Stop::NoValue)
@@ -132,13 +147,23 @@ pub fn part_of<'a>(value: &'a Value, index: &Value) -> Option<&'a Value>
     }
 }
 
+// A copy of a value, for an access to a part of it; no value where there is none, or where it nests
+// deeper than 100.
+fn own_copy<'a>(alloc: Global, value: Option<&Value>) -> Result<Held<'a>, Stop>
+    ensures { Gives held_of result (plain_answer (option_map (λ v. json v.now) value.entry)) }
+{
+    match value {
+        Some(value) => own_value(value.copy(alloc)?),
+        None => Err(Stop::NoValue),
+    }
+}
+
 /// A copy of a part of a value that was made; no value where it has no such part, or where the part
 /// nests deeper than 100.
 pub fn own_part<'a>(alloc: Global, value: Value, index: &Value) -> Result<Held<'a>, Stop>
     ensures { Gives held_of result (plain_answer (part_of (json value) (json index.now))) }
 {
-    match part_of(&value, index) {
-        Some(part) => own(Some(part.copy(alloc)?)),
-        None => Err(Stop::NoValue),
-    }
+    let part = own_copy(alloc, part_of(&value, index));
+    let_go(value);
+    part
 }

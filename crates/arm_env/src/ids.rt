@@ -9,7 +9,8 @@ ghost use Rattle.arm_ids.specs.Id.{path};
 ghost use Rattle.arm_env.specs.Id.{are_paired, id_in_group, id_in_subscription, with_both};
 ghost use Rattle.arm_env.specs.Id.{with_group, resource_id, with_subscription, subscription_id};
 
-use arm_ids::{Place, ResourceId};
+use crate::stop::let_go;
+use arm_ids::Place;
 use arm_value::{OutOfMemory, Text, Texts, Value};
 use std::alloc::Global;
 
@@ -58,11 +59,37 @@ pub(crate) fn subscription_text(alloc: Global, subscription: &Text) -> Result<St
     Ok(text)
 }
 
-// The parts of a text between its slashes, as they stand in it.
+/// `/subscriptions/s/resourceGroups/g`
+pub(crate) fn group_text(
+    alloc: Global,
+    subscription: &Text,
+    group: &Text,
+) -> Result<String, OutOfMemory>
+    ensures { IfOk result (λ s. chars (string_bytes s) ≡ slashed (codes "subscriptions"
+        ∷ subscription.now ∷ codes "resourceGroups" ∷ group.now ∷ [])) }
+{
+    let mut text = subscription_text(alloc, subscription)?;
+    push_segment(&mut text, "resourceGroups")?;
+    push_segment(&mut text, group.as_str())?;
+    Ok(text)
+}
+
+// The parts of a text between its slashes, borrowed from it.
 fn parts(alloc: Global, text: &str) -> Result<Vec<&str>, OutOfMemory>
     ensures { IfOk result (λ v. map (λ x. chars x.now) v.items ≡ segments (chars text.now)) }
 {
     text.split('/').collect(alloc)
+}
+
+// Texts of these characters.
+fn texts_of(alloc: Global, parts: &[&str]) -> Result<Texts, OutOfMemory>
+    ensures { IfOk result (λ ts. ts ≡ map (λ x. chars x.now) parts.now) }
+{
+    let mut texts = Texts::new(alloc);
+    for part in parts {
+        texts.push(Text::of(alloc, part)?)?;
+    }
+    Ok(texts)
 }
 
 // The parts of a text between its slashes.
@@ -70,11 +97,9 @@ fn segments(alloc: Global, text: &Text) -> Result<Texts, OutOfMemory>
     ensures { IfOk result (λ ss. ss ≡ segments text.now) }
 {
     let parts = parts(alloc, text.as_str())?;
-    let mut segments = Vec::new(alloc);
-    for part in parts.as_slice() {
-        segments.push(Text::of(alloc, part)?)?;
-    }
-    Ok(Texts::from_vec(segments))
+    let segments = texts_of(alloc, parts.as_slice());
+    let_go(parts);
+    segments
 }
 
 fn is_blank(text: &Text) -> bool
@@ -123,7 +148,7 @@ fn is_one_more(types: &[Text], names: &[Text]) -> bool
     types.len() > 0 && types.len() - 1 == names.len()
 }
 
-// Whether there is a name for each segment of the type behind the first, none is empty, and no name
+// Whether there is a name for each segment of the type after the first, none is empty, and no name
 // has a slash.
 fn are_paired(types: &[Text], names: &[Text]) -> bool
     ensures { result ≡ are_paired types.now names.now }
@@ -131,6 +156,24 @@ fn are_paired(types: &[Text], names: &[Text]) -> bool
     is_one_more(types, names) && !has_blank(types) && !has_blank(names) && !have_slash(names)
 }
 
+// The text of an id in a group.
+fn group_path(
+    alloc: Global,
+    subscription: &Text,
+    group: &Text,
+    types: &[Text],
+    names: &[Text],
+) -> Result<Text, OutOfMemory>
+    ensures { IfOk result (λ t. t ≡ slashed (codes "subscriptions" ∷ subscription.now
+        ∷ codes "resourceGroups" ∷ group.now ∷ codes "providers" ∷ path types.now names.now)) }
+{
+    let mut text = group_text(alloc, subscription, group)?;
+    push_segment(&mut text, "providers")?;
+    push_path(&mut text, types, names)?;
+    Ok(Text::from_string(text))
+}
+
+#[tactic(auto, unfolding(arm_ids::specs::Id::text_of))]
 fn id_in_group(
     alloc: Global,
     subscription: &Text,
@@ -145,23 +188,8 @@ fn id_in_group(
     if is_blank(subscription) || is_blank(group) || !are_paired(types.as_slice(), names) {
         return Ok(None);
     }
-    let id = ResourceId {
-        subscription: subscription.copy(alloc)?,
-        group: group.copy(alloc)?,
-        types,
-        names: texts(alloc, names)?,
-    };
-    Ok(Some(Value::Text(id.text(alloc)?)))
-}
-
-fn texts(alloc: Global, texts: &[Text]) -> Result<Texts, OutOfMemory>
-    ensures { IfOk result (λ ts. ts ≡ texts.now) }
-{
-    let mut copies = Texts::new(alloc);
-    for text in texts {
-        copies.push(text.copy(alloc)?)?;
-    }
-    Ok(copies)
+    let id = group_path(alloc, subscription, group, types.as_slice(), names)?;
+    Ok(Some(Value::Text(id)))
 }
 
 // The text of an id in a subscription.

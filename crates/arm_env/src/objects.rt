@@ -1,32 +1,66 @@
 // The objects that describe where a template is deployed.
-ghost use Rattle.std.specs.Prelude.{◌≡◌, ◌∷◌, [], chars, string_bytes, codes, map, IfOk, OnOk};
-ghost use Rattle.arm_value.specs.Json.{Json, text, put, put_each};
+ghost use Rattle.std.specs.Prelude.{◌≡◌, ◌∷◌, ◌≤◌, [], chars, string_bytes, codes, map, IfOk};
+ghost use Rattle.arm_value.specs.Json.{Json, text, put, put_each, nesting, object};
 ghost use Rattle.arm_value.specs.View.{json};
 ghost use Rattle.arm_ids.specs.Segments.{slashed};
 ghost use Rattle.arm_env.specs.Object as object;
 ghost use Rattle.arm_env.specs.Object.{group_id};
 
-use crate::ids::{push_segment, subscription_text};
+use crate::ids::{group_text, subscription_text};
+use crate::stop::lacks_memory;
 use arm_ids::Place;
 use arm_value::{Fields, OutOfMemory, Text, Value};
 use std::alloc::Global;
 
-// Puts a text at the name.
-fn set_text(alloc: Global, fields: &mut Fields, name: &str, value: Text) -> Result<(), OutOfMemory>
-    ensures { OnOk result (fields.new ≡ put (chars name.now) (text value) fields.old) }
+/// The members with a value, which nests at most 119, put at the exact name.
+pub fn with_value(
+    alloc: Global,
+    fields: Fields,
+    name: &str,
+    value: Value,
+) -> Result<Fields, OutOfMemory>
+    requires { nesting (json value) ≤ 119 }
+    ensures { IfOk result (λ f. f ≡ put (chars name.now) (json value) fields) }
 {
-    fields.set(alloc, name, Value::Text(value))
+    let mut fields = fields;
+    match fields.set(alloc, name, value) {
+        Ok(()) => Ok(fields),
+        Err(_) => lacks_memory(fields),
+    }
+}
+
+/// The members with a copy of a text put at the exact name.
+pub fn with_copy(
+    alloc: Global,
+    fields: Fields,
+    name: &str,
+    value: &Text,
+) -> Result<Fields, OutOfMemory>
+    ensures { IfOk result (λ f. f ≡ put (chars name.now) (text value.now) fields) }
+{
+    match value.copy(alloc) {
+        Ok(copy) => with_value(alloc, fields, name, Value::Text(copy)),
+        Err(_) => lacks_memory(fields),
+    }
+}
+
+// The members with a word put at the name.
+fn with_word(alloc: Global, fields: Fields, name: &str, word: &str) -> Result<Fields, OutOfMemory>
+    ensures { IfOk result (λ f. f ≡ put (chars name.now) (text (chars word.now)) fields) }
+{
+    match Text::of(alloc, word) {
+        Ok(text) => with_value(alloc, fields, name, Value::Text(text)),
+        Err(_) => lacks_memory(fields),
+    }
 }
 
 /// `subscription()`: the id of the place's subscription, and its name.
 pub fn subscription(alloc: Global, place: &Place) -> Result<Value, OutOfMemory>
     ensures { IfOk result (λ v. json v ≡ object.subscription place.now) }
 {
-    let id = subscription_text(alloc, &place.subscription)?;
-    let mut fields = Fields::new();
-    set_text(alloc, &mut fields, "id", Text::from_string(id))?;
-    let subscription = place.subscription.copy(alloc)?;
-    set_text(alloc, &mut fields, "subscriptionId", subscription)?;
+    let id = Text::from_string(subscription_text(alloc, &place.subscription)?);
+    let fields = with_value(alloc, Fields::new(), "id", Value::Text(id))?;
+    let fields = with_copy(alloc, fields, "subscriptionId", &place.subscription)?;
     Ok(Value::Object(fields))
 }
 
@@ -34,34 +68,41 @@ pub fn subscription(alloc: Global, place: &Place) -> Result<Value, OutOfMemory>
 fn group_id(alloc: Global, place: &Place) -> Result<Text, OutOfMemory>
     ensures { IfOk result (λ t. t ≡ group_id place.now) }
 {
-    let mut id = subscription_text(alloc, &place.subscription)?;
-    push_segment(&mut id, "resourceGroups")?;
-    push_segment(&mut id, place.group.as_str())?;
+    let id = group_text(alloc, &place.subscription, &place.group)?;
     Ok(Text::from_string(id))
 }
 
-// An object whose one member is a text.
-fn lone_text(alloc: Global, name: &str, value: Text) -> Result<Value, OutOfMemory>
-    ensures { IfOk result (λ v. json v ≡ object.object_of ((chars name.now, text value) ∷ [])) }
+// The members with the state of a group put among them.
+#[tactic(auto, using(crate::proofs::Words::words))]
+fn with_state(alloc: Global, fields: Fields) -> Result<Fields, OutOfMemory>
+    ensures { IfOk result (λ f. f ≡ put (codes "properties") object.group_properties fields) }
 {
-    let mut fields = Fields::new();
-    set_text(alloc, &mut fields, name, value)?;
-    Ok(Value::Object(fields))
+    match with_word(alloc, Fields::new(), "provisioningState", "Succeeded") {
+        Ok(state) => with_value(alloc, fields, "properties", Value::Object(state)),
+        Err(_) => lacks_memory(fields),
+    }
+}
+
+// The members with those put among them that are the same for all groups.
+#[tactic(auto, using(crate::proofs::Words::words))]
+fn with_group_members(alloc: Global, fields: Fields) -> Result<Fields, OutOfMemory>
+    ensures { IfOk result (λ f. f ≡ put_each fields object.group_members) }
+{
+    let fields = with_state(alloc, fields)?;
+    let fields = with_value(alloc, fields, "tags", Value::Object(Fields::new()))?;
+    let fields = with_word(alloc, fields, "type", "Microsoft.Resources/resourceGroups")?;
+    Ok(fields)
 }
 
 /// `resourceGroup()`: the place's group.
 pub fn resource_group(alloc: Global, place: &Place) -> Result<Value, OutOfMemory>
     ensures { IfOk result (λ v. json v ≡ object.resource_group place.now) }
 {
-    let mut fields = Fields::new();
-    set_text(alloc, &mut fields, "id", group_id(alloc, place)?)?;
-    set_text(alloc, &mut fields, "location", place.location.copy(alloc)?)?;
-    set_text(alloc, &mut fields, "name", place.group.copy(alloc)?)?;
-    let state = lone_text(alloc, "provisioningState", Text::of(alloc, "Succeeded")?)?;
-    fields.set(alloc, "properties", state)?;
-    fields.set(alloc, "tags", Value::Object(Fields::new()))?;
-    let kind = Text::of(alloc, "Microsoft.Resources/resourceGroups")?;
-    set_text(alloc, &mut fields, "type", kind)?;
+    let id = group_id(alloc, place)?;
+    let fields = with_value(alloc, Fields::new(), "id", Value::Text(id))?;
+    let fields = with_copy(alloc, fields, "location", &place.location)?;
+    let fields = with_copy(alloc, fields, "name", &place.group)?;
+    let fields = with_group_members(alloc, fields)?;
     Ok(Value::Object(fields))
 }
 
@@ -70,5 +111,6 @@ pub fn resource_group(alloc: Global, place: &Place) -> Result<Value, OutOfMemory
 pub fn deployment(alloc: Global, place: &Place) -> Result<Value, OutOfMemory>
     ensures { IfOk result (λ v. json v ≡ object.deployment place.now) }
 {
-    lone_text(alloc, "name", place.deployment.copy(alloc)?)
+    let fields = with_copy(alloc, Fields::new(), "name", &place.deployment)?;
+    Ok(Value::Object(fields))
 }

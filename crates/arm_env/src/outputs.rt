@@ -1,7 +1,7 @@
 // The outputs of nested deployments.
 ghost use Rattle.std.specs.Prelude.{◌≡◌, ◌≤◌, [], true, map, option_map, is_some, IfOk};
 ghost use Rattle.std.specs.Prelude.{MatchOption, is_ok, if◌then◌else◌};
-ghost use Rattle.arm_value.specs.Json.{Json, nesting, put, put_each};
+ghost use Rattle.arm_value.specs.Json.{Json, nesting, object, pairs, put, put_each};
 ghost use Rattle.arm_value.specs.Look.{fold};
 ghost use Rattle.arm_value.specs.View.{json, member};
 ghost use Rattle.arm_env.specs.Find.{outputs_of, output_named};
@@ -11,8 +11,9 @@ ghost use Rattle.arm_env.specs.Answer.{answered, outcome_answer, is, next, gathe
 ghost use Rattle.arm_env.specs.Sight.{known_by, here};
 
 use crate::env::OutputAt;
+use crate::objects::{with_copy, with_value};
 use crate::sight::{Sight, find_module, find_output, output_value};
-use crate::stop::Stop;
+use crate::stop::{Stop, lacks_memory, outcome, stopped};
 use arm_ids::Key;
 use arm_value::{Field, Fields, OutOfMemory, Text, Value};
 use std::alloc::Global;
@@ -50,13 +51,7 @@ fn output_outcome<'a>(
         (outcome_answer (answered (known_by sight.now)
         (output_value key.now (declared output.now)))) }
 {
-    match output_value(sight, key, output) {
-        Ok(value) => Ok(Some(value)),
-        Err(Stop::NoValue) => Ok(None),
-        Err(Stop::Needs(key)) => Err(Stop::Needs(key)),
-        Err(Stop::Late) => Err(Stop::Late),
-        Err(Stop::OutOfMemory) => Err(Stop::OutOfMemory),
-    }
+    outcome(output_value(sight, key, output))
 }
 
 // Whether each of these outputs has a value.
@@ -74,18 +69,28 @@ fn look_at_each(sight: &Sight, key: &Key, outputs: &[OutputAt]) -> Result<(), St
     if complete { Ok(()) } else { Err(Stop::NoValue) }
 }
 
+// The type of an output and a value.
+fn typed_fields(alloc: Global, output: &OutputAt, value: Value) -> Result<Fields, OutOfMemory>
+    requires { nesting (json value) ≤ 119 }
+    ensures { IfOk result (λ f. object (pairs f) ≡ typed (declared output.now) (json value)) }
+{
+    match with_copy(alloc, Fields::new(), "type", &output.kind) {
+        Ok(fields) => with_value(alloc, fields, "value", value),
+        Err(_) => lacks_memory(value),
+    }
+}
+
 /// An output as `reference` shows it: its type and the value, which nests at most 119.
 pub fn typed(alloc: Global, output: &OutputAt, value: &Value) -> Result<Value, OutOfMemory>
     requires { nesting (json value.now) ≤ 119 }
     ensures { IfOk result (λ v. json v ≡ typed (declared output.now) (json value.now)) }
 {
-    let mut fields = Fields::new();
-    fields.set(alloc, "type", Value::Text(output.kind.copy(alloc)?))?;
-    fields.set(alloc, "value", value.copy(alloc)?)?;
+    let value = value.copy(alloc)?;
+    let fields = typed_fields(alloc, output, value)?;
     Ok(Value::Object(fields))
 }
 
-// Puts the member at its name. After want of memory the members are as they were.
+// Puts the member at its name. After `OutOfMemory` the members are unchanged.
 fn put_field(alloc: Global, fields: &mut Fields, field: Field) -> Result<(), OutOfMemory>
     requires { nesting (json field.value) ≤ 119 }
     ensures { fields.new

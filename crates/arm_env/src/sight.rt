@@ -1,4 +1,4 @@
-// What is seen from where an expression stands, and looking for entries of it.
+// The view that an expression has of its environment, and searches for entries of it.
 ghost use Rattle.std.specs.Prelude.{◌≡◌, ◌≤◌, map, option_map, Some, IfOk};
 ghost use Rattle.arm_value.specs.Look.{fold, is_same_folded};
 ghost use Rattle.arm_value.specs.View.{json};
@@ -17,12 +17,13 @@ use crate::env::{Env, Looping, ModuleAt, Named, OutputAt, Seen, Slot, StateAt, U
 use crate::stop::Stop;
 use arm_ids::Key;
 use arm_value::{Text, Value, folded_eq};
+use foundation::limits::MAX_VALUE_NESTING;
 use std::alloc::Global;
 
-/// What is seen from where an expression stands.
+/// The view that an expression has of its environment.
 #[derive(Drop)]
 pub struct Sight<'a> {
-    /// What is known of the entries, and what stands around.
+    /// What is known of the entries, and the surroundings of the template instance.
     pub env: &'a Env<'a>,
     /// What a key means that is not listed among the states.
     pub unlisted: Unlisted,
@@ -188,7 +189,7 @@ pub fn value_named<'a>(sight: &Sight<'a>, key: &Key, name: &Text) -> Result<&'a 
     ensures nests { IfOk result (λ v. nesting (json v.now) ≤ 100) }
 {
     let value = output_of(sight, key, name)?;
-    if value.nesting() <= 100 {
+    if value.nesting() <= MAX_VALUE_NESTING {
         Ok(value)
     } else {
         Err(Stop::NoValue)

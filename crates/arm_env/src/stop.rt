@@ -1,5 +1,6 @@
 // Why an expression has no value, or not yet.
-ghost use Rattle.std.specs.Prelude.{◌≡◌};
+ghost use Rattle.std.specs.Prelude.{◌≡◌, Err, IsErr};
+ghost use Rattle.arm_env.specs.Answer.{outcome_of};
 ghost use Rattle.arm_env.specs.declared.stop.Stop.TheVariants.{OutOfMemory};
 
 use arm_ids::Key;
@@ -33,3 +34,33 @@ impl<T: Drop> From<AllocFailed<T>> for Stop {
         Stop::OutOfMemory
     }
 }
+
+/// What was found, or that it has no value; any other `Stop` stays.
+pub fn outcome<T: Drop>(found: Result<T, Stop>) -> Result<Option<T>, Stop>
+    ensures { result ≡ outcome_of found }
+{
+    match found {
+        Ok(value) => Ok(Some(value)),
+        Err(Stop::NoValue) => Ok(None),
+        Err(Stop::Needs(key)) => Err(Stop::Needs(key)),
+        Err(Stop::Late) => Err(Stop::Late),
+        Err(Stop::OutOfMemory) => Err(Stop::OutOfMemory),
+    }
+}
+
+/// Stops; the part is dropped.
+pub fn stopped<T: Drop, R: Drop>(stop: Stop, _part: T) -> Result<R, Stop>
+    ensures { result ≡ Err stop }
+{
+    Err(stop)
+}
+
+/// Out of memory; the part is dropped.
+pub fn lacks_memory<T: Drop, R: Drop>(_part: T) -> Result<R, AllocError>
+    ensures { IsErr result }
+{
+    Err(AllocError)
+}
+
+/// Drops the part.
+pub fn let_go<T: Drop>(_part: T) {}

@@ -7,7 +7,7 @@ use Rattle.reading.specs.Knowledge.{IsAwaited}
 use Rattle.reading.proofs.Completion.{told_means}
 use Rattle.arm_env.specs.Look.{Look, parameter, variable, output, state, Looking}
 use Rattle.arm_env.specs.Answer.{is, is_none, needs, is_late, answer_of, answered}
-use Rattle.arm_eval.specs.Got.{IsEntry}
+use Rattle.arm_eval.specs.Got.{IsEntry, IsLate}
 
 value_told : (t : Told Look Json) (v : Json) → answer_of t ≡ is v → t ≡ value v
 value_told (value x) v e = cc
@@ -58,9 +58,10 @@ module _ (p : Look → Known Json) (r : Looking Json) where
   unfolding answered
   says_needs k e = let t = state_told (told p r) k e in (t, means (waits (state k)) t)
 
-  pub says_late : answered p r ≡ is_late
-      → (c : Look) × (IsEntry c × ((told p r ≡ waits c) × IsAwaited p r c))
+  pub says_late : answered p r ≡ is_late → IsLate p r
   unfolding answered
-  says_late e = let t = entry_told (told p r) e in (t.0, (t.1.0, (t.1.1, means (waits t.0) t.1.1)))
+  says_late e =
+      let t = entry_told (told p r) e in
+      record { entry = t.0; is_no_state = t.1.0; waits_for = t.1.1; is_awaited = means (waits t.0) t.1.1 }
 
 pub ruleset says = (says_value, says_none, says_needs, says_late)

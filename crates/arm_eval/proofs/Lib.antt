@@ -1,7 +1,7 @@
 pub mod GotLemmas
 pub mod TextLemmas
-pub mod BracketLemmas
 pub mod TreeLemmas
+pub mod PlainLemmas
 pub mod TurnLemmas
 pub mod ObjectLemmas
 pub mod NestLemmas

@@ -1,7 +1,7 @@
 -- Names in a set, and names that are free.
-use Rattle.std.proofs.Common.{◌≡◌, ◌<◌, ◌≤◌, ◌+◌, ℕ, suc, zero, Bool, true, false, ◌&&◌, ◌||◌, List, [], ◌∷◌, ◌++◌}
+use Rattle.std.proofs.Common.{◌≡◌, ◌<◌, ◌≤◌, ◌+◌, ℕ, suc, Bool, true, false, ◌&&◌, ◌||◌, List, [], ◌∷◌, ◌++◌}
 use Rattle.std.proofs.Common.{length, get_or, take, drop, map, bytes_eq, encode_utf8_all, refl, ap, ap₂, sym, ◌∙◌}
-use Rattle.std.proofs.Common.{arith, add-one, append_assoc, append-nil}
+use Rattle.std.proofs.Common.{add-one, append_assoc}
 use Rattle.std.specs.Prelude.{cond, not}
 use denote.Ref.{Bor}
 use Rattle.std.specs.Cmp.{both_ways}

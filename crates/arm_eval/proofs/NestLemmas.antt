@@ -2,9 +2,14 @@
 use Rattle.std.proofs.Common.{◌≡◌, ◌≤◌, ℕ, List, [], ◌∷◌, Bool, true, false, nat_le, Option, Some, None, refl, sym}
 use Rattle.std.proofs.Common.{ap, ◌∙◌, subst, arith}
 use Rattle.std.proofs.lemmas.Bool.Decides.{nat_tests}
-use Rattle.std.specs.Prelude.{if◌then◌else◌}
+use Rattle.std.specs.Prelude.{if◌then◌else◌, IfOk, MatchOption, Result, Ok, Err}
 use Rattle.arm_value.specs.Json.{Json, null, bool, int, text, array, object, Row, no_items, item, pairs, Member}
 use Rattle.arm_value.specs.Json.{nesting, members_nesting}
+use Rattle.arm_value.specs.View.{json}
+use Rattle.arm_value.specs.declared.value.Value.{Value}
+use Rattle.arm_env.specs.Answer.{Gives, outcome_of}
+use Rattle.arm_env.specs.declared.stop.Stop.{Stop}
+use Rattle.arm_env.specs.declared.stop.Stop.TheVariants as stop
 use Rattle.reading.specs.Reading.{done, pure, none, continued, both}
 use Rattle.reading.specs.Knowledge.{Known}
 use Rattle.arm_env.specs.Look.{Look, Looking, Surroundings}
@@ -12,7 +17,8 @@ use Rattle.arm_env.specs.Part.{kept}
 use Rattle.arm_env.specs.Held.{capped, forced}
 use Rattle.expression_values.specs.Meaning.{used, held}
 use Rattle.arm_env.specs.Look.{all}
-use Rattle.arm_eval.specs.Text.{Said, plain, expression, said_by, expression_of}
+use Rattle.arm_expr.specs.Brackets.{Meaning, plain, an_expression, meaning as text_meaning}
+use Rattle.arm_eval.specs.Text.{expression_of}
 use Rattle.arm_env.specs.Answer.{Answer, is, is_none, needs, is_late, answered, next, given, outcome_answer}
 use Rattle.arm_eval.specs.Trees.{Copy, said_value, tree_value, given_members, is_copy, copies, row_copies, copied}
 use Rattle.arm_eval.specs.Trees.{copy_in, turns, counting, counted, array_of}
@@ -68,16 +74,16 @@ module _ (p : Look → Known Json) where
       (sym (answered-continued p (done o) (meaning.value here)) ∙ e) in
       used_nests here c.value v c.then_was
 
-  said_nests : (here : Surroundings) (t : List ℕ) (s : Said) (v : Json) → answered p (said_value here t s) ≡ is v
+  said_nests : (here : Surroundings) (t : List ℕ) (s : Meaning) (v : Json) → answered p (said_value here t s) ≡ is v
       → nesting v ≤ 100
   said_nests here t (plain u) v e = scalar_nests (text u) v refl e
-  said_nests here t expression v e = expression_nests here (expression_of t) v e
+  said_nests here t an_expression v e = expression_nests here (expression_of t) v e
 
   pub tree_nests : (here : Surroundings) (j v : Json) → answered p (tree_value j here) ≡ is v → nesting v ≤ 100
   tree_nests here null v e = scalar_nests null v refl e
   tree_nests here (bool b) v e = scalar_nests (bool b) v refl e
   tree_nests here (int z) v e = scalar_nests (int z) v refl e
-  tree_nests here (text t) v e = said_nests here t (said_by t) v e
+  tree_nests here (text t) v e = said_nests here t (text_meaning t) v e
   tree_nests here (array js) v e = capped_nests _ v e
   tree_nests here (object ms) v e = capped_nests _ v e
 
@@ -90,6 +96,16 @@ module _ (p : Look → Known Json) where
   pub outcome_nests : (here : Surroundings) (j v : Json)
       → outcome_answer (answered p (tree_value j here)) ≡ is (Some v) → nesting v ≤ 100
   outcome_nests here j v e = tree_nests here j v (value_in_outcome (answered p (tree_value j here)) v e)
+
+  -- the outcome of a tree nests no deeper than its value
+  pub nests_in_outcome : (here : Surroundings) (j : Json) (r : Result Value Stop)
+      → Gives json r (answered p (tree_value j here))
+      → IfOk (outcome_of r) (λ o. MatchOption o (Unit {0}) (λ v. nesting (json v) ≤ 100))
+  nests_in_outcome here j (Ok v) h = tree_nests here j (json v) h
+  nests_in_outcome here j (Err stop.NoValue) h = tt
+  nests_in_outcome here j (Err (stop.Needs k)) h = tt
+  nests_in_outcome here j (Err stop.Late) h = tt
+  nests_in_outcome here j (Err stop.OutOfMemory) h = tt
 
   -- the members that loops give
   counted_nests : (c : Copy) (here : Surroundings) (n : ℕ) (m : Member) → answered p (counted c here n) ≡ is m

@@ -26,7 +26,8 @@ use Rattle.arm_eval.specs.Words.{values_of, owns_of, copies_of, put_all, kept_ar
 use Rattle.arm_eval.specs.Words.{trees_in, copy_tree}
 use Rattle.arm_env.proofs.Answers.{both_answers, answered-done, answered-continued, answered-both, answered-capped}
 use Rattle.arm_env.proofs.Answers.{stops}
-use Rattle.arm_eval.proofs.TurnLemmas.{turn_at, given_in, array_given, array_stops}
+use Rattle.arm_eval.proofs.TurnLemmas.{turn_at, array_given, array_stops}
+use Rattle.arm_env.proofs.Turns.{given_in}
 
 -- ---- lists of the code and rows
 

@@ -10,11 +10,12 @@ use Rattle.arm_value.specs.declared.value.Field.{Field}
 use Rattle.reading.specs.Knowledge.{Known}
 use Rattle.arm_env.specs.Look.{Look, Looking, Surroundings}
 use Rattle.arm_eval.specs.Trees.{Copy, tree_value, own_member, copied, copy_in, turns}
-use Rattle.arm_eval.specs.Words.{values_of, owns_of, copies_of, put_all, with_last, with_each}
-use Rattle.arm_env.specs.Answer.{answered, is, given, gathered, outcome_answer, Stops}
+use Rattle.arm_eval.specs.Words.{values_of, owns_of, copies_of, put_all, with_each}
+use Rattle.arm_env.specs.Answer.{answered, is, given, gathered, outcome_answer, with_last, Stops}
 use Rattle.arm_env.specs.declared.stop.Stop.{Stop}
 use Rattle.arm_env.proofs.Gather.{gathered-nil}
-use Rattle.arm_eval.proofs.TurnLemmas.{turn_at, turned, turn_stops, all_turned}
+use Rattle.arm_eval.proofs.TurnLemmas.{turn_at}
+use Rattle.arm_env.proofs.Turns.{turned, turn_stops, all_turned}
 use Rattle.arm_eval.proofs.ObjectLemmas.{put_all-more, turns_are}
 
 module _ (p : Look → Known Json) (here : Surroundings) where

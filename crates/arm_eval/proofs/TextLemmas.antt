@@ -13,7 +13,8 @@ use Rattle.arm_expr.specs.declared.expr.Expr.{Expr}
 use Rattle.arm_expr.specs.declared.fault.ExprFault.{ExprFault}
 use Rattle.arm_expr.specs.declared.fault.ExprFault.TheVariants.{TooLong, NotAnExpression, TooDeep, OutOfMemory}
 use Rattle.arm_expr.proofs.Reading.{in_brackets, Found, answered, unbracketed, spelled_once}
-use Rattle.arm_eval.specs.Text.{opens, closes, is_bracketed, without_last, inside, flattened, expression_of}
+use Rattle.arm_expr.specs.Brackets.{opens, closes, is_bracketed}
+use Rattle.arm_eval.specs.Text.{without_last, inside, tree_read, expression_of}
 use Rattle.foundation.proofs.TruthValues.{both}
 
 closes_last : (cs : List ℕ) → closes cs ≡ true → cs ≡ without_last cs ++ 93 ∷ []
@@ -51,7 +52,7 @@ never t inner h e = let yes : is_bracketed t ≡ true = ap is_bracketed e ∙ br
 abbrev pub IsRead : List ℕ → Tree → Type 0
 IsRead t e = Spells e t × ((length t ≤ 24576) × (nesting e ≤ 64))
 
-flat : (o : Option (Option Tree)) (e : Tree) → flattened o ≡ Some e → o ≡ Some (Some e)
+flat : (o : Option (Option Tree)) (e : Tree) → tree_read o ≡ Some e → o ≡ Some (Some e)
 flat None e h = absurd cc
 flat (Some None) e h = absurd cc
 flat (Some (Some f)) e h = ap Some h
@@ -63,7 +64,7 @@ le_true : (n : ℕ) → n ≤ 24576 → nat_le n 24576 ≡ true
 le_true n h = grind (arith, nat_tests)
 
 read_by : (t : List ℕ) (e : Tree) (l b : Bool) → nat_le (length t) 24576 ≡ l → is_bracketed t ≡ b
-    → (if l && b then flattened (kept_reading (inside t)) else None) ≡ Some e → IsRead t e
+    → (if l && b then tree_read (kept_reading (inside t)) else None) ≡ Some e → IsRead t e
 read_by t e true true h k r =
     let f = answered t (inside t) (Some (Some e)) (brackets t k) (flat (kept_reading (inside t)) e r) in
     (f.0, (within (length t) h, f.1))
@@ -71,13 +72,13 @@ read_by t e true false h k r = absurd cc
 read_by t e false b h k r = absurd cc
 
 found_by : (t : List ℕ) (e : Tree) (o : Option (Option Tree)) → Found o t → Spells e t → nesting e ≤ 64
-    → flattened o ≡ Some e
+    → tree_read o ≡ Some e
 found_by t e None f s d = absurd (f e s)
 found_by t e (Some None) f s d = let same = ap nesting (spelled_once t f.0 e f.1 s) in absurd (omega (arith, f.2, same))
 found_by t e (Some (Some g)) f s d = ap Some (spelled_once t g e f.0 s)
 
 spelled_by : (t : List ℕ) (e : Tree) (b : Bool) → is_bracketed t ≡ b → Spells e t → nesting e ≤ 64
-    → (if true && b then flattened (kept_reading (inside t)) else None) ≡ Some e
+    → (if true && b then tree_read (kept_reading (inside t)) else None) ≡ Some e
 spelled_by t e true k s d =
     found_by t e (kept_reading (inside t)) (answered t (inside t) (kept_reading (inside t)) (brackets t k) refl) s d
 spelled_by t e false k s d = absurd (unbracketed t (λ inner. never t inner k) e s)
@@ -86,7 +87,7 @@ pub expression_read : (t : List ℕ) (e : Tree) → (expression_of t ≡ Some e)
 unfolding expression_of
 expression_read t e = (
   λ r. read_by t e (nat_le (length t) 24576) (is_bracketed t) refl refl r,
-  λ h. ap (λ l. if l && is_bracketed t then flattened (kept_reading (inside t)) else None) (le_true (length t) h.1.0)
+  λ h. ap (λ l. if l && is_bracketed t then tree_read (kept_reading (inside t)) else None) (le_true (length t) h.1.0)
       ∙ spelled_by t e (is_bracketed t) refl h.0 h.1.1,
 )
 

@@ -11,24 +11,25 @@ use Rattle.arm_expr.specs.Tree.{Tree}
 use Rattle.reading.specs.Reading.{done}
 use Rattle.reading.specs.Knowledge.{Known}
 use Rattle.arm_env.specs.Look.{Look, Surroundings}
-use Rattle.arm_eval.specs.Text.{plain, expression, said_by, expression_of}
+use Rattle.arm_expr.specs.Brackets.{plain, an_expression, meaning as text_meaning}
+use Rattle.arm_eval.specs.Text.{expression_of}
 use Rattle.arm_eval.specs.Trees.{said_value, Part, part_named, parts, tree_value, with_name, part_text, copy_by}
 use Rattle.arm_eval.specs.Trees.{copy_of}
 use Rattle.expression_values.specs.Meaning.{value}
 use Rattle.arm_env.specs.Answer.{is, is_none, next, given, answered}
 use Rattle.arm_env.proofs.Answers.{answered-done, answered-continued, goes}
 
-pub said_plain : (p : Look → Known Json) (here : Surroundings) (t s : List ℕ) → said_by t ≡ plain s
-    → answered p (said_value here t (said_by t)) ≡ is (text s)
+pub said_plain : (p : Look → Known Json) (here : Surroundings) (t s : List ℕ) → text_meaning t ≡ plain s
+    → answered p (said_value here t (text_meaning t)) ≡ is (text s)
 said_plain p here t s e = ap (λ u. answered p (said_value here t u)) e ∙ answered-done p (Some (text s))
 
-pub said_some : (p : Look → Known Json) (here : Surroundings) (t : List ℕ) (e : Tree) → said_by t ≡ expression
-    → Some e ≡ expression_of t → answered p (said_value here t (said_by t)) ≡ answered p (value here e)
+pub said_some : (p : Look → Known Json) (here : Surroundings) (t : List ℕ) (e : Tree) → text_meaning t ≡ an_expression
+    → Some e ≡ expression_of t → answered p (said_value here t (text_meaning t)) ≡ answered p (value here e)
 said_some p here t e s h = ap (λ u. answered p (said_value here t u)) s
     ∙ goes p (done (expression_of t)) (value here) e (answered-done p (expression_of t) ∙ ap given (sym h))
 
-pub said_none : (p : Look → Known Json) (here : Surroundings) (t : List ℕ) → said_by t ≡ expression
-    → None ≡ expression_of t → answered p (said_value here t (said_by t)) ≡ is_none
+pub said_none : (p : Look → Known Json) (here : Surroundings) (t : List ℕ) → text_meaning t ≡ an_expression
+    → None ≡ expression_of t → answered p (said_value here t (text_meaning t)) ≡ is_none
 said_none p here t s h =
     ap (λ u. answered p (said_value here t u)) s ∙ answered-continued p (done (expression_of t)) (value here)
     ∙ ap (λ a. next a (λ e. answered p (value here e))) (answered-done p (expression_of t) ∙ ap given (sym h))

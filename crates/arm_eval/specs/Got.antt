@@ -14,10 +14,17 @@ IsEntry (variable name) = Unit {0}
 IsEntry (output k name) = Unit {0}
 IsEntry (state k) = ⊥
 
+-- the first entry that is looked at and is not known yet is no state
+pub record IsLate (p : Look → Known Json) (r : Looking Json) : Type 0 where
+  pub entry : Look
+  pub is_no_state : IsEntry entry
+  pub waits_for : told p r ≡ waits entry
+  pub is_awaited : IsAwaited p r entry
+
 -- the value, or none, of what looks only at what is known, and then under every completion; else
 -- the first entry that is looked at and is not known yet
 abbrev pub Says : (Look → Known Json) → Looking Json → Got → Type 0
 Says p r (got.Value v) = (told p r ≡ value (json v)) × IsFinal p r (Some (json v))
 Says p r got.NoValue = (told p r ≡ no_value) × IsFinal p r None
 Says p r (got.Needs k) = (told p r ≡ waits (state k)) × IsAwaited p r (state k)
-Says p r got.Late = (c : Look) × (IsEntry c × ((told p r ≡ waits c) × IsAwaited p r c))
+Says p r got.Late = IsLate p r

@@ -12,3 +12,4 @@ pub mod Text
 pub mod Trees
 pub mod Words
 pub mod Free
+pub mod Plain

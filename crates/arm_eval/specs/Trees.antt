@@ -10,18 +10,19 @@ use Rattle.function_numbers.specs.Kinds.{text_of}
 use Rattle.reading.specs.Reading.{done, pure, none, continued, both}
 use Rattle.arm_env.specs.declared.env.Looping.{Looping}
 use Rattle.arm_env.specs.Look.{Looking, Surroundings}
-use Rattle.arm_eval.specs.Text.{Said, plain, expression, said_by, expression_of}
+use Rattle.arm_expr.specs.Brackets.{Meaning, plain, an_expression, meaning as text_meaning}
+use Rattle.arm_eval.specs.Text.{expression_of}
 use Rattle.arm_env.specs.Look.{all}
 use Rattle.arm_env.specs.Held.{capped}
 use Rattle.arm_env.specs.Object.{object_of}
 use Rattle.expression_values.specs.Meaning as meaning
 
 -- a text: plain, or the value of an expression
-abbrev pub said_value : Surroundings → List ℕ → Said → Looking Json
+abbrev pub said_value : Surroundings → List ℕ → Meaning → Looking Json
 said_value here t (plain s) = pure (text s)
-said_value here t expression = continued (done (expression_of t)) (meaning.value here)
+said_value here t an_expression = continued (done (expression_of t)) (meaning.value here)
 
--- a member of an object: its name, what stands there, and its value
+-- a member of an object: its name, its tree, and its value
 pub record Part : Type 0 where
   pub name : List ℕ
   pub tree : Json
@@ -70,7 +71,7 @@ count_of _ = None
 abbrev pub looping_of : List ℕ → ℕ → Looping
 looping_of name i = record { name = Some name; index = i; main = false }
 
--- what stands around inside a loop
+-- the surroundings inside a loop
 abbrev pub within : List ℕ → ℕ → Surroundings → Surroundings
 within name i here = record here { loops = looping_of name i ∷ here.loops }
 
@@ -133,7 +134,7 @@ abbrev mutual
   tree_value null here = pure null
   tree_value (bool b) here = pure (bool b)
   tree_value (int z) here = pure (int z)
-  tree_value (text t) here = said_value here t (said_by t)
+  tree_value (text t) here = said_value here t (text_meaning t)
   tree_value (array js) here = array_of (row_values js here)
   tree_value (object ms) here = object_by (pair_keys ms) (own_members ms here) (given_members ms here)
 

@@ -1,7 +1,6 @@
--- What the code's words for texts and trees stand for.
-use Rattle.std.specs.Prelude.{◌<◌, ◌++◌, ℕ, List, [], ◌∷◌, map, Option, Some, None, option_map, option_and_then, ◌&&◌}
+-- The meaning of the code's types for texts and trees.
+use Rattle.std.specs.Prelude.{◌<◌, ℕ, List, [], ◌∷◌, map, Option, Some, None, option_map, option_and_then, ◌&&◌}
 use Rattle.std.specs.Prelude.{if◌then◌else◌}
-use Rattle.std.specs.Str.{chars}
 use Rattle.arm_value.specs.Json.{Json, array, object, row, pairs, items, Member, put_each, nesting}
 use Rattle.arm_value.specs.View.{json}
 use Rattle.arm_value.specs.declared.value.Value.{Value}
@@ -14,13 +13,6 @@ use Rattle.arm_eval.specs.Trees.{differ, is_copy}
 use Rattle.arm_eval.specs.declared.copying.Copying.{Copying}
 use Rattle.arm_eval.specs.declared.whole.Own.{Own}
 use Rattle.arm_eval.specs.declared.whole.Own.TheVariants as own
-use Rattle.arm_eval.specs.Text as text
-use Rattle.arm_eval.specs.declared.texts.Said as saids
-use Rattle.arm_eval.specs.declared.texts.Said.TheVariants as said
-
-abbrev pub said_of : saids.Said → text.Said
-said_of (said.Plain s) = text.plain (chars s.now)
-said_of said.Expression = text.expression
 
 -- the loop that the code's parts are
 abbrev pub copying_of : Copying → Copy
@@ -53,10 +45,7 @@ own_of name (own.Value v) = (name, json v) ∷ []
 abbrev pub put_all : List (List Member) → List Member
 put_all mss = put_each [] (concat mss)
 
--- one more behind the others, or among them, where all are there
-abbrev pub with_last : {A : Type 0} → Option (List A) → Option A → Option (List A)
-with_last xs x = option_map (λ p. p.0 ++ p.1 ∷ []) (joined xs x)
-
+-- the members with more put among them, where all are there
 abbrev pub with_each : Option (List Member) → Option (List Member) → Option (List Member)
 with_each ms ns = option_map (λ p. put_each p.0 p.1) (joined ms ns)
 

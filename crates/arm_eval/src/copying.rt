@@ -1,5 +1,6 @@
 // The loops that the member `copy` of an object holds.
-ghost use Rattle.std.specs.Prelude.{◌≡◌, ◌≤◌, ◌<◌, ◌∷◌, ℕ, suc, List, length, chars, map, option_map, IfOk, MatchOption, codes};
+ghost use Rattle.std.specs.Prelude.{◌≡◌, ◌≤◌, ◌<◌, ◌∷◌, ℕ, suc, List, length, chars, map};
+ghost use Rattle.std.specs.Prelude.{option_map, IfOk, MatchOption, codes};
 ghost use Rattle.arm_value.specs.Json.{nesting, items_nesting, members_nesting, pairs};
 ghost use Rattle.arm_value.specs.View.{json, member};
 ghost use Rattle.arm_eval.specs.Trees as trees;
@@ -8,7 +9,9 @@ ghost use Rattle.arm_eval.specs.Words.{copying_of, NestsBelow, tree_in, trees_in
 
 use arm_env::env::Looping;
 use arm_env::function::is_word;
+use arm_env::stop::let_go;
 use arm_value::{Field, OutOfMemory, Text, Value};
+use foundation::limits::MAX_COPY_COUNT;
 use function_numbers::kinds::text_of;
 use std::alloc::Global;
 
@@ -117,18 +120,27 @@ pub(crate) fn copy_of<'a>(tree: &'a Value) -> Option<Copying<'a>>
     }
 }
 
-/// A count from 0 to 800.
-pub(crate) fn count_of(value: &Value) -> Option<u32>
+// A count from 0 to 800.
+fn count_of(value: &Value) -> Option<u32>
     ensures { result ≡ trees.count_of (json value.now) }
 {
     match value {
-        Value::Int(number) => if 0 <= *number && *number <= 800 {
+        Value::Int(number) => if 0 <= *number && *number <= MAX_COPY_COUNT {
             Some(*number as u32)
         } else {
             None
         },
         _ => None,
     }
+}
+
+/// The count that the value is, if it is one. The value is dropped.
+pub(crate) fn taken_count(value: Value) -> Option<u32>
+    ensures { result ≡ trees.count_of (json value) }
+{
+    let count = count_of(&value);
+    let_go(value);
+    count
 }
 
 /// The loops inside a loop of a name, which has the index 0.

@@ -53,8 +53,8 @@ fn answer(found: Result<Value, Stop>) -> Result<Got, OutOfMemory>
 /// has none.
 ///
 /// `Value` and `NoValue` come exactly where all that is looked at is known, and hold whatever the
-/// other entries turn out to be. `Needs` and `Late` tell of the first entry that is looked at and
-/// is not known yet, where an entry that is not known counts as one without a value.
+/// other entries turn out to be. `Needs` and `Late` name the first entry that is looked at and is
+/// not known yet, where an entry that is not known counts as one without a value.
 pub fn eval(alloc: Global, env: &Env, e: &Expr) -> Result<Got, OutOfMemory>
     ensures { IfOk result (Says (known_in Never env.now) (value (around env.now) (tree_of e.now))) }
 {

@@ -2,35 +2,49 @@
 ghost use Rattle.std.specs.Prelude.{◌≡◌, ◌≤◌, map, option_map, IfOk, MatchOption};
 ghost use Rattle.arm_value.specs.Json.{nesting, members_nesting, array, object, row, pairs};
 ghost use Rattle.arm_value.specs.View.{json, member};
-ghost use Rattle.arm_eval.specs.Text.{said_by};
+ghost use Rattle.arm_expr.specs.Brackets.{meaning};
 ghost use Rattle.arm_eval.specs.Trees as trees;
 ghost use Rattle.arm_eval.specs.Trees.{counting};
 ghost use Rattle.arm_eval.specs.Words.{copying_of, values_of, owns_of, copies_of, own_of, put_all};
 ghost use Rattle.arm_env.specs.Answer.{answered, outcome_answer, gathered, Gives};
 ghost use Rattle.arm_env.specs.Sight.{known_by, here};
+ghost use Rattle.arm_expr.specs.View.{tree_of};
+ghost use Rattle.expression_values.specs.Meaning.{value};
 
 use crate::copying::{
-    Copying, copy_of, copy_tree, count_of, is_copy, loops_inside, trees_in, turn_to,
+    Copying, copy_of, copy_tree, is_copy, loops_inside, taken_count, trees_in, turn_to,
 };
-use crate::texts::{Said, expression_of, what_is_said};
+use crate::texts::expression_of;
 use crate::whole::{
     Own, all_given, array_of, field_of, whole_object, with_given, with_own, with_value,
 };
 use arm_env::sight::Sight;
-use arm_env::stop::Stop;
+use arm_env::stop;
+use arm_env::stop::{Stop, let_go, stopped};
+use arm_expr::{Expr, Meaning, meaning_of};
 use arm_value::{Field, Fields, Items, Text, Value};
 use expression_values::value_of;
 use std::alloc::Global;
 
+// The value of an expression, which is dropped.
+fn taken_value<'a>(alloc: Global, sight: &Sight<'a>, e: Expr) -> Result<Value, Stop>
+    ensures { Gives json result
+        (answered (known_by sight.now) (value (here sight.now) (tree_of e))) }
+{
+    let value = value_of(alloc, sight, &e);
+    let_go(e);
+    value
+}
+
 // The value of a text.
 fn said_value<'a>(alloc: Global, sight: &Sight<'a>, text: &Text) -> Result<Value, Stop>
     ensures { Gives json result (answered (known_by sight.now)
-        (trees.said_value (here sight.now) text.now (said_by text.now))) }
+        (trees.said_value (here sight.now) text.now (meaning text.now))) }
 {
-    match what_is_said(text.as_str()) {
-        Said::Plain(plain) => Ok(Value::Text(Text::of(alloc, plain)?)),
-        Said::Expression => match expression_of(alloc, text)? {
-            Some(e) => value_of(alloc, sight, &e),
+    match meaning_of(text.as_str()) {
+        Meaning::Plain(plain) => Ok(Value::Text(Text::of(alloc, plain)?)),
+        Meaning::Expression => match expression_of(alloc, text)? {
+            Some(e) => taken_value(alloc, sight, e),
             None => Err(Stop::NoValue),
         },
     }
@@ -59,13 +73,7 @@ fn outcome<'a>(alloc: Global, sight: &Sight<'a>, tree: &Value) -> Result<Option<
         (trees.tree_value (json tree.now) (here sight.now)))) }
     ensures nests { IfOk result (λ o. MatchOption o (Unit {0}) (λ v. nesting (json v) ≤ 100)) }
 {
-    match tree_value(alloc, sight, tree) {
-        Ok(value) => Ok(Some(value)),
-        Err(Stop::NoValue) => Ok(None),
-        Err(Stop::Needs(key)) => Err(Stop::Needs(key)),
-        Err(Stop::Late) => Err(Stop::Late),
-        Err(Stop::OutOfMemory) => Err(Stop::OutOfMemory),
-    }
+    stop::outcome(tree_value(alloc, sight, tree))
 }
 
 // The values of trees, where each has one. All are looked at.
@@ -76,8 +84,10 @@ fn values<'a>(alloc: Global, sight: &Sight<'a>, trees: &[Value]) -> Result<Optio
 {
     let mut values = Some(Items::new());
     for tree in trees {
-        let value = outcome(alloc, sight, tree)?;
-        values = with_value(alloc, values, value)?;
+        match outcome(alloc, sight, tree) {
+            Ok(value) => values = with_value(alloc, values, value)?,
+            Err(stop) => return stopped(stop, values),
+        }
     }
     Ok(values)
 }
@@ -121,8 +131,10 @@ fn own_members<'a>(
 {
     let mut own = Some(Fields::new());
     for field in fields {
-        let found = own_member(alloc, sight, field)?;
-        own = with_own(alloc, own, &field.name, found)?;
+        match own_member(alloc, sight, field) {
+            Ok(found) => own = with_own(alloc, own, &field.name, found)?,
+            Err(stop) => return stopped(stop, own),
+        }
     }
     Ok(own)
 }
@@ -166,8 +178,10 @@ fn each_copied<'a>(
 {
     let mut given = Some(Vec::new(alloc));
     for tree in trees {
-        let field = copied_outcome(alloc, sight, tree)?;
-        given = with_given(given, field)?;
+        match copied_outcome(alloc, sight, tree) {
+            Ok(field) => given = with_given(given, field)?,
+            Err(stop) => return stopped(stop, given),
+        }
     }
     Ok(given)
 }
@@ -178,13 +192,7 @@ fn copied_outcome<'a>(alloc: Global, sight: &Sight<'a>, tree: &Value) -> Result<
     ensures { Gives (option_map member) result (outcome_answer (answered (known_by sight.now)
         (trees.copied (here sight.now) (trees.copy_in (json tree.now))))) }
 {
-    match copied(alloc, sight, tree) {
-        Ok(field) => Ok(Some(field)),
-        Err(Stop::NoValue) => Ok(None),
-        Err(Stop::Needs(key)) => Err(Stop::Needs(key)),
-        Err(Stop::Late) => Err(Stop::Late),
-        Err(Stop::OutOfMemory) => Err(Stop::OutOfMemory),
-    }
+    stop::outcome(copied(alloc, sight, tree))
 }
 
 // The member that a loop gives.
@@ -210,7 +218,7 @@ fn counting<'a>(alloc: Global, sight: &Sight<'a>, tree: &Value) -> Result<u32, S
         (counting (trees.tree_value (json tree.now) (here sight.now)))) }
 {
     let value = tree_value(alloc, sight, tree)?;
-    match count_of(&value) {
+    match taken_count(value) {
         Some(count) => Ok(count),
         None => Err(Stop::NoValue),
     }
@@ -237,9 +245,12 @@ fn turns<'a>(
             unlisted: sight.unlisted,
             loops: loops.as_slice(),
         };
-        let value = outcome(alloc, &inside, copy.input)?;
-        values = with_value(alloc, values, value)?;
+        match outcome(alloc, &inside, copy.input) {
+            Ok(value) => values = with_value(alloc, values, value)?,
+            Err(stop) => return stopped(stop, (loops, values)),
+        }
     }
+    let_go(loops);
     Ok(values)
 }
 
@@ -250,6 +261,8 @@ fn object_value<'a>(alloc: Global, sight: &Sight<'a>, fields: &Fields) -> Result
 {
     let fields = fields.as_slice();
     let own = own_members(alloc, sight, fields)?;
-    let given = given_members(alloc, sight, fields)?;
-    whole_object(alloc, fields, own, given)
+    match given_members(alloc, sight, fields) {
+        Ok(given) => whole_object(alloc, fields, own, given),
+        Err(stop) => stopped(stop, own),
+    }
 }

@@ -3,8 +3,8 @@ ghost use Rattle.std.specs.Prelude.{◌≡◌, ◌≤◌, ◌∷◌, ◌++◌, [
 ghost use Rattle.arm_value.specs.Json.{nesting, members_nesting, put_each};
 ghost use Rattle.arm_value.specs.View.{json, member};
 ghost use Rattle.arm_eval.specs.Trees.{names_of};
-ghost use Rattle.arm_eval.specs.Words.{own_of, with_last, with_each, kept_array, kept_object, whole_object};
-ghost use Rattle.arm_env.specs.Answer.{given, Gives};
+ghost use Rattle.arm_eval.specs.Words.{own_of, with_each, kept_array, kept_object, whole_object};
+ghost use Rattle.arm_env.specs.Answer.{given, with_last, Gives};
 ghost use Rattle.arm_env.specs.declared.stop.Stop.TheVariants.{NoValue, OutOfMemory};
 
 use crate::names::are_free;
@@ -13,7 +13,7 @@ use arm_env::stop::Stop;
 use arm_value::{Field, Fields, Items, OutOfMemory, Text, Value};
 use std::alloc::Global;
 
-/// The values with one more behind them, where all are there.
+/// The values with one more at their end, where all are there.
 pub(crate) fn with_value(
     alloc: Global,
     values: Option<Items>,
@@ -107,7 +107,7 @@ pub(crate) fn all_given(added: Option<Vec<Field>>) -> Result<Vec<Field>, Stop>
     }
 }
 
-/// The members with one more behind them, where all are there.
+/// The members with one more at their end, where all are there.
 pub(crate) fn with_given(
     added: Option<Vec<Field>>,
     field: Option<Field>,

@@ -1,7 +1,6 @@
 -- The machine that keeps only trees within the limit answers as the one that keeps all.
-use Rattle.std.proofs.Common.{◌≡◌, ℕ, ℤ, ◌<◌, ◌≤◌, max, nat_le, List, [], ◌∷◌, ◌++◌, map, Option, Some, None}
-use Rattle.std.proofs.Common.{option_map, option_and_then, Bool, true, false, cond, refl, ap, sym, ◌∙◌, arith}
-use Rattle.std.proofs.lemmas.Bool.Decides.{nat_tests}
+use Rattle.std.proofs.Common.{◌≡◌, ℕ, ℤ, ◌<◌, ◌≤◌, max, List, [], ◌∷◌, ◌++◌, map, Option, Some, None}
+use Rattle.std.proofs.Common.{option_map, option_and_then, cond, refl, ap, sym, ◌∙◌, arith}
 use Rattle.arm_expr.specs.Tree.{Tree, text, int, call, member, index, trees, nesting, deepest}
 use Rattle.arm_expr.specs.Tokens.{Token, a_text, an_int, a_name, open_paren, close_paren, open_bracket, close_bracket}
 use Rattle.arm_expr.specs.Tokens.{comma, dot}

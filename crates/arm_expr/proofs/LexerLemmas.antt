@@ -9,22 +9,16 @@ use Rattle.std.proofs.lemmas.Str.{chars-append, chars_past_char, chars-nil, IsUt
 use Rattle.arm_expr.specs.Grammar.{value_from}
 use Rattle.arm_expr.specs.Tokens.{Token, token_of}
 use Rattle.std.proofs.lemmas.List.{at_drop_more, at_drop_all}
-use Rattle.arm_expr.specs.declared.stop.Stop.{Stop}
-use Rattle.arm_expr.specs.declared.stop.Stop.TheVariants as stop
+use Rattle.foundation.specs.declared.stop.Stop.{Stop}
+use Rattle.foundation.specs.declared.stop.Stop.TheVariants as stop
+use Rattle.foundation.specs.Stopping.{Stops}
 use Rattle.arm_expr.specs.Lexer.{between, ended, Pending, Turn, after_token, turn, lex}
-use Rattle.arm_expr.specs.Pending.{onto, next, Stops}
+use Rattle.arm_expr.specs.Pending.{onto, next}
 use Rattle.arm_expr.specs.declared.token.Token as tokens
 
 pub value_from-grows : (n : ℕ) (ds : List ℕ) → n ≤ value_from n ds
 value_from-grows n [] = omega arith
 value_from-grows n (d ∷ ds) = omega (arith, value_from-grows (10 * n + (d - 48)) ds)
-
-pub chars-push : (bs : List ℕ) (c : ℕ) → IsUtf8 bs → IsScalar c → chars (bs ++ encode_utf8 c) ≡ chars bs ++ c ∷ []
-chars-push bs c u s =
-    chars-append bs (encode_utf8 c) u
-    ∙ ap (λ x. chars bs ++ x)
-    (chars_past_char (encode_utf8 c) [] c (IsUtf8-encode c s) (sym (append-nil (encode_utf8 c)))
-    ∙ ap (λ x. c ∷ x) chars-nil)
 
 pub onto-after : (ts : List Token) (t : Token) (o : Turn) → onto (ts ++ t ∷ []) o ≡ onto ts (after_token t o)
 onto-after ts t None = refl
@@ -90,7 +84,7 @@ loop_step old new p q c all n m t m_is h inv =
 pub loop_fails : (e : Stop) (old : List Token) (p : Pending) (c : ℕ) (all : List ℕ) (n : ℕ) → (n < length all)
     × (c ≡ get_or all n c) → Stops e (onto old (turn p c))
     → option_map (λ ts. old ++ ts) (lex p (drop n all)) ≡ lex between all → Stops e (lex between all)
-loop_fails stop.NotAnExpression old p c all n t h inv =
+loop_fails stop.Refused old p c all n t h inv =
     sym inv ∙ ap (λ xs. option_map (λ ts. old ++ ts) (lex p xs)) (cons_at all n c t)
     ∙ ap (option_map (λ ts. old ++ ts)) (turn_refuses old p c (drop (n + 1) all) h)
 loop_fails stop.OutOfMemory old p c all n t h inv = tt

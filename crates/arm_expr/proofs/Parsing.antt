@@ -19,20 +19,20 @@ run = machine.run Tree (List Tree) as_tree
 abbrev step : State Tree → Frames → Token → Next
 step = machine.step Tree (List Tree) as_tree
 
--- the arguments behind those in a list
-abbrev behind : List Tree → Trees → Trees
-behind [] ts = ts
-behind (e ∷ es) ts = more e (behind es ts)
+-- the arguments after those in a list
+abbrev followed_by : List Tree → Trees → Trees
+followed_by [] ts = ts
+followed_by (e ∷ es) ts = more e (followed_by es ts)
 
-behind-trees : (es : List Tree) (e : Tree) → trees (es ++ e ∷ []) ≡ behind es (more e none)
-behind-trees [] e = refl
-behind-trees (x ∷ es) e = ap (more x) (behind-trees es e)
+followed_by-trees : (es : List Tree) (e : Tree) → trees (es ++ e ∷ []) ≡ followed_by es (more e none)
+followed_by-trees [] e = refl
+followed_by-trees (x ∷ es) e = ap (more x) (followed_by-trees es e)
 
-behind-more : (es : List Tree) (e : Tree) (ts : Trees) → behind (es ++ e ∷ []) ts ≡ behind es (more e ts)
-behind-more [] e ts = refl
-behind-more (x ∷ es) e ts = ap (more x) (behind-more es e ts)
+followed_by-more : (es : List Tree) (e : Tree) (ts : Trees) → followed_by (es ++ e ∷ []) ts ≡ followed_by es (more e ts)
+followed_by-more [] e ts = refl
+followed_by-more (x ∷ es) e ts = ap (more x) (followed_by-more es e ts)
 
--- what follows `name(` is read as it is behind the call's first expression
+-- what follows `name(` is read as it is after the call's first expression
 opened_first : (e : Tree) (name : List ℕ) (S : Frames) (k : List Token)
     → run (opened name) S (spelled e k) ≡ run wanted (calling name [] ∷ S) (spelled e k)
 opened_first (text s) name S k = refl
@@ -60,12 +60,12 @@ mutual
 
   complete_further : (es : Trees) (e : Tree) (before : List Tree) (name : List ℕ) (S : Frames) (k : List Token)
       → run (done e) (calling name before ∷ S) (further_spelled es k)
-      ≡ run (done (call name (behind before (more e es)))) S k
-  complete_further none e before name S k = ap (λ ts. run (done (call name ts)) S k) (behind-trees before e)
+      ≡ run (done (call name (followed_by before (more e es)))) S k
+  complete_further none e before name S k = ap (λ ts. run (done (call name ts)) S k) (followed_by-trees before e)
   complete_further (more x es) e before name S k =
       complete x (calling name (before ++ e ∷ []) ∷ S) (further_spelled es k)
       ∙ complete_further es x (before ++ e ∷ []) name S k
-      ∙ ap (λ ts. run (done (call name ts)) S k) (behind-more before e (more x es))
+      ∙ ap (λ ts. run (done (call name ts)) S k) (followed_by-more before e (more x es))
 
 -- what is read so far, before the tokens that follow
 abbrev arguments_read : List Tree → List Token → List Token

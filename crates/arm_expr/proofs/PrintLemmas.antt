@@ -224,7 +224,7 @@ length-whole e = omega (arith, length-printed e (93 ∷ []))
 
 pub ruleset print_views = (tree_of-Text, tree_of-Int, tree_of-Call, tree_of-Member, tree_of-Index, append_assoc)
 
--- a character and those behind it
+-- a character and those after it
 doubled-cons : (c : ℕ) (cs : List ℕ) → doubled (c ∷ cs) ≡ doubled (c ∷ []) ++ doubled cs
 doubled-cons c cs =
     elim (eqb c 39) as (λ b. cond b (39 ∷ 39 ∷ doubled cs) (c ∷ doubled cs) ≡ cond b (39 ∷ 39 ∷ []) (c ∷ [])

@@ -1,21 +1,23 @@
 -- Reading a text as the grammar spells it.
 use Rattle.std.proofs.Common.{◌≡◌, ℕ, List, [], ◌∷◌, ◌++◌, Option, Some, None, option_map, option_and_then, cond}
 use Rattle.std.proofs.Common.{refl, ap, sym, ◌∙◌, subst, ◌<◌, ◌≤◌, ◌≢◌, ◌↔◌, ◌⊎◌, inl, inr, IsTrue, Bool, true, false}
-use Rattle.std.proofs.Common.{Result, Ok, Err, length, arith, nat_le}
+use Rattle.std.proofs.Common.{Result, Ok, Err, length, arith, nat_le, ◌==◌}
 use Rattle.std.proofs.lemmas.Bool.Decides.{nat_tests}
 use Rattle.arm_expr.specs.declared.expr.Expr.{Expr}
 use Rattle.arm_expr.specs.declared.fault.ExprFault.{ExprFault}
 use Rattle.arm_expr.specs.declared.fault.ExprFault.TheVariants.{TooLong, NotAnExpression, TooDeep, OutOfMemory}
 use Rattle.arm_expr.specs.Answers.{Reads, IsReadAs}
 use Rattle.arm_expr.specs.View.{tree_of}
-use Rattle.std.proofs.lemmas.Bool.{cases_lt}
+use Rattle.std.proofs.lemmas.Bool.{cases_lt, eqb-true}
 use Rattle.arm_expr.specs.Tree.{Tree, text, int, call, member, index, Trees, none, more, nesting}
 use Rattle.arm_expr.specs.Print.{HasNames, HaveNames}
-use Rattle.arm_expr.specs.Tokens.{Token}
+use Rattle.arm_expr.specs.Tokens.{Token, open_bracket}
 use Rattle.arm_expr.specs.Grammar.{Spells, expression, arguments, further}
 use Rattle.arm_expr.specs.Lexer.{lex, between}
 use Rattle.arm_expr.specs.Machine.{parsed, as_tree, kept}
 use Rattle.arm_expr.specs.Stack.{kept_parsed, kept_reading}
+use Rattle.arm_expr.specs.Brackets.{opens, meaning, an_expression}
+use Rattle.arm_expr.proofs.BracketLemmas.{meaning_inside}
 use Rattle.arm_expr.proofs.Words.{spelled, Writes}
 use Rattle.arm_expr.proofs.Keeping.{parsed_kept}
 use Rattle.arm_expr.proofs.Lexing.{Ended, lex-blank, blank_ends, cut_expression, cut_blanks}
@@ -23,6 +25,7 @@ use Rattle.arm_expr.proofs.LexingSound.{lexed_is_written}
 use Rattle.arm_expr.proofs.Parsing.{spelled_is_parsed, parsed_is_spelled}
 use Rattle.arm_expr.proofs.Spelling.{spelt_whole}
 use Rattle.foundation.proofs.Comparisons.{by_le}
+use Rattle.foundation.proofs.TruthValues.{unless}
 
 -- a text in brackets
 abbrev pub in_brackets : List ℕ → List ℕ
@@ -39,7 +42,7 @@ front_same (a ∷ cs) (b ∷ bs) x h =
     let same = front_same cs bs x tails in
     cc
 
--- what is spelled stands in brackets, and has the tokens of the expression
+-- what is spelled is in brackets, and has the tokens of the expression
 record Bracketed (e : Tree) (t : List ℕ) : Type 0 where
   inner : List ℕ
   is : t ≡ in_brackets inner
@@ -49,19 +52,19 @@ bracketed : (e : Tree) (t : List ℕ) → Spells e t → Bracketed e t
 bracketed e t s =
     let last = s.2.2.2 in
     let bs = last.1 in
-    let behind : Ended s.2.2.0 (93 ∷ []) (Some []) = record {
+    let closing : Ended s.2.2.0 (93 ∷ []) (Some []) = record {
       cut = record { front = bs.0; is = bs.2 ∙ ap (λ x. bs.0 ++ x) last.2; lexed = lex-blank bs.0 bs.1 };
       ends = blank_ends bs.0 bs.1;
     } in
     let c =
     cut_blanks s.0 s.2.0 (93 ∷ []) (Some (spelled e [])) s.2.1
-    (cut_expression e s.2.0 s.2.2.0 (93 ∷ []) (Some []) s.2.2.1 behind) in
+    (cut_expression e s.2.0 s.2.2.0 (93 ∷ []) (Some []) s.2.2.1 closing) in
     record { inner = c.front; is = s.1 ∙ ap (λ x. 91 ∷ x) c.is; lexed = c.lexed }
 
 inner_same : (t a b : List ℕ) → t ≡ in_brackets a → t ≡ in_brackets b → a ≡ b
 inner_same t a b h k = let e : a ++ 93 ∷ [] ≡ b ++ 93 ∷ [] = cc in front_same a b 93 e
 
--- what stands in the brackets has the tokens of the expression
+-- what is in the brackets has the tokens of the expression
 lexed_inside : (e : Tree) (inner : List ℕ) → Spells e (in_brackets inner) → lex between inner ≡ Some (spelled e [])
 lexed_inside e inner s =
     let b = bracketed e (in_brackets inner) s in
@@ -163,3 +166,33 @@ mutual
 
 pub spelled_has_names : (t : List ℕ) (e : Tree) → Spells e t → HasNames e
 spelled_has_names t e s = names_in e s.2.0 s.2.2.0 s.2.2.1
+
+-- ---- a text that spells an expression means one
+
+-- no expression begins with a `[`
+no_bracket_first : (e : Tree) (k ts : List Token) → spelled e k ≡ open_bracket ∷ ts → ⊥
+no_bracket_first (text s) k ts h = cc
+no_bracket_first (int z) k ts h = cc
+no_bracket_first (call name es) k ts h = cc
+no_bracket_first (member e name) k ts h = no_bracket_first e _ ts h
+no_bracket_first (index e i) k ts h = no_bracket_first e _ ts h
+
+lexed_bracket : (cs : List ℕ) (o : Option (List Token)) (e : Tree) → lex between cs ≡ o
+    → lex between (91 ∷ cs) ≡ Some (spelled e []) → ⊥
+lexed_bracket cs None e h l =
+    let none : None ≡ Some (spelled e []) = sym (ap (option_map (λ ts. (open_bracket ∷ []) ++ ts)) h) ∙ l in cc
+lexed_bracket cs (Some ts) e h l =
+    let some : Some (open_bracket ∷ ts) ≡ Some (spelled e []) =
+    sym (ap (option_map (λ ts. (open_bracket ∷ []) ++ ts)) h) ∙ l in
+    let same : spelled e [] ≡ open_bracket ∷ ts = cc in
+    no_bracket_first e [] ts same
+
+unopened : (inner : List ℕ) (e : Tree) → lex between inner ≡ Some (spelled e []) → opens (inner ++ 93 ∷ []) ≡ false
+unopened [] e h = refl
+unopened (c ∷ cs) e h = unless (c == 91) (λ b. let first : c ≡ 91 = eqb-true c 91 b in
+    lexed_bracket cs (lex between cs) e refl (ap (λ d. lex between (d ∷ cs)) (sym first) ∙ h))
+
+pub spelled_means : (t : List ℕ) (e : Tree) → Spells e t → meaning t ≡ an_expression
+spelled_means t e s =
+    let b = bracketed e t s in
+    ap meaning b.is ∙ meaning_inside b.inner (unopened b.inner e b.lexed)

@@ -1,4 +1,4 @@
--- A text whose tokens are those of an expression spells it, whatever stands behind the text.
+-- A text whose tokens are those of an expression spells it, whatever follows the text.
 use Rattle.std.proofs.Common.{◌≡◌, ℕ, List, [], ◌∷◌, ◌++◌, refl, ap, ◌∙◌, append_assoc}
 use Rattle.arm_expr.specs.Tree.{Tree, text, int, call, member, index, Trees, none, more}
 use Rattle.arm_expr.specs.Tokens.{Token, a_text, an_int, a_name, open_paren, close_paren, open_bracket, close_bracket}
@@ -202,7 +202,7 @@ mutual
         writes = y.writes;
       }
 
--- all of a text, before what stands behind it
+-- all of a text, before what follows it
 pub spelt_whole : (e : Tree) (chars back : List ℕ) → Writes (spelled e []) chars
     → (blanks ▹ expression e ▹ blanks) (chars ++ back) back
 spelt_whole e chars back w =

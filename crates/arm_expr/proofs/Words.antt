@@ -34,7 +34,7 @@ IsWord close_bracket word = word ≡ 93 ∷ []
 IsWord comma word = word ≡ 44 ∷ []
 IsWord dot word = word ≡ 46 ∷ []
 
--- one token, behind blanks and before the rest
+-- one token, after blanks and before the rest
 pub record First (t : Token) (rest chars : List ℕ) : Type 0 where
   pub blanks : List ℕ
   pub word : List ℕ
@@ -42,7 +42,7 @@ pub record First (t : Token) (rest chars : List ℕ) : Type 0 where
   pub is_word : IsWord t word
   pub chars_are : chars ≡ blanks ++ (word ++ rest)
 
--- the text is these tokens, with any blanks before, between and behind them
+-- the text is these tokens, with any blanks before, between and after them
 abbrev pub Writes : List Token → List ℕ → Type 0
 Writes [] chars = AreBlank chars
 Writes (t ∷ ts) chars = (rest : List ℕ) × First t rest chars × Writes ts rest

@@ -46,7 +46,7 @@ abbrev pub AreDigits : List ℕ → Type 0
 AreDigits [] = Unit {0}
 AreDigits (c ∷ cs) = (is_digit (kind_of c) ≡ true) × AreDigits cs
 
--- the number that digits write behind those that wrote n
+-- the number that digits write, after digits that wrote n
 abbrev pub value_from : ℕ → List ℕ → ℕ
 value_from n [] = n
 value_from n (d ∷ ds) = value_from (10 * n + (d - 48)) ds
@@ -62,12 +62,12 @@ signed false n = pos n
 signed true zero = pos 0
 signed true (suc n) = negsuc n
 
--- digits, where `true` behind a `-` (45)
+-- digits, where `true` after a `-` (45)
 abbrev pub with_sign : Bool → List ℕ → List ℕ
 with_sign false ds = ds
 with_sign true ds = 45 ∷ ds
 
--- The word writes the number: digits, perhaps behind a `-`, within signed 64 bits.
+-- The word writes the number: digits, perhaps after a `-`, within signed 64 bits.
 pub record IsNumeral (word : List ℕ) (z : ℤ) : Type 0 where
   pub negative : Bool
   pub first : ℕ
@@ -124,11 +124,11 @@ abbrev mutual
   arguments none = blanks
   arguments (more e es) = blanks ▹ expression e ▹ further es
 
-  -- the arguments behind the first
+  -- the arguments after the first
   pub further : Trees → Form
   further none = blanks
   further (more e es) = blanks ▹ mark 44 ▹ blanks ▹ expression e ▹ further es
 
--- The text spells the expression: it stands in brackets, and that is all.
+-- The text spells the expression: the text is a `[`, the expression and a `]`, with blanks inside the brackets.
 abbrev pub Spells : Tree → List ℕ → Type 0
 Spells e t = (mark 91 ▹ blanks ▹ expression e ▹ blanks ▹ mark 93) t []

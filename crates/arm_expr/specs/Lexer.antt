@@ -10,14 +10,14 @@ use Rattle.arm_expr.specs.Grammar.{fits, signed}
 pub data Pending : Type 0 where
   between : Pending
   naming : List ℕ → Pending
-  -- a `-`, behind which a digit is to come
+  -- a `-`, which a digit is to follow
   signing : Pending
   counting : Bool → List ℕ → Pending
   quoting : List ℕ → Pending
   -- a quote, which ends the string or is the first of two
   quoted : List ℕ → Pending
 
--- the tokens that end at a character, and what is pending behind it
+-- the tokens that end at a character, and what is pending after it
 abbrev pub Turn : Type 0
 Turn = Option (List Token × Pending)
 

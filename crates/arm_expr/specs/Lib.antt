@@ -8,3 +8,4 @@ pub mod Lexer
 pub mod Machine
 pub mod Pending
 pub mod Stack
+pub mod Brackets

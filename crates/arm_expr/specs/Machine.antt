@@ -15,7 +15,7 @@ pub record Makes (A B : Type 0) : Type 0 where
   pub of_member : A → List ℕ → A
   pub of_index : A → A → A
 
--- what is open: a call with its arguments so far, or a bracket behind an expression
+-- what is open: a call with its arguments so far, or an expression and `[`
 pub data Frame (A B : Type 0) : Type 0 where
   calling : List ℕ → B → Frame A B
   indexing : A → Frame A B
@@ -23,12 +23,12 @@ pub data Frame (A B : Type 0) : Type 0 where
 pub data State (A : Type 0) : Type 0 where
   -- an expression is to come
   wanted : State A
-  -- a name, behind which `(` is to come
+  -- a name, which `(` is to follow
   named : List ℕ → State A
-  -- a name and `(`, behind which an argument or `)` is to come
+  -- a name and `(`, which an argument or `)` is to follow
   opened : List ℕ → State A
   done : A → State A
-  -- an expression and `.`, behind which a name is to come
+  -- an expression and `.`, which a name is to follow
   dotted : A → State A
 
 module _ (A B : Type 0) (m : Makes A B) where

@@ -1,11 +1,9 @@
--- What the values of the lexer stand for.
-use Rattle.std.specs.Prelude.{List, ◌++◌, Option, Some, None, option_map, Result, Ok, Err, ◌≡◌}
+-- What the values of the lexer mean.
+use Rattle.std.specs.Prelude.{List, ◌++◌, Some, option_map}
 use Rattle.arm_expr.specs.declared.lexer.Kind as kinds
 use Rattle.arm_expr.specs.declared.lexer.Kind.TheVariants as kind
 use Rattle.arm_expr.specs.declared.lexer.Pending as pendings
 use Rattle.arm_expr.specs.declared.lexer.Pending.TheVariants as pending
-use Rattle.arm_expr.specs.declared.stop.Stop.{Stop}
-use Rattle.arm_expr.specs.declared.stop.Stop.TheVariants as stop
 use Rattle.arm_expr.specs.Tokens.{Token}
 use Rattle.arm_expr.specs.Grammar.{Kind, letter, digit, blank, sign}
 use Rattle.arm_expr.specs.Lexer.{Pending, between, naming, signing, counting, quoting, quoted, Turn}
@@ -25,19 +23,9 @@ pending_of (pending.Counting n ds) = counting n ds.items
 pending_of (pending.Quoting s) = quoting (text_of s)
 pending_of (pending.Quoted s) = quoted (text_of s)
 
--- behind the tokens so far
+-- a turn after the tokens so far
 abbrev pub onto : List Token → Turn → Turn
 onto ts o = option_map (λ q. (ts ++ q.0, q.1)) o
 
 abbrev pub next : List Token → Pending → Turn
 next ts p = Some (ts, p)
-
--- why a part is not read: the definition has no answer o either, or memory ran out
-abbrev pub Stops : {A : Type 0} → Stop → Option A → Type 0
-Stops stop.NotAnExpression o = o ≡ None
-Stops stop.OutOfMemory o = Unit {0}
-
--- what is answered is o, unless memory ran out
-abbrev pub Gives : {X A : Type 0} → (X → A) → Result X Stop → Option A → Type 0
-Gives view (Ok x) o = o ≡ Some (view x)
-Gives view (Err e) o = Stops e o

@@ -55,7 +55,7 @@ abbrev mutual
   HaveInts none = Unit {0}
   HaveInts (more e es) = HasInts e × HaveInts es
 
--- the text before, with f of whatever follows behind it
+-- the new text is the old text and then the text that f puts before whatever follows
 abbrev pub Adds : List ℕ → List ℕ → (List ℕ → List ℕ) → Type 0
 Adds before after f = (k : List ℕ) → after ++ k ≡ before ++ f k
 
@@ -73,7 +73,7 @@ abbrev mutual
   size (member e name) = size e + 1 + length name
   size (index e i) = 2 + size e + size i
 
-  -- for arguments and the `)` behind them, with n characters before the first and `, ` before each other
+  -- for arguments and the `)` after them, with n characters before the first and `, ` before each other
   pub arguments_size : ℕ → Trees → ℕ
   arguments_size n none = 1
   arguments_size n (more e es) = n + size e + arguments_size 2 es

@@ -1,4 +1,4 @@
--- The tree that an expression of the code stands for.
+-- The tree that an expression of the code is.
 use Rattle.std.specs.Prelude.{ℕ, List, chars, string_bytes}
 use Rattle.std.specs.declared.string.String.{String}
 use Rattle.std.specs.declared.alloc.Global.{Global}

@@ -2,12 +2,6 @@
 
 use arm_value::Text;
 
-/// The most characters of an expression text, its brackets counted.
-pub const MOST_CHARACTERS: usize = 24_576;
-
-/// The deepest nesting of an expression.
-pub const MOST_NESTING: u32 = 64;
-
 /// An expression of a template, as its text spells it.
 #[derive(Debug, Drop)]
 pub enum Expr {

@@ -3,8 +3,8 @@
 use std::alloc::AllocError;
 use thiserror::Error;
 
-/// Why a text is not read as an expression, or an expression is not written. Where several hold, the
-/// first of them in this order is told.
+/// Why a text is not read as an expression, or an expression is not written. Where several of them
+/// hold, the answer is the first in this order.
 #[derive(Debug, Drop, Error)]
 pub enum ExprFault {
     /// The text has, or would have, more than 24,576 characters.
@@ -16,7 +16,7 @@ pub enum ExprFault {
     /// The expression nests above 64.
     #[error("nested above 64")]
     TooDeep,
-    /// Want of memory.
+    /// Memory was refused.
     #[error("out of memory")]
     OutOfMemory,
 }

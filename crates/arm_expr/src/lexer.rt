@@ -1,15 +1,19 @@
-// The tokens of a text, one character after another.
+// The lexer: from the characters of a text to its tokens.
 
-ghost use Rattle.std.specs.Prelude.{true, false, ◌≡◌, ◌^◌, ◌≤◌, ◌++◌, ◌∷◌, [], map, chars, Some, None, IfOk, OnOk, MatchOption, option_map};
+ghost use Rattle.std.specs.Prelude.{true, false, ◌≡◌, ◌^◌, ◌≤◌, ◌++◌, ◌∷◌, [], map, chars, Some, None, IfOk, OnOk};
+ghost use Rattle.std.specs.Prelude.{List, MatchOption, option_map, option_and_then};
 ghost use Rattle.arm_expr.specs.Grammar.{kind_of, goes_on_name, is_digit, value_from, signed};
-ghost use Rattle.arm_expr.specs.Tokens.{token_of};
-ghost use Rattle.arm_expr.specs.Lexer.{lex, between, start, start_sign, turn, number, ended, after_token};
-ghost use Rattle.arm_expr.specs.Pending.{kind_view, pending_of, onto, next, Gives};
+ghost use Rattle.arm_expr.specs.Tokens.{token_of, Token as TokenView};
+ghost use Rattle.arm_expr.specs.Lexer.{lex, between, naming, signing, counting, quoting, quoted, start, start_sign};
+ghost use Rattle.arm_expr.specs.Lexer.{turn, number, ended, after_token};
+ghost use Rattle.arm_expr.specs.Pending.{kind_view, pending_of, onto, next};
+ghost use Rattle.foundation.specs.Stopping.{Gives};
 ghost use Rattle.arm_expr.specs.View.{text_of};
 
-use crate::stop::Stop;
+use crate::dropping::refuse;
 use crate::token::Token;
 use arm_value::{OutOfMemory, Text};
+use foundation::Stop;
 use std::alloc::Global;
 
 /// What a character can be outside quotes.
@@ -31,10 +35,10 @@ pub enum Pending {
     Naming(String),
     /// A `-`.
     Signing,
-    /// Digits, and whether a `-` stands before them.
+    /// Digits, and whether a `-` is before them.
     Counting(bool, Vec<char>),
     Quoting(String),
-    /// A quote behind a string, which ends it or is the first of two.
+    /// A string and a quote, which ends the string or is the first of two.
     Quoted(String),
 }
 
@@ -157,7 +161,7 @@ fn begin_sign(alloc: Global, tokens: &mut Vec<Token>, c: char) -> Result<Pending
         ']' => marked(tokens, Token::CloseBracket),
         ',' => marked(tokens, Token::Comma),
         '.' => marked(tokens, Token::Dot),
-        _ => Err(Stop::NotAnExpression),
+        _ => Err(Stop::Refused),
     }
 }
 
@@ -189,6 +193,111 @@ fn begin_after(
     begin(alloc, tokens, c)
 }
 
+// The name continues, or the character ends it.
+#[tactic(auto, using(crate::proofs::LexerLemmas::lexer_views))]
+fn go_on_name(
+    alloc: Global,
+    tokens: &mut Vec<Token>,
+    word: String,
+    c: char,
+) -> Result<Pending, Stop>
+    ensures { Gives (λ p. (map token_of tokens.new.items, pending_of p)) result
+        (onto (map token_of tokens.old.items) (turn (naming (text_of word)) c)) }
+{
+    if may_go_on(c) {
+        Ok(Pending::Naming(longer(word, c)?))
+    } else {
+        begin_after(alloc, tokens, Token::Name(Text::from_string(word)), c)
+    }
+}
+
+// The first digit after a `-`.
+#[tactic(auto, using(crate::proofs::LexerLemmas::lexer_views))]
+fn begin_number(alloc: Global, c: char) -> Result<Pending, Stop>
+    ensures { (ts : List TokenView) → Gives (λ p. (ts, pending_of p)) result (onto ts (turn signing c)) }
+{
+    if may_count(c) {
+        Ok(Pending::Counting(true, vec![in alloc; c]?))
+    } else {
+        Err(Stop::Refused)
+    }
+}
+
+fn longer_digits(mut digits: Vec<char>, c: char) -> Result<Vec<char>, OutOfMemory>
+    ensures { IfOk result (λ d. d.items ≡ digits.items ++ c ∷ []) }
+{
+    digits.push(c)?;
+    Ok(digits)
+}
+
+#[tactic(auto, using(crate::proofs::LexerLemmas::lexer_views))]
+fn begin_after_number(
+    alloc: Global,
+    tokens: &mut Vec<Token>,
+    negative: bool,
+    digits: &[char],
+    c: char,
+) -> Result<Pending, Stop>
+    ensures { Gives (λ p. (map token_of tokens.new.items, pending_of p)) result
+        (onto (map token_of tokens.old.items)
+        (option_and_then (λ t. after_token t (start c)) (number negative digits.now))) }
+{
+    match number_of(negative, digits) {
+        None => Err(Stop::Refused),
+        Some(token) => begin_after(alloc, tokens, token, c),
+    }
+}
+
+// The number continues, or the character ends it.
+#[tactic(auto, using(crate::proofs::LexerLemmas::lexer_views))]
+fn go_on_number(
+    alloc: Global,
+    tokens: &mut Vec<Token>,
+    negative: bool,
+    digits: Vec<char>,
+    c: char,
+) -> Result<Pending, Stop>
+    ensures { Gives (λ p. (map token_of tokens.new.items, pending_of p)) result
+        (onto (map token_of tokens.old.items) (turn (counting negative digits.items) c)) }
+{
+    if may_count(c) {
+        Ok(Pending::Counting(negative, longer_digits(digits, c)?))
+    } else {
+        begin_after_number(alloc, tokens, negative, &digits, c)
+    }
+}
+
+// Any character in a string.
+#[tactic(auto, using(crate::proofs::LexerLemmas::lexer_views))]
+fn go_on_text(text: String, c: char) -> Result<Pending, Stop>
+    ensures { (ts : List TokenView)
+        → Gives (λ p. (ts, pending_of p)) result (onto ts (turn (quoting (text_of text)) c)) }
+{
+    if c == '\'' {
+        Ok(Pending::Quoted(text))
+    } else {
+        Ok(Pending::Quoting(longer(text, c)?))
+    }
+}
+
+// A second quote, or what follows a string.
+#[tactic(auto, using(crate::proofs::LexerLemmas::lexer_views))]
+fn go_on_after_quote(
+    alloc: Global,
+    tokens: &mut Vec<Token>,
+    text: String,
+    c: char,
+) -> Result<Pending, Stop>
+    ensures { Gives (λ p. (map token_of tokens.new.items, pending_of p)) result
+        (onto (map token_of tokens.old.items) (turn (quoted (text_of text)) c)) }
+{
+    if c == '\'' {
+        Ok(Pending::Quoting(longer(text, c)?))
+    } else {
+        begin_after(alloc, tokens, Token::Text(Text::from_string(text)), c)
+    }
+}
+
 #[tactic(auto, using(crate::proofs::LexerLemmas::lexer_views))]
 fn go_on(alloc: Global, tokens: &mut Vec<Token>, pending: Pending, c: char) -> Result<Pending, Stop>
     ensures { Gives (λ p. (map token_of tokens.new.items, pending_of p)) result
@@ -196,44 +305,24 @@ fn go_on(alloc: Global, tokens: &mut Vec<Token>, pending: Pending, c: char) -> R
 {
     match pending {
         Pending::Between => begin(alloc, tokens, c),
-        Pending::Naming(word) => {
-            if may_go_on(c) {
-                Ok(Pending::Naming(longer(word, c)?))
-            } else {
-                begin_after(alloc, tokens, Token::Name(Text::from_string(word)), c)
-            }
-        }
-        Pending::Signing => {
-            if may_count(c) {
-                Ok(Pending::Counting(true, vec![in alloc; c]?))
-            } else {
-                Err(Stop::NotAnExpression)
-            }
-        }
-        Pending::Counting(negative, mut digits) => {
-            if may_count(c) {
-                digits.push(c)?;
-                Ok(Pending::Counting(negative, digits))
-            } else {
-                match number_of(negative, &digits) {
-                    None => Err(Stop::NotAnExpression),
-                    Some(token) => begin_after(alloc, tokens, token, c),
-                }
-            }
-        }
-        Pending::Quoting(text) => {
-            if c == '\'' {
-                Ok(Pending::Quoted(text))
-            } else {
-                Ok(Pending::Quoting(longer(text, c)?))
-            }
-        }
-        Pending::Quoted(text) => {
-            if c == '\'' {
-                Ok(Pending::Quoting(longer(text, c)?))
-            } else {
-                begin_after(alloc, tokens, Token::Text(Text::from_string(text)), c)
-            }
+        Pending::Naming(word) => go_on_name(alloc, tokens, word, c),
+        Pending::Signing => begin_number(alloc, c),
+        Pending::Counting(negative, digits) => go_on_number(alloc, tokens, negative, digits, c),
+        Pending::Quoting(text) => go_on_text(text, c),
+        Pending::Quoted(text) => go_on_after_quote(alloc, tokens, text, c),
+    }
+}
+
+#[tactic(auto, using(crate::proofs::LexerLemmas::lexer_views))]
+fn end_number(tokens: &mut Vec<Token>, negative: bool, digits: &[char]) -> Result<(), Stop>
+    ensures { Gives (λ _. map token_of tokens.new.items) result
+        (option_map (λ ts. map token_of tokens.old.items ++ ts) (ended (counting negative digits.now))) }
+{
+    match number_of(negative, digits) {
+        None => Err(Stop::Refused),
+        Some(token) => {
+            put(tokens, token)?;
+            Ok(())
         }
     }
 }
@@ -249,18 +338,12 @@ fn end(tokens: &mut Vec<Token>, pending: Pending) -> Result<(), Stop>
             put(tokens, Token::Name(Text::from_string(word)))?;
             Ok(())
         }
-        Pending::Counting(negative, digits) => match number_of(negative, &digits) {
-            None => Err(Stop::NotAnExpression),
-            Some(token) => {
-                put(tokens, token)?;
-                Ok(())
-            }
-        },
+        Pending::Counting(negative, digits) => end_number(tokens, negative, &digits),
         Pending::Quoted(text) => {
             put(tokens, Token::Text(Text::from_string(text)))?;
             Ok(())
         }
-        _ => Err(Stop::NotAnExpression),
+        other => refuse(other),
     }
 }
 

@@ -3,10 +3,13 @@
 //! A caller may rely on `read` giving an expression exactly where the grammar has one within the
 //! limits, and on `print` writing a text that is read as the same expression. The grammar is
 //! `Spells` of `specs/Grammar`, over the trees of `specs/Tree`; `tree_of` of `specs/View` says which
-//! tree an expression stands for.
+//! tree an expression is. `meaning_of` says which texts of a template are expressions, and which
+//! are plain (`specs/Brackets`).
 #![tactic(auto)]
 
+pub mod brackets;
 mod characters;
+mod dropping;
 pub mod expr;
 pub mod fault;
 pub mod laws;
@@ -16,10 +19,10 @@ mod parser;
 mod printer;
 mod reader;
 mod room;
-mod stop;
 mod token;
 
-pub use expr::{Expr, Exprs, MOST_CHARACTERS, MOST_NESTING};
+pub use brackets::{Meaning, escaped, is_bracketed, meaning_of};
+pub use expr::{Expr, Exprs};
 pub use fault::ExprFault;
 pub use printer::print;
 pub use reader::read;

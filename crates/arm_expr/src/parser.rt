@@ -1,19 +1,25 @@
-// The expression of tokens. What is open stands on a stack, so that no nesting of the text makes
-// the reader recurse; and a tree that would nest above the limit is not built, since dropping a
-// deep tree recurses. Reading goes on behind it, because whether the text spells an expression at
-// all is asked first.
+// The parser: from tokens to an expression. What is open is on a stack, so no nesting of the text
+// makes the parser recurse. A tree that would nest above the limit is not built, because dropping a
+// deep tree recurses. The parser then continues without it, because a text that spells no
+// expression is refused for that reason first.
 
-ghost use Rattle.std.specs.Prelude.{◌≡◌, [], ◌∷◌, ◌++◌, map, Some, None, IfOk, OnOk, MatchOption};
+ghost use Rattle.std.specs.Prelude.{◌≡◌, [], ◌∷◌, ◌++◌, List, map, Some, None, IfOk, OnOk, MatchOption};
 ghost use Rattle.arm_expr.specs.Tokens.{token_of};
-ghost use Rattle.arm_expr.specs.Machine.{as_kept};
-ghost use Rattle.arm_expr.specs.Pending.{Gives};
-ghost use Rattle.arm_expr.specs.Stack.{kept_of, arguments_of, frame_of, frames_of, state_of, kept_closed, kept_separated, kept_indexed, kept_begun, kept_first_begun, kept_gone_on, kept_step, kept_finished, kept_parsed};
+ghost use Rattle.arm_expr.specs.Machine.{as_kept, named, done, dotted};
+ghost use Rattle.arm_expr.specs.Tree.{member, index as index_tree};
+ghost use Rattle.arm_expr.specs.View.{tree_of};
+ghost use Rattle.foundation.specs.Stopping.{Gives};
+ghost use Rattle.arm_expr.specs.Stack.{KeptFrame, kept_of, arguments_of, frame_of, frames_of, state_of, kept_closed};
+ghost use Rattle.arm_expr.specs.Stack.{kept_separated, kept_indexed, kept_begun, kept_first_begun, kept_gone_on};
+ghost use Rattle.arm_expr.specs.Stack.{kept_step, kept_finished, kept_parsed};
 
-use crate::expr::{Expr, Exprs, MOST_NESTING};
+use crate::dropping::{lacks_memory, nothing, refuse, run_out};
+use crate::expr::{Expr, Exprs};
 use crate::nesting::{are_within, is_within};
-use crate::stop::Stop;
 use crate::token::Token;
 use arm_value::{OutOfMemory, Text};
+use foundation::Stop;
+use foundation::limits::MAX_EXPRESSION_NESTING;
 use std::alloc::Global;
 
 /// What is open.
@@ -21,14 +27,14 @@ use std::alloc::Global;
 pub enum Frame {
     /// A call and its arguments so far; none of them are kept where one nests too deep.
     Calling(Text, Option<Exprs>),
-    /// A bracket behind an expression.
+    /// An expression and `[`.
     Indexing(Option<Expr>),
 }
 
 /// What was read last.
 #[derive(Drop)]
 pub enum State {
-    /// Something behind which an expression is to come.
+    /// Nothing yet, `(`, `[` or `,`: an expression is to follow.
     Wanted,
     Named(Text),
     /// The name of a call and `(`.
@@ -56,18 +62,25 @@ fn close(stack: &mut Vec<Frame>) -> Option<Frame>
 }
 
 #[tactic(auto, using(crate::proofs::ViewLemmas::views))]
+fn pushed(mut es: Exprs, e: Expr) -> Result<Option<Exprs>, OutOfMemory>
+    ensures { IfOk result (λ r. arguments_of r
+        ≡ (as_kept 64).with_argument (Some (map tree_of es.items)) (Some (tree_of e))) }
+{
+    match es.push(e) {
+        Ok(()) => Ok(Some(es)),
+        Err(_refused) => lacks_memory(es),
+    }
+}
+
 fn with_argument(arguments: Option<Exprs>, e: Option<Expr>) -> Result<Option<Exprs>, OutOfMemory>
     ensures { IfOk result (λ r. arguments_of r
         ≡ (as_kept 64).with_argument (arguments_of arguments) (kept_of e)) }
 {
     match arguments {
-        None => Ok(None),
-        Some(mut es) => match e {
-            None => Ok(None),
-            Some(e) => {
-                es.push(e)?;
-                Ok(Some(es))
-            }
+        None => Ok(nothing(e)),
+        Some(es) => match e {
+            None => Ok(nothing(es)),
+            Some(e) => pushed(es, e),
         },
     }
 }
@@ -77,34 +90,74 @@ fn call_of(name: Text, arguments: Option<Exprs>) -> Option<Expr>
     ensures { kept_of result ≡ (as_kept 64).of_call name (arguments_of arguments) }
 {
     match arguments {
-        None => None,
+        None => nothing(name),
         Some(es) => {
-            if are_within(&es, MOST_NESTING - 1) {
+            if are_within(&es, MAX_EXPRESSION_NESTING - 1) {
                 Some(Expr::Call(name, es))
             } else {
-                None
+                nothing((name, es))
             }
         }
     }
 }
 
 #[tactic(auto, using(crate::proofs::ViewLemmas::views))]
+fn boxed_member(alloc: Global, e: Expr, name: Text) -> Result<Option<Expr>, OutOfMemory>
+    ensures { IfOk result (λ r. kept_of r ≡ Some (member (tree_of e) name)) }
+{
+    match Box::new(alloc, e) {
+        Ok(e) => Ok(Some(Expr::Member(e, name))),
+        Err(_refused) => lacks_memory(name),
+    }
+}
+
 fn member_of(alloc: Global, e: Option<Expr>, name: Text) -> Result<Option<Expr>, OutOfMemory>
     ensures { IfOk result (λ r. kept_of r ≡ (as_kept 64).of_member (kept_of e) name) }
 {
     match e {
-        None => Ok(None),
+        None => Ok(nothing(name)),
         Some(e) => {
-            if is_within(&e, MOST_NESTING - 1) {
-                Ok(Some(Expr::Member(Box::new(alloc, e)?, name)))
+            if is_within(&e, MAX_EXPRESSION_NESTING - 1) {
+                boxed_member(alloc, e, name)
             } else {
-                Ok(None)
+                Ok(nothing((e, name)))
             }
         }
     }
 }
 
 #[tactic(auto, using(crate::proofs::ViewLemmas::views))]
+fn index_at(alloc: Global, base: Box<Expr>, index: Expr) -> Result<Option<Expr>, OutOfMemory>
+    ensures { IfOk result (λ r. kept_of r ≡ Some (index_tree (tree_of base.value) (tree_of index))) }
+{
+    match Box::new(alloc, index) {
+        Err(_refused) => lacks_memory(base),
+        Ok(index) => Ok(Some(Expr::Index(base, index))),
+    }
+}
+
+fn boxed_index(alloc: Global, base: Expr, index: Expr) -> Result<Option<Expr>, OutOfMemory>
+    ensures { IfOk result (λ r. kept_of r ≡ Some (index_tree (tree_of base) (tree_of index))) }
+{
+    match Box::new(alloc, base) {
+        Err(_refused) => lacks_memory(index),
+        Ok(base) => index_at(alloc, base, index),
+    }
+}
+
+fn kept_index(alloc: Global, base: Expr, index: Expr) -> Result<Option<Expr>, OutOfMemory>
+    ensures { IfOk result (λ r. kept_of r
+        ≡ (as_kept 64).of_index (Some (tree_of base)) (Some (tree_of index))) }
+{
+    if is_within(&base, MAX_EXPRESSION_NESTING - 1)
+        && is_within(&index, MAX_EXPRESSION_NESTING - 1)
+    {
+        boxed_index(alloc, base, index)
+    } else {
+        Ok(nothing((base, index)))
+    }
+}
+
 fn index_of(
     alloc: Global,
     base: Option<Expr>,
@@ -114,19 +167,22 @@ fn index_of(
         ≡ (as_kept 64).of_index (kept_of base) (kept_of index)) }
 {
     match base {
-        None => Ok(None),
+        None => Ok(nothing(index)),
         Some(base) => match index {
-            None => Ok(None),
-            Some(index) => {
-                if is_within(&base, MOST_NESTING - 1) && is_within(&index, MOST_NESTING - 1) {
-                    let base = Box::new(alloc, base)?;
-                    let index = Box::new(alloc, index)?;
-                    Ok(Some(Expr::Index(base, index)))
-                } else {
-                    Ok(None)
-                }
-            }
+            None => Ok(nothing(base)),
+            Some(index) => kept_index(alloc, base, index),
         },
+    }
+}
+
+// A call with one argument more, where the arguments and the argument are kept.
+fn closed_call(name: Text, arguments: Option<Exprs>, e: Option<Expr>) -> Result<State, Stop>
+    ensures { Gives state_of result
+        (Some (done ((as_kept 64).of_call name ((as_kept 64).with_argument (arguments_of arguments) (kept_of e))))) }
+{
+    match with_argument(arguments, e) {
+        Ok(arguments) => Ok(State::Done(call_of(name, arguments))),
+        Err(_refused) => run_out(name),
     }
 }
 
@@ -136,10 +192,8 @@ fn close_call(e: Option<Expr>, stack: &mut Vec<Frame>) -> Result<State, Stop>
         (kept_closed (kept_of e) (frames_of stack.old.items)) }
 {
     match close(stack) {
-        Some(Frame::Calling(name, arguments)) => {
-            Ok(State::Done(call_of(name, with_argument(arguments, e)?)))
-        }
-        _ => Err(Stop::NotAnExpression),
+        Some(Frame::Calling(name, arguments)) => closed_call(name, arguments, e),
+        other => refuse((other, e)),
     }
 }
 
@@ -149,11 +203,14 @@ fn separate(e: Option<Expr>, stack: &mut Vec<Frame>) -> Result<State, Stop>
         (kept_separated (kept_of e) (frames_of stack.old.items)) }
 {
     match close(stack) {
-        Some(Frame::Calling(name, arguments)) => {
-            open(stack, Frame::Calling(name, with_argument(arguments, e)?))?;
-            Ok(State::Wanted)
-        }
-        _ => Err(Stop::NotAnExpression),
+        Some(Frame::Calling(name, arguments)) => match with_argument(arguments, e) {
+            Ok(arguments) => {
+                open(stack, Frame::Calling(name, arguments))?;
+                Ok(State::Wanted)
+            }
+            Err(_refused) => run_out(name),
+        },
+        other => refuse((other, e)),
     }
 }
 
@@ -164,7 +221,7 @@ fn close_index(alloc: Global, e: Option<Expr>, stack: &mut Vec<Frame>) -> Result
 {
     match close(stack) {
         Some(Frame::Indexing(base)) => Ok(State::Done(index_of(alloc, base, e)?)),
-        _ => Err(Stop::NotAnExpression),
+        other => refuse((other, e)),
     }
 }
 
@@ -178,7 +235,7 @@ fn begin(stack: &mut Vec<Frame>, token: Token) -> Result<State, Stop>
         Token::Text(s) => Ok(State::Done(Some(Expr::Text(s)))),
         Token::Int(z) => Ok(State::Done(Some(Expr::Int(z)))),
         Token::Name(name) => Ok(State::Named(name)),
-        _ => Err(Stop::NotAnExpression),
+        other => refuse(other),
     }
 }
 
@@ -196,14 +253,14 @@ fn begin_arguments(
     let none = Some(Vec::new(alloc));
     match token {
         Token::CloseParen => Ok(State::Done(call_of(name, none))),
-        _ => {
-            open(stack, Frame::Calling(name, none))?;
-            begin(stack, token)
-        }
+        token => match open(stack, Frame::Calling(name, none)) {
+            Ok(()) => begin(stack, token),
+            Err(_refused) => run_out(token),
+        },
     }
 }
 
-// An expression goes on or ends.
+// An expression continues or ends.
 #[tactic(auto, using(crate::proofs::ViewLemmas::views))]
 fn go_on(
     alloc: Global,
@@ -223,7 +280,29 @@ fn go_on(
         Token::CloseBracket => close_index(alloc, e, stack),
         Token::CloseParen => close_call(e, stack),
         Token::Comma => separate(e, stack),
-        _ => Err(Stop::NotAnExpression),
+        other => refuse((other, e)),
+    }
+}
+
+// The `(` after the name of a call.
+fn open_call(name: Text, token: Token) -> Result<State, Stop>
+    ensures { (S : List KeptFrame) → Gives (λ s. (state_of s, S)) result
+        (kept_step (named name) S (token_of token)) }
+{
+    match token {
+        Token::OpenParen => Ok(State::Opened(name)),
+        other => refuse((other, name)),
+    }
+}
+
+// The name after an expression and `.`.
+fn name_member(alloc: Global, e: Option<Expr>, token: Token) -> Result<State, Stop>
+    ensures { (S : List KeptFrame) → Gives (λ s. (state_of s, S)) result
+        (kept_step (dotted (kept_of e)) S (token_of token)) }
+{
+    match token {
+        Token::Name(name) => Ok(State::Done(member_of(alloc, e, name)?)),
+        other => refuse((other, e)),
     }
 }
 
@@ -235,16 +314,10 @@ fn turn(alloc: Global, state: State, stack: &mut Vec<Frame>, token: Token) -> Re
 {
     match state {
         State::Wanted => begin(stack, token),
-        State::Named(name) => match token {
-            Token::OpenParen => Ok(State::Opened(name)),
-            _ => Err(Stop::NotAnExpression),
-        },
+        State::Named(name) => open_call(name, token),
         State::Opened(name) => begin_arguments(alloc, name, stack, token),
         State::Done(e) => go_on(alloc, e, stack, token),
-        State::Dotted(e) => match token {
-            Token::Name(name) => Ok(State::Done(member_of(alloc, e, name)?)),
-            _ => Err(Stop::NotAnExpression),
-        },
+        State::Dotted(e) => name_member(alloc, e, token),
     }
 }
 
@@ -255,9 +328,9 @@ fn finish(state: State, stack: &mut Vec<Frame>) -> Result<Option<Expr>, Stop>
     match state {
         State::Done(e) => match close(stack) {
             None => Ok(e),
-            Some(_) => Err(Stop::NotAnExpression),
+            Some(frame) => refuse((frame, e)),
         },
-        _ => Err(Stop::NotAnExpression),
+        other => refuse(other),
     }
 }
 

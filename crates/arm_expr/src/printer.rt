@@ -1,20 +1,23 @@
-// Writes an expression.
+// The printer: the text of an expression.
 
-ghost use Rattle.std.specs.Prelude.{◌≡◌, ◌<◌, ◌≤◌, ◌↔◌, ℕ, List, [], ◌∷◌, ◌++◌, chars, length, map, IfOk, OnOk, IsErrOf, IsTrue, Result};
+ghost use Rattle.std.specs.Prelude.{◌≡◌, ◌<◌, ◌≤◌, ◌↔◌, ℕ, List, [], ◌∷◌, ◌++◌, chars, length, map, IfOk, OnOk};
+ghost use Rattle.std.specs.Prelude.{IsErrOf, IsTrue, Result};
 ghost use Rattle.std.specs.Fmt.{signed_decimal};
 ghost use Rattle.arm_expr.specs.declared.expr.Expr.{Expr};
 ghost use Rattle.arm_expr.specs.declared.fault.ExprFault.{ExprFault};
 ghost use Rattle.arm_expr.specs.Tree.{nesting, trees};
 ghost use Rattle.arm_expr.specs.Grammar.{doubled, Spells};
-ghost use Rattle.arm_expr.specs.Print.{printed, Adds, printed_onto, arguments_onto, HasNames, HasInts, HaveInts, IsWhole};
+ghost use Rattle.arm_expr.specs.Print.{printed, Adds, printed_onto, arguments_onto, HasNames, HasInts, HaveInts};
+ghost use Rattle.arm_expr.specs.Print.{IsWhole};
 ghost use Rattle.arm_expr.specs.Answers.{Reads, IsReadAs};
 ghost use Rattle.arm_expr.specs.View.{tree_of, text_of};
 
-use crate::expr::{Expr, MOST_CHARACTERS, MOST_NESTING};
+use crate::expr::Expr;
 use crate::fault::ExprFault;
 use crate::nesting::is_within;
-use crate::room::behind;
+use crate::room::left_after;
 use arm_value::{OutOfMemory, Text};
+use foundation::limits::{MAX_EXPRESSION_CHARACTERS, MAX_EXPRESSION_NESTING};
 use std::alloc::Global;
 
 fn put(out: &mut String, c: char) -> Result<(), OutOfMemory>
@@ -59,6 +62,38 @@ fn put_doubled(out: &mut String, text: &str) -> Result<(), OutOfMemory>
     Ok(())
 }
 
+// A string between quotes.
+fn put_quoted(out: &mut String, s: &Text) -> Result<(), OutOfMemory>
+    ensures { OnOk result (Adds (text_of out.old) (text_of out.new) (λ k. 39 ∷ (doubled s.now ++ 39 ∷ k))) }
+{
+    put(out, '\'')?;
+    put_doubled(out, s.as_str())?;
+    put(out, '\'')
+}
+
+// The name of a call and `(`.
+fn put_call(out: &mut String, name: &Text) -> Result<(), OutOfMemory>
+    ensures { OnOk result (Adds (text_of out.old) (text_of out.new) (λ k. name.now ++ 40 ∷ k)) }
+{
+    put_text(out, name.as_str())?;
+    put(out, '(')
+}
+
+// `.` and the name of a member.
+fn put_member(out: &mut String, name: &Text) -> Result<(), OutOfMemory>
+    ensures { OnOk result (Adds (text_of out.old) (text_of out.new) (λ k. 46 ∷ (name.now ++ k))) }
+{
+    put(out, '.')?;
+    put_text(out, name.as_str())
+}
+
+fn put_separator(out: &mut String) -> Result<(), OutOfMemory>
+    ensures { OnOk result (Adds (text_of out.old) (text_of out.new) (λ k. 44 ∷ 32 ∷ k)) }
+{
+    put(out, ',')?;
+    put(out, ' ')
+}
+
 #[cycle(printing)]
 #[tactic(auto, using(crate::proofs::PrintLemmas::print_views))]
 fn put_expr(out: &mut String, e: &Expr) -> Result<(), OutOfMemory>
@@ -67,21 +102,15 @@ fn put_expr(out: &mut String, e: &Expr) -> Result<(), OutOfMemory>
     ensures ints { OnOk result (HasInts (tree_of e.now)) }
 {
     match e {
-        Expr::Text(s) => {
-            put(out, '\'')?;
-            put_doubled(out, s.as_str())?;
-            put(out, '\'')
-        }
+        Expr::Text(s) => put_quoted(out, s),
         Expr::Int(z) => put_int(out, *z),
         Expr::Call(name, arguments) => {
-            put_text(out, name.as_str())?;
-            put(out, '(')?;
+            put_call(out, name)?;
             put_arguments(out, arguments)
         }
         Expr::Member(inner, name) => {
             put_expr(out, inner)?;
-            put(out, '.')?;
-            put_text(out, name.as_str())
+            put_member(out, name)
         }
         Expr::Index(base, index) => {
             put_expr(out, base)?;
@@ -92,7 +121,7 @@ fn put_expr(out: &mut String, e: &Expr) -> Result<(), OutOfMemory>
     }
 }
 
-// The arguments of a call and the `)` behind them.
+// The arguments of a call and the `)` after them.
 #[cycle(printing)]
 #[tactic(auto, using(crate::proofs::PrintLemmas::print_views))]
 fn put_arguments(out: &mut String, arguments: &[Expr]) -> Result<(), OutOfMemory>
@@ -103,8 +132,7 @@ fn put_arguments(out: &mut String, arguments: &[Expr]) -> Result<(), OutOfMemory
     let mut first = true;
     for argument in arguments {
         if !first {
-            put(out, ',')?;
-            put(out, ' ')?;
+            put_separator(out)?;
         }
         put_expr(out, argument)?;
         first = false;
@@ -126,9 +154,9 @@ fn text_in_brackets(alloc: Global, e: &Expr) -> Result<Text, OutOfMemory>
 }
 
 fn is_too_long(e: &Expr) -> bool
-    ensures { IsTrue result ↔ (MOST_CHARACTERS < length (printed (tree_of e.now))) }
+    ensures { IsTrue result ↔ (MAX_EXPRESSION_CHARACTERS < length (printed (tree_of e.now))) }
 {
-    match behind(e, MOST_CHARACTERS - 2) {
+    match left_after(e, MAX_EXPRESSION_CHARACTERS - 2) {
         None => true,
         Some(_) => false,
     }
@@ -137,27 +165,31 @@ fn is_too_long(e: &Expr) -> bool
 /// Writes an expression in brackets, with `, ` between arguments, each quote in a string twice, and
 /// no other blank.
 ///
-/// `TooLong` is answered where the text has more than 24,576 characters, then `TooDeep` where the
-/// expression nests above 64. What is written is read as the expression.
+/// `read` of the text is the expression.
+///
+/// # Errors
+///
+/// `TooLong` exactly where the text would have more than 24,576 characters; else `TooDeep` exactly
+/// where the expression nests above 64; else `OutOfMemory`.
 pub fn print(alloc: Global, e: &Expr) -> Result<Text, ExprFault>
     requires { HasNames (tree_of e.now) }
     ensures text { IfOk result (λ t. t ≡ printed (tree_of e.now)) }
     ensures too_long { IsErrOf result ExprFault.TooLong
-        ↔ (MOST_CHARACTERS < length (printed (tree_of e.now))) }
+        ↔ (MAX_EXPRESSION_CHARACTERS < length (printed (tree_of e.now))) }
     ensures too_deep { IsErrOf result ExprFault.TooDeep
-        ↔ ((length (printed (tree_of e.now)) ≤ MOST_CHARACTERS)
-        × (MOST_NESTING < nesting (tree_of e.now))) }
+        ↔ ((length (printed (tree_of e.now)) ≤ MAX_EXPRESSION_CHARACTERS)
+        × (MAX_EXPRESSION_NESTING < nesting (tree_of e.now))) }
     ensures expression { IsErrOf result ExprFault.NotAnExpression → ⊥ }
 
     // The text spells the expression, and any answer of `read` to it is the expression.
     ensures spells { IfOk result (λ t. Spells (tree_of e.now) t) }
     ensures reads_back { IfOk result (λ t. (r : Result Expr ExprFault)
-        → Reads MOST_CHARACTERS MOST_NESTING t r → IsReadAs (tree_of e.now) r) }
+        → Reads MAX_EXPRESSION_CHARACTERS MAX_EXPRESSION_NESTING t r → IsReadAs (tree_of e.now) r) }
 {
     if is_too_long(e) {
         return Err(ExprFault::TooLong);
     }
-    if !is_within(e, MOST_NESTING) {
+    if !is_within(e, MAX_EXPRESSION_NESTING) {
         return Err(ExprFault::TooDeep);
     }
     let text = text_in_brackets(alloc, e)?;

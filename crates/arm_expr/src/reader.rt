@@ -6,18 +6,19 @@ ghost use Rattle.arm_expr.specs.Tree.{Tree, nesting};
 ghost use Rattle.arm_expr.specs.Grammar.{Spells};
 ghost use Rattle.arm_expr.specs.Print.{HasNames};
 ghost use Rattle.arm_expr.specs.View.{tree_of};
-ghost use Rattle.arm_expr.specs.Pending.{Gives};
+ghost use Rattle.foundation.specs.Stopping.{Gives};
 ghost use Rattle.arm_expr.specs.Stack.{kept_of, kept_reading};
 
 use crate::characters::characters;
-use crate::expr::{Expr, MOST_CHARACTERS, MOST_NESTING};
+use crate::expr::Expr;
 use crate::fault::ExprFault;
 use crate::lexer::tokens;
 use crate::parser::parse;
-use crate::stop::Stop;
+use foundation::Stop;
+use foundation::limits::{MAX_EXPRESSION_CHARACTERS, MAX_EXPRESSION_NESTING};
 use std::alloc::Global;
 
-// What stands between the brackets of a text.
+// The text between the brackets of a text.
 fn inside(text: &str) -> Option<&str>
     ensures { MatchOption result
         ((inner : List ℕ) → chars text.now ≢ 91 ∷ (inner ++ 93 ∷ []))
@@ -44,20 +45,24 @@ fn read_inside(alloc: Global, inner: &str) -> Result<Option<Expr>, Stop>
 
 /// Reads an expression text, such as `[concat('a', parameters('b'))]`, its brackets included.
 ///
-/// `TooLong` is answered to a text of more than 24,576 characters, then `NotAnExpression` to one
-/// that spells no expression, then `TooDeep` where the expression nests above 64. It takes time and
-/// memory in proportion to the text, and it builds nothing that nests above 64.
+/// It takes memory in proportion to the text, and it builds nothing that nests above 64.
+///
+/// # Errors
+///
+/// `TooLong` for a text of more than 24,576 characters; else `NotAnExpression` for a text that spells
+/// no expression; else `TooDeep` where the expression nests above 64; `OutOfMemory` only for a text
+/// that is not too long.
 pub fn read(alloc: Global, text: &str) -> Result<Expr, ExprFault>
-    ensures answer { Reads MOST_CHARACTERS MOST_NESTING (chars text.now) result }
+    ensures answer { Reads MAX_EXPRESSION_CHARACTERS MAX_EXPRESSION_NESTING (chars text.now) result }
 
     // What is spelled within the limits is read, unless memory runs out.
     ensures spelled { (e : Tree) → Spells e (chars text.now)
-        → length (chars text.now) ≤ MOST_CHARACTERS → nesting e ≤ MOST_NESTING → IsReadAs e result }
+        → length (chars text.now) ≤ MAX_EXPRESSION_CHARACTERS → nesting e ≤ MAX_EXPRESSION_NESTING → IsReadAs e result }
 
     // What is read may be printed.
     ensures names { IfOk result (λ e. HasNames (tree_of e)) }
 {
-    if characters(text) > MOST_CHARACTERS {
+    if characters(text) > MAX_EXPRESSION_CHARACTERS {
         return Err(ExprFault::TooLong);
     }
     match inside(text) {
@@ -65,7 +70,7 @@ pub fn read(alloc: Global, text: &str) -> Result<Expr, ExprFault>
         Some(inner) => match read_inside(alloc, inner) {
             Ok(Some(e)) => Ok(e),
             Ok(None) => Err(ExprFault::TooDeep),
-            Err(Stop::NotAnExpression) => Err(ExprFault::NotAnExpression),
+            Err(Stop::Refused) => Err(ExprFault::NotAnExpression),
             Err(Stop::OutOfMemory) => Err(ExprFault::OutOfMemory),
         },
     }

@@ -1,5 +1,5 @@
-// How much of a limited room the text of an expression takes. Nothing is written, and counting
-// stops where the room ends.
+// How much of a limited room the text of an expression takes. The functions write nothing, and stop
+// counting where the room ends.
 
 ghost use Rattle.std.specs.Prelude.{◌≡◌, ◌==◌, ◌+◌, ◌<◌, ◌≤◌, chars, length, map, MatchOption, if◌then◌else◌};
 ghost use Rattle.std.specs.Fmt.{decimal, signed_decimal};
@@ -10,6 +10,7 @@ ghost use Rattle.arm_expr.specs.View.{tree_of};
 
 use crate::characters::characters;
 use crate::expr::Expr;
+use arm_value::Text;
 
 fn digits(n: u64) -> usize
     ensures count { result ≡ length (decimal n) }
@@ -28,15 +29,15 @@ fn int_length(z: i64) -> usize
     }
 }
 
-// How many characters stand for one within quotes.
+// How many characters write one character within quotes.
 fn doubled_length(c: char) -> usize
     ensures { result ≡ (if c == 39 then 2 else 1) }
 {
     if c == '\'' { 2 } else { 1 }
 }
 
-// What is left of the room behind the text with its quotes doubled.
-fn behind_doubled(text: &str, room: usize) -> Option<usize>
+// What is left of the room after the text with its quotes doubled; none where it does not fit.
+fn left_after_doubled(text: &str, room: usize) -> Option<usize>
     ensures { MatchOption result (room < length (doubled (chars text.now)))
         (λ left. left + length (doubled (chars text.now)) ≡ room) }
 {
@@ -50,39 +51,44 @@ fn behind_doubled(text: &str, room: usize) -> Option<usize>
     Some(left)
 }
 
-/// What is left of the room behind the text of an expression, and None where it does not fit.
+// What is left of the room after a name and a `.` or `(`; none where they do not fit.
+fn left_after_name(name: &Text, room: usize) -> Option<usize>
+    ensures { MatchOption result (room < length name.now + 1) (λ left. left + (length name.now + 1) ≡ room) }
+{
+    room.checked_sub(characters(name.as_str()))?.checked_sub(1)
+}
+
+/// What is left of the room, in characters, after the text of an expression; none where it does not
+/// fit.
 #[cycle(room)]
 #[tactic(auto, using(crate::proofs::ViewLemmas::views))]
-pub fn behind(e: &Expr, room: usize) -> Option<usize>
+pub fn left_after(e: &Expr, room: usize) -> Option<usize>
     ensures { MatchOption result (room < size (tree_of e.now))
         (λ left. left + size (tree_of e.now) ≡ room) }
 {
     match e {
-        Expr::Text(s) => behind_doubled(s.as_str(), room.checked_sub(2)?),
+        Expr::Text(s) => left_after_doubled(s.as_str(), room.checked_sub(2)?),
         Expr::Int(z) => room.checked_sub(int_length(*z)),
-        Expr::Call(name, arguments) => {
-            let rest = room.checked_sub(characters(name.as_str()))?;
-            behind_arguments(arguments, rest.checked_sub(1)?)
-        }
-        Expr::Member(inner, name) => {
-            let rest = room.checked_sub(characters(name.as_str()))?;
-            behind(inner, rest.checked_sub(1)?)
-        }
-        Expr::Index(base, index) => behind(index, behind(base, room.checked_sub(2)?)?),
+        Expr::Call(name, arguments) => left_after_arguments(
+            arguments,
+            left_after_name(name, room)?,
+        ),
+        Expr::Member(inner, name) => left_after(inner, left_after_name(name, room)?),
+        Expr::Index(base, index) => left_after(index, left_after(base, room.checked_sub(2)?)?),
     }
 }
 
-// The same of the arguments of a call and the `)` behind them.
+// The same of the arguments of a call and the `)` after them.
 #[cycle(room)]
 #[tactic(auto, using(crate::proofs::ViewLemmas::views))]
-fn behind_arguments(arguments: &[Expr], room: usize) -> Option<usize>
+fn left_after_arguments(arguments: &[Expr], room: usize) -> Option<usize>
     ensures { MatchOption result (room < arguments_size 0 (trees (map tree_of arguments.now)))
         (λ left. left + arguments_size 0 (trees (map tree_of arguments.now)) ≡ room) }
 {
     let mut left = room.checked_sub(1)?;
     let mut before = 0;
     for argument in arguments {
-        left = behind(argument, left.checked_sub(before)?)?;
+        left = left_after(argument, left.checked_sub(before)?)?;
         before = 2;
     }
     Some(left)

@@ -14,6 +14,7 @@ use Rattle.arm_value.proofs.SetLemmas.{equal_keys}
 use Rattle.function_numbers.specs.Kinds.{members_of}
 use Rattle.function_lists.specs.Members.{value_at, under, updated, united, united_all, union}
 use Rattle.arm_functions.specs.Laws.{united_values, later_value}
+use Rattle.arm_value.proofs.TreeLemmas.{pairs-members}
 
 -- ---- keys
 
@@ -176,10 +177,6 @@ last_updated k ms (pair l j ns) =
 members-pairs : (ms : List Member) → members (pairs ms) ≡ ms
 members-pairs [] = refl
 members-pairs (m ∷ ms) = ap (λ ns. m ∷ ns) (members-pairs ms)
-
-pairs-members : (ms : Pairs) → pairs (members ms) ≡ ms
-pairs-members no_pairs = refl
-pairs-members (pair k j ms) = ap (pair k j) (pairs-members ms)
 
 union_of_two : (ms ns : Pairs) → union (object ms ∷ object ns ∷ []) ≡ Some (object (pairs (united (members ms) ns)))
 unfolding united_all

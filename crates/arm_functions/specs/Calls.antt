@@ -16,8 +16,12 @@ refusal_by _ count = Some UnknownFunction
 abbrev pub refusal : List ℕ → ℕ → Option FunctionFault
 refusal name count = refusal_by (row_of name) count
 
--- a call is refused so: for want of memory only where it has an answer, and else for that reason
+-- a call of the function of a row fails with this error: `OutOfMemory` only where nothing refuses the call
+abbrev pub IsRefusedBy : Option (ℕ × Option ℕ × Option Plain) → ℕ → FunctionFault → Type 0
+IsRefusedBy row count OutOfMemory = refusal_by row count ≡ None
+IsRefusedBy row count UnknownFunction = refusal_by row count ≡ Some UnknownFunction
+IsRefusedBy row count WrongCount = refusal_by row count ≡ Some WrongCount
+
+-- a call of the function of this name fails with this error
 abbrev pub IsRefused : List ℕ → ℕ → FunctionFault → Type 0
-IsRefused name count OutOfMemory = refusal name count ≡ None
-IsRefused name count UnknownFunction = refusal name count ≡ Some UnknownFunction
-IsRefused name count WrongCount = refusal name count ≡ Some WrongCount
+IsRefused name count e = IsRefusedBy (row_of name) count e

@@ -1,10 +1,11 @@
+// Why a function is not called, or has no answer.
 ghost use Rattle.std.specs.Prelude.{◌≡◌};
 ghost use Rattle.arm_functions.specs.declared.fault.FunctionFault.TheVariants.{OutOfMemory};
 
 use std::alloc::{AllocError, AllocFailed};
 use thiserror::Error;
 
-/// Why a function is not called, or has no answer.
+/// Why a call has no answer.
 #[derive(Clone, Copy, Debug, Error, PartialEq, Eq)]
 pub enum FunctionFault {
     /// There is no such function, or its value does not follow from its arguments alone.

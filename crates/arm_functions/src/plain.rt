@@ -76,7 +76,7 @@ pub enum Printing {
     ReadJson,
 }
 
-/// A function that makes another text of texts, which stands for them.
+/// A function that encodes or decodes a text, or makes an identity of texts.
 #[derive(Clone, Copy, Debug, PartialEq, Eq)]
 pub enum Naming {
     ToBase64,

@@ -1,12 +1,13 @@
-// The values of functions.
+// The values of the plain functions, and calls by name.
 ghost use Rattle.std.specs.Prelude.{◌≡◌, Some, None, chars, map, length, option_map, IfOk, IfErr};
 ghost use Rattle.arm_value.specs.View.{json};
 ghost use Rattle.arm_functions.specs.Calls.{refusal, IsRefused};
-ghost use Rattle.arm_functions.specs.Values.{of_numbers, of_truth, of_texts, of_lists, of_prints, of_names, value_of, admits, function_value};
+ghost use Rattle.arm_functions.specs.Values.{of_numbers, of_truth, of_texts, of_lists, of_prints, of_names, value_of};
+ghost use Rattle.arm_functions.specs.Values.{function_value};
 
 use crate::fault::FunctionFault;
-use crate::names::row_of;
 use crate::plain::{Naming, OnLists, OnNumbers, OnTexts, OnTruth, Plain, Printing};
+use crate::table::Row;
 use arm_value::{OutOfMemory, Value};
 use std::alloc::Global;
 
@@ -121,8 +122,13 @@ fn of_names(alloc: Global, function: Naming, args: &[Value]) -> Result<Option<Va
     }
 }
 
+/// The value that the function gives of these arguments; none where it has no value of them.
 #[tactic(auto, unfolding(crate::specs::Values::value_of))]
-fn value_of(alloc: Global, function: Plain, args: &[Value]) -> Result<Option<Value>, OutOfMemory>
+pub(crate) fn value_of(
+    alloc: Global,
+    function: Plain,
+    args: &[Value],
+) -> Result<Option<Value>, OutOfMemory>
     ensures { IfOk result (λ value. option_map json value ≡ value_of function (map json args.now)) }
 {
     match function {
@@ -132,17 +138,6 @@ fn value_of(alloc: Global, function: Plain, args: &[Value]) -> Result<Option<Val
         Plain::Lists(function) => of_lists(alloc, function, args),
         Plain::Prints(function) => of_prints(alloc, function, args),
         Plain::Names(function) => of_names(alloc, function, args),
-    }
-}
-
-// Whether so many arguments are neither too few nor too many.
-fn admits(least: u32, most: Option<u32>, count: usize) -> bool
-    ensures { result ≡ admits least most count }
-{
-    let is_enough = least as usize <= count;
-    match most {
-        Some(most) => is_enough && count <= most as usize,
-        None => is_enough,
     }
 }
 
@@ -159,12 +154,8 @@ pub fn call(alloc: Global, name: &str, args: &[Value]) -> Result<Option<Value>, 
         ≡ function_value (chars name.now) (map json args.now)) }
     ensures fault { IfErr result (IsRefused (chars name.now) (length args.now)) }
 {
-    let Some((least, most, Some(function))) = row_of(name) else {
-        return Err(FunctionFault::UnknownFunction);
-    };
-    if admits(least, most, args.len()) {
-        Ok(value_of(alloc, function, args)?)
-    } else {
-        Err(FunctionFault::WrongCount)
+    match Row::of(name) {
+        Some(row) => row.call(alloc, args),
+        None => Err(FunctionFault::UnknownFunction),
     }
 }

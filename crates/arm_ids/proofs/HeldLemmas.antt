@@ -13,8 +13,9 @@ use Rattle.std.proofs.lemmas.Map.Keys.{Less-from_sorted}
 use Rattle.std.proofs.lemmas.Map.Lookups.{exact_bytes}
 use Rattle.std.proofs.lemmas.Str.{encodes_same}
 use Rattle.std.proofs.lemmas.Slice.Eq.{bytes_eq-Decides}
-use Rattle.arm_ids.specs.Held.{HeldResource, held_by, find, id_cmp, IsInOrder, put, without, AllBelow, AllAbove}
-use Rattle.arm_ids.specs.Held.{IsPlaceOf}
+use Rattle.arm_ids.specs.Id.{HasKey}
+use Rattle.arm_ids.specs.Held.{HeldResource, held_by, find, id_cmp, IsInOrder, HaveKeys, put, without, AllBelow}
+use Rattle.arm_ids.specs.Held.{AllAbove, IsPlaceOf}
 
 -- ---- the order of ids
 
@@ -61,7 +62,7 @@ above_apart a b e = apart a b Greater e (λ h. cc)
 pub same_id : (a b : List ℕ) → a ≡ b → bytes_eq a b ≡ true
 same_id a b e = (bytes_eq-Decides a b).1 e
 
--- ---- past what stands before an id, and among what stands behind it
+-- ---- past what is before an id, and among what is after it
 
 if_no : {A : Type 0} (b : Bool) (x y : A) → b ≡ false → cond b x y ≡ y
 if_no false x y e = refl
@@ -162,6 +163,29 @@ IsInOrder-without id (r ∷ rs) h = without_by (bytes_eq id (held_by r)) id r rs
 pub IsInOrder-nil : IsInOrder []
 unfolding IsStrictlySortedBy
 IsInOrder-nil = tt
+
+-- ---- each id stays the id of a key
+
+have_keys_by : (o : Ordering) (r s : HeldResource) (ss : List HeldResource) → HasKey r.id → HaveKeys (s ∷ ss)
+    → HaveKeys (put r ss) → HaveKeys (match_ordering o (r ∷ s ∷ ss) (r ∷ ss) (s ∷ put r ss))
+have_keys_by Less r s ss key h g = (key, h)
+have_keys_by Equal r s ss key h g = (key, h.1)
+have_keys_by Greater r s ss key h g = (h.0, g)
+
+pub HaveKeys-put : (r : HeldResource) (rs : List HeldResource) → HasKey r.id → HaveKeys rs → HaveKeys (put r rs)
+HaveKeys-put r [] key h = (key, tt)
+HaveKeys-put r (s ∷ ss) key h =
+    have_keys_by (id_cmp (held_by r) (held_by s)) r s ss key h (HaveKeys-put r ss key h.1)
+
+keys_without_by : (b : Bool) (r : HeldResource) (rs rest : List HeldResource) → HaveKeys (r ∷ rs) → HaveKeys rest
+    → HaveKeys (cond b rs (r ∷ rest))
+keys_without_by true r rs rest h g = h.1
+keys_without_by false r rs rest h g = (h.0, g)
+
+pub HaveKeys-without : (id : List ℕ) (rs : List HeldResource) → HaveKeys rs → HaveKeys (without id rs)
+HaveKeys-without id [] h = tt
+HaveKeys-without id (r ∷ rs) h =
+    keys_without_by (bytes_eq id (held_by r)) r rs (without id rs) h (HaveKeys-without id rs h.1)
 
 -- ---- what is found after a change
 

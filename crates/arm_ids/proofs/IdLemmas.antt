@@ -1,22 +1,25 @@
 -- Ids as texts and as parts.
-use Rattle.std.proofs.Common.{◌≡◌, ◌<◌, ℕ, length, Bool, true, false, List, [], ◌∷◌, ◌++◌, chars, IsUtf8, refl, sym}
-use Rattle.std.proofs.Common.{ap, ◌∙◌, arith, append_assoc, append-nil, suc, eqb, ◌&&◌, not, codes, Some, None}
+use Rattle.std.proofs.Common.{◌≡◌, ◌<◌, ◌≤◌, ◌-◌, ℕ, length, get_or, take, drop, Bool, true, false, List, [], ◌∷◌}
+use Rattle.std.proofs.Common.{◌++◌, chars, IsUtf8, refl, sym}
+use Rattle.std.proofs.Common.{ap, ◌∙◌, arith, append_assoc, append-nil, suc, ◌&&◌, not, codes, Some, None}
 use Rattle.std.proofs.Common.{true≢false, eq-eqb, cond, subst, ◌⊎◌, inl, inr, lt-ltb, Result, Ok, Err, IfOk}
 use lib.Utf8.{encode}
 use Rattle.std.proofs.lemmas.Str.{chars-append, chars-encodes, chars-nil}
 use Rattle.std.specs.List.{list_any}
-use Rattle.arm_ids.specs.Id.{path, text_of, has_empty_segment, is_whole, IsResourceId, IsPlain, reading, reading_of}
+use Rattle.arm_ids.specs.Id.{path, start_of, text_of, has_empty_segment, is_whole, IsResourceId, IsPlain, reading}
+use Rattle.arm_ids.specs.Id.{reading_of}
 use Rattle.arm_ids.specs.Id.{are_words, if_whole}
 use Rattle.arm_ids.specs.declared.id.ResourceId.{ResourceId}
 use Rattle.arm_ids.proofs.TextLemmas.{some_segment}
-use Rattle.arm_ids.proofs.SegmentLemmas.{segments_cut, segments-slashed, nor, none_in_front, none_behind}
+use Rattle.arm_ids.proofs.SegmentLemmas.{segments_cut, segments-slashed, nor, none_in_front, none_after}
 use Rattle.arm_ids.proofs.SegmentLemmas.{none_in_turns, none_in_firsts, none_in_seconds, firsts-by_turns}
 use Rattle.arm_ids.proofs.SegmentLemmas.{seconds-by_turns}
 use Rattle.std.proofs.lemmas.Bool.{eqb-true}
+use Rattle.std.proofs.lemmas.List.{take_all}
 use Rattle.std.proofs.lemmas.Bool.Decides.{nat_tests}
-use Rattle.arm_ids.specs.Segments.{segments, slashed, joined, has_slash, firsts, seconds, by_turns}
+use Rattle.arm_ids.specs.Segments.{segments, slashed, joined, is_empty, has_slash, firsts, seconds, by_turns}
 
--- a slash and a segment behind a text
+-- a slash and a segment after a text
 pub pushed : (a b c segment : List ℕ) → IsUtf8 a → IsUtf8 b → b ≡ a ++ encode 47 → c ≡ b ++ segment
     → chars c ≡ chars a ++ 47 ∷ chars segment
 pushed a b c segment u v e f =
@@ -30,35 +33,30 @@ some_name name = let some = some_segment name in omega (arith, ap length some.2)
 
 -- what holds of an id that is made from a type and a name
 pub made : (i : ResourceId) (kind name : List ℕ) → i.types ≡ segments kind → i.names ≡ segments name
-    → has_empty_segment i ≡ false → eqb (length i.types) (suc (length i.names)) ≡ true → IsResourceId i
+    → has_empty_segment i ≡ false → length i.types ≡ suc (length i.names) → IsResourceId i
 made i kind name types names filled paired = record {
   filled = filled;
-  paired = eqb-true _ _ paired;
+  paired = paired;
   named = omega (arith, some_name name, ap length names);
   types_cut = ap (list_any has_slash) types ∙ segments_cut kind;
   names_cut = ap (list_any has_slash) names ∙ segments_cut name;
 }
 
--- a text that has a word behind a slash, before what follows
-then_word : (t u w rest : List ℕ) → u ≡ t ++ 47 ∷ w → u ++ rest ≡ t ++ 47 ∷ (w ++ rest)
-then_word t u w rest e = ap (λ x. x ++ rest) e ∙ append_assoc t (47 ∷ w) rest
+-- segments of two lists as one text
+slashed-append : (xs ys : List (List ℕ)) → slashed (xs ++ ys) ≡ slashed xs ++ slashed ys
+slashed-append [] ys = refl
+slashed-append (x ∷ xs) ys =
+    ap (λ r. 47 ∷ r) (ap (λ r. x ++ r) (slashed-append xs ys) ∙ sym (append_assoc x (slashed xs) (slashed ys)))
 
 -- the text of an id, as it is written
-pub written : (i : ResourceId) (t₀ t₁ t₂ t₃ t₄ t₅ t₆ a s b g c : List ℕ) → t₀ ≡ [] → t₁ ≡ t₀ ++ 47 ∷ a
-    → t₂ ≡ t₁ ++ 47 ∷ s → t₃ ≡ t₂ ++ 47 ∷ b → t₄ ≡ t₃ ++ 47 ∷ g → t₅ ≡ t₄ ++ 47 ∷ c
-    → t₆ ≡ t₅ ++ slashed (path i.types i.names) → a ≡ codes "subscriptions" → s ≡ i.subscription
-    → b ≡ codes "resourceGroups" → g ≡ i.group → c ≡ codes "providers" → t₆ ≡ text_of i
+pub written : (i : ResourceId) (start t : List ℕ) → start ≡ slashed (start_of i)
+    → t ≡ start ++ slashed (path i.types i.names) → t ≡ text_of i
 unfolding text_of
-written i t₀ t₁ t₂ t₃ t₄ t₅ t₆ a s b g c start e₁ e₂ e₃ e₄ e₅ e₆ subscriptions subscription groups group providers =
-    let path_text = slashed (path i.types i.names) in
-    e₆ ∙ then_word t₄ t₅ c path_text e₅ ∙ then_word t₃ t₄ g _ e₄ ∙ then_word t₂ t₃ b _ e₃ ∙ then_word t₁ t₂ s _ e₂
-    ∙ then_word t₀ t₁ a _ e₁
-    ∙ ap (λ t. t ++ 47 ∷ (a ++ 47 ∷ (s ++ 47 ∷ (b ++ 47 ∷ (g ++ 47 ∷ (c ++ path_text)))))) start
-    ∙ (λ j. 47
-    ∷ (subscriptions j ++ 47
-    ∷ (subscription j ++ 47 ∷ (groups j ++ 47 ∷ (group j ++ 47 ∷ (providers j ++ path_text))))))
+written i start t e f =
+    let parts = path i.types i.names in
+    f ∙ ap (λ s. s ++ slashed parts) e ∙ sym (slashed-append (start_of i) parts)
 
--- nothing stands by turns with nothing
+-- two lists by turns are empty where one of them is
 pub by_turns-done : (xs ys : List (List ℕ)) → (xs ≡ []) ⊎ (ys ≡ []) → by_turns xs ys ≡ []
 by_turns-done [] ys h = refl
 by_turns-done (x ∷ xs) [] h = refl
@@ -86,7 +84,7 @@ pub read_back : (a b c s g : List ℕ) (ts ns : List (List ℕ)) → are_words a
 read_back a b c s g [] ns words no_a no_b no_c h plain = absurd (omega (arith, h.paired))
 read_back a b c s g (provider ∷ ts) ns words no_a no_b no_c h plain =
     let same : length ts ≡ length ns = omega (arith, h.paired) in
-    let turns = none_in_turns has_slash ts ns (none_behind has_slash provider ts h.types_cut) h.names_cut in
+    let turns = none_in_turns has_slash ts ns (none_after has_slash provider ts h.types_cut) h.names_cut in
     let i : ResourceId = record { subscription = s; group = g; types = provider ∷ ts; names = ns } in
     let all = a ∷ s ∷ b ∷ g ∷ c ∷ provider ∷ by_turns ts ns in
     let cut : list_any has_slash all ≡ false =
@@ -112,6 +110,41 @@ unfolding text_of
 reading-text_of i h plain =
     read_back (codes "subscriptions") (codes "resourceGroups") (codes "providers") i.subscription i.group i.types
     i.names refl refl refl refl h plain
+
+nil_from_empty : (s : List ℕ) → is_empty s ≡ true → s ≡ []
+nil_from_empty [] e = refl
+nil_from_empty (c ∷ cs) e = absurd (true≢false (sym e))
+
+-- seven segments or more with the fixed words are read as the id of the others, where it is whole
+pub reading_by_parts : (xs path : List (List ℕ)) (root a s b g c provider : List ℕ) → 7 ≤ length xs
+    → path ≡ take (length xs - 7) (drop 7 xs) → root ≡ get_or xs 0 root → a ≡ get_or xs 1 a → s ≡ get_or xs 2 s
+    → b ≡ get_or xs 3 b → g ≡ get_or xs 4 g → c ≡ get_or xs 5 c → provider ≡ get_or xs 6 provider
+    → is_empty root ≡ true → are_words a b c ≡ true → reading_of xs ≡ if_whole true (record {
+      subscription = s;
+      group = g;
+      types = provider ∷ firsts path;
+      names = seconds path;
+    })
+reading_by_parts [] _ _ _ _ _ _ _ _ l _ _ _ _ _ _ _ _ _ _ = absurd (omega (arith, l))
+reading_by_parts (x₀ ∷ []) _ _ _ _ _ _ _ _ l _ _ _ _ _ _ _ _ _ _ = absurd (omega (arith, l))
+reading_by_parts (x₀ ∷ x₁ ∷ []) _ _ _ _ _ _ _ _ l _ _ _ _ _ _ _ _ _ _ = absurd (omega (arith, l))
+reading_by_parts (x₀ ∷ x₁ ∷ x₂ ∷ []) _ _ _ _ _ _ _ _ l _ _ _ _ _ _ _ _ _ _ = absurd (omega (arith, l))
+reading_by_parts (x₀ ∷ x₁ ∷ x₂ ∷ x₃ ∷ []) _ _ _ _ _ _ _ _ l _ _ _ _ _ _ _ _ _ _ = absurd (omega (arith, l))
+reading_by_parts (x₀ ∷ x₁ ∷ x₂ ∷ x₃ ∷ x₄ ∷ []) _ _ _ _ _ _ _ _ l _ _ _ _ _ _ _ _ _ _ = absurd (omega (arith, l))
+reading_by_parts (x₀ ∷ x₁ ∷ x₂ ∷ x₃ ∷ x₄ ∷ x₅ ∷ []) _ _ _ _ _ _ _ _ l _ _ _ _ _ _ _ _ _ _ = absurd (omega (arith, l))
+reading_by_parts (x₀ ∷ x₁ ∷ x₂ ∷ x₃ ∷ x₄ ∷ x₅ ∷ x₆ ∷ rest) path root a s b g c provider l e e₀ e₁ e₂ e₃ e₄ e₅ e₆
+    blank words =
+    let start : x₀ ≡ [] = sym e₀ ∙ nil_from_empty root blank in
+    let whole_rest : path ≡ rest =
+    e ∙ take_all (length (x₀ ∷ x₁ ∷ x₂ ∷ x₃ ∷ x₄ ∷ x₅ ∷ x₆ ∷ rest) - 7) rest (omega arith) in
+    (λ j. reading_of (start j ∷ sym e₁ j ∷ sym e₂ j ∷ sym e₃ j ∷ sym e₄ j ∷ sym e₅ j ∷ sym e₆ j
+    ∷ sym whole_rest j))
+    ∙ ap (λ w. if_whole w (record {
+      subscription = s;
+      group = g;
+      types = provider ∷ firsts path;
+      names = seconds path;
+    })) words
 
 -- what a list of segments has that is read as an id
 pub record Reads (xs : List (List ℕ)) (i : ResourceId) : Type 0 where
@@ -156,15 +189,15 @@ and_parts false true c e = (refl, refl, e)
 and_parts false false c e = absurd (true≢false (sym e))
 and_parts true b c e = absurd (true≢false (sym e))
 
-behind : (x₁ x₂ x₃ x₄ x₅ x₆ : List ℕ) (xs : List (List ℕ))
+after_six : (x₁ x₂ x₃ x₄ x₅ x₆ : List ℕ) (xs : List (List ℕ))
     → list_any has_slash (x₁ ∷ x₂ ∷ x₃ ∷ x₄ ∷ x₅ ∷ x₆ ∷ xs) ≡ false → list_any has_slash xs ≡ false
-behind x₁ x₂ x₃ x₄ x₅ x₆ xs n =
-    none_behind has_slash x₆ xs
-    (none_behind has_slash x₅ (x₆ ∷ xs)
-    (none_behind has_slash x₄ (x₅ ∷ x₆ ∷ xs)
-    (none_behind has_slash x₃ (x₄ ∷ x₅ ∷ x₆ ∷ xs)
-    (none_behind has_slash x₂ (x₃ ∷ x₄ ∷ x₅ ∷ x₆ ∷ xs)
-    (none_behind has_slash x₁ (x₂ ∷ x₃ ∷ x₄ ∷ x₅ ∷ x₆ ∷ xs) n)))))
+after_six x₁ x₂ x₃ x₄ x₅ x₆ xs n =
+    none_after has_slash x₆ xs
+    (none_after has_slash x₅ (x₆ ∷ xs)
+    (none_after has_slash x₄ (x₅ ∷ x₆ ∷ xs)
+    (none_after has_slash x₃ (x₄ ∷ x₅ ∷ x₆ ∷ xs)
+    (none_after has_slash x₂ (x₃ ∷ x₄ ∷ x₅ ∷ x₆ ∷ xs)
+    (none_after has_slash x₁ (x₂ ∷ x₃ ∷ x₄ ∷ x₅ ∷ x₆ ∷ xs) n)))))
 
 -- what is read is an id
 pub id_from_reading : (t : List ℕ) (i : ResourceId) → reading t ≡ Some i → IsResourceId i
@@ -173,16 +206,16 @@ id_from_reading t i e =
     let parts = and_parts (has_empty_segment i) _ _ h.whole in
     let cut : list_any has_slash (h.provider ∷ h.rest) ≡ false = let P : List (List ℕ)
     → Type 0 = λ xs. list_any has_slash xs ≡ false in
-    behind [] h.a i.subscription h.b i.group h.c (h.provider ∷ h.rest) (subst P h.shape (segments_cut t)) in
+    after_six [] h.a i.subscription h.b i.group h.c (h.provider ∷ h.rest) (subst P h.shape (segments_cut t)) in
     record {
       filled = parts.0;
       paired = eqb-true _ _ parts.1;
       named = grind (arith, nat_tests, parts.2);
       types_cut = ap (list_any has_slash) h.types
           ∙ nor (has_slash h.provider) _ (none_in_front has_slash h.provider h.rest cut)
-          (none_in_firsts has_slash h.rest (none_behind has_slash h.provider h.rest cut));
+          (none_in_firsts has_slash h.rest (none_after has_slash h.provider h.rest cut));
       names_cut = ap (list_any has_slash) h.names
-          ∙ none_in_seconds has_slash h.rest (none_behind has_slash h.provider h.rest cut);
+          ∙ none_in_seconds has_slash h.rest (none_after has_slash h.provider h.rest cut);
     }
 
 -- no segments are joined to the empty text

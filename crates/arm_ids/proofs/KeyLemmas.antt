@@ -14,7 +14,7 @@ use Rattle.arm_ids.specs.declared.id.ResourceId.{ResourceId}
 use Rattle.arm_ids.proofs.SegmentLemmas.{segments_cut, segments-fold, slashed-segments, fold-fold, fold-slashed}
 use Rattle.arm_ids.proofs.SegmentLemmas.{all_folded_twice, has_slash-fold, any_slash-fold, any_empty-fold}
 use Rattle.arm_ids.proofs.SegmentLemmas.{map-by_turns, by_turns-apart, fold-firsts, fold-seconds, none_in_front}
-use Rattle.arm_ids.proofs.SegmentLemmas.{none_behind}
+use Rattle.arm_ids.proofs.SegmentLemmas.{none_after}
 use Rattle.arm_ids.proofs.IdLemmas.{read_back, Reads, reads, id_from_reading}
 
 fold-path : (ts ns : List (List ℕ)) → map fold (path ts ns) ≡ path (map fold ts) (map fold ns)
@@ -91,11 +91,11 @@ reads_as_key t k h =
 words_are : (a b c : List ℕ) → are_words a b c ≡ true → (fold a ≡ codes "subscriptions")
     × (fold b ≡ codes "resourcegroups") × (fold c ≡ codes "providers")
 words_are a b c e =
-    let h = three (is_same_folded a (codes "subscriptions")) (is_same_folded b (codes "resourceGroups"))
-    (is_same_folded c (codes "providers")) e in (
-      (bytes_eq-Decides (fold a) (codes "subscriptions")).0 h.0,
-      (bytes_eq-Decides (fold b) (codes "resourcegroups")).0 h.1,
-      (bytes_eq-Decides (fold c) (codes "providers")).0 h.2,
+    let h = three (is_same_folded (codes "subscriptions") a) (is_same_folded (codes "resourceGroups") b)
+    (is_same_folded (codes "providers") c) e in (
+      sym ((bytes_eq-Decides (codes "subscriptions") (fold a)).0 h.0),
+      sym ((bytes_eq-Decides (codes "resourcegroups") (fold b)).0 h.1),
+      sym ((bytes_eq-Decides (codes "providers") (fold c)).0 h.2),
     )
   where
     three : (x y z : Bool) → (x && (y && z)) ≡ true → (x ≡ true) × (y ≡ true) × (z ≡ true)
@@ -147,11 +147,11 @@ plain_by t i h =
     let P : List (List ℕ) → Type 0 = λ xs. list_any has_slash xs ≡ false in
     let cut : list_any has_slash ([] ∷ h.a ∷ i.subscription ∷ h.b ∷ i.group ∷ h.c ∷ h.provider ∷ h.rest) ≡ false =
     subst P h.shape (segments_cut (fold t)) in
-    let from_subscription = none_behind has_slash h.a (i.subscription ∷ h.b ∷ i.group ∷ h.c ∷ h.provider ∷ h.rest) cut
+    let from_subscription = none_after has_slash h.a (i.subscription ∷ h.b ∷ i.group ∷ h.c ∷ h.provider ∷ h.rest) cut
     in
     let from_group =
-    none_behind has_slash h.b (i.group ∷ h.c ∷ h.provider ∷ h.rest)
-    (none_behind has_slash i.subscription (h.b ∷ i.group ∷ h.c ∷ h.provider ∷ h.rest) from_subscription) in
+    none_after has_slash h.b (i.group ∷ h.c ∷ h.provider ∷ h.rest)
+    (none_after has_slash i.subscription (h.b ∷ i.group ∷ h.c ∷ h.provider ∷ h.rest) from_subscription) in
     record {
       subscription = none_in_front has_slash i.subscription (h.b ∷ i.group ∷ h.c ∷ h.provider ∷ h.rest)
           from_subscription;

@@ -5,5 +5,6 @@ pub mod IdLemmas
 pub mod KeyLemmas
 pub mod FrontLemmas
 pub mod ScopeLemmas
+pub mod ScopeIdLemmas
 pub mod HeldLemmas
 pub mod RowLemmas

@@ -28,14 +28,14 @@ nor true b e f = e
 pub none_in_front : {A : Type 0} (p : A → Bool) (x : A) (xs : List A) → list_any p (x ∷ xs) ≡ false → p x ≡ false
 none_in_front p x xs e = or_left (p x) (list_any p xs) e
 
-pub none_behind : {A : Type 0} (p : A → Bool) (x : A) (xs : List A) → list_any p (x ∷ xs) ≡ false
+pub none_after : {A : Type 0} (p : A → Bool) (x : A) (xs : List A) → list_any p (x ∷ xs) ≡ false
     → list_any p xs ≡ false
-none_behind p x xs e = or_right (p x) (list_any p xs) e
+none_after p x xs e = or_right (p x) (list_any p xs) e
 
 not_at : (s : List ℕ) → has_slash s ≡ false → (k : ℕ) → k < length s → get_or s k 0 ≡ 47 → ⊥
 not_at [] e k l h = omega arith
 not_at (c ∷ cs) e zero l h = true≢false (sym (ap is_slash h) ∙ none_in_front is_slash c cs e)
-not_at (c ∷ cs) e (suc k) l h = not_at cs (none_behind is_slash c cs e) k (omega arith) h
+not_at (c ∷ cs) e (suc k) l h = not_at cs (none_after is_slash c cs e) k (omega arith) h
 
 -- segments that are joined come apart again
 pub segments-slashed : (ss : List (List ℕ)) → list_any has_slash ss ≡ false → segments (slashed ss) ≡ [] ∷ ss
@@ -43,14 +43,14 @@ segments-slashed [] e = refl
 segments-slashed (s ∷ ss) e =
     slice_split-cons_yes is_slash 47 (s ++ slashed ss) refl
     ∙ ap (λ r. [] ∷ r) (onto_segments s (slashed ss) [] ss (not_at s (none_in_front has_slash s ss e))
-    (segments-slashed ss (none_behind has_slash s ss e)) ∙ ap (λ t. t ∷ ss) (append-nil s))
+    (segments-slashed ss (none_after has_slash s ss e)) ∙ ap (λ t. t ∷ ss) (append-nil s))
 
 onto_cut : (x : ℕ) (ps : List (List ℕ)) → is_slash x ≡ false → list_any has_slash ps ≡ false
     → list_any has_slash (onto_first x ps) ≡ false
 onto_cut x [] e h = nor (has_slash (x ∷ [])) false (nor (is_slash x) false e refl) refl
 onto_cut x (p ∷ ps) e h =
     nor (has_slash (x ∷ p)) (list_any has_slash ps)
-    (nor (is_slash x) (has_slash p) e (none_in_front has_slash p ps h)) (none_behind has_slash p ps h)
+    (nor (is_slash x) (has_slash p) e (none_in_front has_slash p ps h)) (none_after has_slash p ps h)
 
 cut_at : (x : ℕ) (xs : List ℕ) (b : Bool) → is_slash x ≡ b → list_any has_slash (segments xs) ≡ false
     → list_any has_slash (segments (x ∷ xs)) ≡ false
@@ -135,7 +135,7 @@ any_empty-fold (s ∷ ss) = ap₂ (λ a b. a || b) (is_empty-fold s) (any_empty-
 less : (a b : ℕ) → suc a ≡ suc b → a ≡ b
 less a b e = omega arith
 
--- what stands by turns is taken apart and put together
+-- a list is taken apart by turns and put together
 pub by_turns-apart : (ps : List (List ℕ)) → length (firsts ps) ≡ length (seconds ps)
     → by_turns (firsts ps) (seconds ps) ≡ ps
 by_turns-apart [] e = refl
@@ -161,7 +161,7 @@ none_in_turns p [] ys e f = refl
 none_in_turns p (x ∷ xs) [] e f = refl
 none_in_turns p (x ∷ xs) (y ∷ ys) e f =
     nor (p x) _ (none_in_front p x xs e)
-    (nor (p y) _ (none_in_front p y ys f) (none_in_turns p xs ys (none_behind p x xs e) (none_behind p y ys f)))
+    (nor (p y) _ (none_in_front p y ys f) (none_in_turns p xs ys (none_after p x xs e) (none_after p y ys f)))
 
 pub map-by_turns : (xs ys : List (List ℕ)) → map fold (by_turns xs ys) ≡ by_turns (map fold xs) (map fold ys)
 map-by_turns [] ys = refl
@@ -172,15 +172,15 @@ pub none_in_firsts : (p : List ℕ → Bool) (xs : List (List ℕ)) → list_any
 none_in_firsts p [] e = refl
 none_in_firsts p (x ∷ []) e = e
 none_in_firsts p (x ∷ y ∷ xs) e =
-    let rest = none_behind p x (y ∷ xs) e in
-    nor (p x) _ (none_in_front p x (y ∷ xs) e) (none_in_firsts p xs (none_behind p y xs rest))
+    let rest = none_after p x (y ∷ xs) e in
+    nor (p x) _ (none_in_front p x (y ∷ xs) e) (none_in_firsts p xs (none_after p y xs rest))
 
 pub none_in_seconds : (p : List ℕ → Bool) (xs : List (List ℕ)) → list_any p xs ≡ false → list_any p (seconds xs) ≡ false
 none_in_seconds p [] e = refl
 none_in_seconds p (x ∷ []) e = refl
 none_in_seconds p (x ∷ y ∷ xs) e =
-    let rest = none_behind p x (y ∷ xs) e in
-    nor (p y) _ (none_in_front p y xs rest) (none_in_seconds p xs (none_behind p y xs rest))
+    let rest = none_after p x (y ∷ xs) e in
+    nor (p y) _ (none_in_front p y xs rest) (none_in_seconds p xs (none_after p y xs rest))
 
 pub fold-firsts : (xs : List (List ℕ)) → map fold (firsts xs) ≡ firsts (map fold xs)
 fold-firsts [] = refl

@@ -1,4 +1,4 @@
--- What an entry of the code stands for.
+-- The resource that an entry of the code is.
 use Rattle.arm_value.specs.View.{json}
 use Rattle.arm_ids.specs.Held.{HeldResource}
 use Rattle.arm_ids.specs.declared.entry.Entry.{Entry}

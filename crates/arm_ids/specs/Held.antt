@@ -11,6 +11,9 @@ use Rattle.std.specs.Coded.{Coded, code_by, coded×, coded_ℕ, coded_list}
 use Rattle.arm_value.specs.Json.{Json}
 use Rattle.arm_value.specs.JsonCode.{json_code}
 use Rattle.arm_value.specs.Look.{fold}
+use Rattle.arm_ids.specs.Id.{HasKey}
+use Rattle.arm_ids.specs.declared.fault.PutFault.{PutFault}
+use Rattle.arm_ids.specs.declared.fault.PutFault.TheVariants.{NotAnId, OutOfMemory}
 
 -- a resource as a store holds it
 pub record HeldResource : Type 0 where
@@ -45,6 +48,15 @@ id_cmp a b = slice_cmp nat_cmp (encode_utf8_all a) (encode_utf8_all b)
 abbrev pub IsInOrder : List HeldResource → Type 0
 IsInOrder rs = IsStrictlySortedBy id_cmp (map held_by rs)
 
+-- the id of each is the id of a key
+abbrev pub HaveKeys : List HeldResource → Type 0
+HaveKeys rs = AllByRecursion (λ r. HasKey r.id) rs
+
+-- the fault of a resource of this id that was to be put
+abbrev pub RefusesPut : List ℕ → PutFault → Type 0
+RefusesPut id NotAnId = HasKey id → ⊥
+RefusesPut id OutOfMemory = Unit {0}
+
 -- the resources with r in the place of its id
 abbrev pub put : HeldResource → List HeldResource → List HeldResource
 put r [] = r ∷ []
@@ -63,7 +75,7 @@ AllBelow id ids = AllByRecursion (λ other. id_cmp other id ≡ Less) ids
 abbrev pub AllAbove : List ℕ → List (List ℕ) → Type 0
 AllAbove id ids = AllByRecursion (λ other. id_cmp id other ≡ Less) ids
 
--- where the id stands among ids in order, or where it would stand
+-- the place of the id among ids in order, or the place where it belongs
 abbrev pub IsPlaceOf : List ℕ → List (List ℕ) → Result ℕ ℕ → Type 0
 IsPlaceOf id ids (Ok i) = (i < length ids) × (slice_index_or ids i id ≡ id)
 IsPlaceOf id ids (Err i) = (i ≤ length ids) × AllBelow id (take i ids) × AllAbove id (drop i ids)

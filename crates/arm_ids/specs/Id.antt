@@ -29,15 +29,19 @@ folded i =
           map fold i.names;
     }
 
--- what stands behind `providers`: the provider's name, then a type and a name by turns
+-- the segments after `providers`: the provider's name, then a type and a name by turns
 abbrev pub path : List (List ℕ) → List (List ℕ) → List (List ℕ)
 path [] names = []
 path (provider ∷ types) names = provider ∷ by_turns types names
 
+-- the segments of the id's text up to the provider's name
+abbrev pub start_of : ResourceId → List (List ℕ)
+start_of i =
+    codes "subscriptions" ∷ i.subscription ∷ codes "resourceGroups" ∷ i.group ∷ codes "providers" ∷ []
+
 -- the segments of the id's text
 abbrev pub id_segments : ResourceId → List (List ℕ)
-id_segments i =
-    codes "subscriptions" ∷ i.subscription ∷ codes "resourceGroups" ∷ i.group ∷ codes "providers" ∷ path i.types i.names
+id_segments i = start_of i ++ path i.types i.names
 
 -- `/subscriptions/s/resourceGroups/g/providers/N/t1/n1/..`
 unfoldable pub text_of : ResourceId → List ℕ
@@ -80,8 +84,8 @@ pub record IsPlain (i : ResourceId) : Type 0 where
 -- whether these are the fixed words of an id, in letters of any case
 abbrev pub are_words : List ℕ → List ℕ → List ℕ → Bool
 are_words a b c =
-    is_same_folded a (codes "subscriptions")
-    && (is_same_folded b (codes "resourceGroups") && is_same_folded c (codes "providers"))
+    is_same_folded (codes "subscriptions") a
+    && (is_same_folded (codes "resourceGroups") b && is_same_folded (codes "providers") c)
 
 -- the id, where it is whole
 abbrev pub if_whole : Bool → ResourceId → Option ResourceId
@@ -94,7 +98,7 @@ reading_of ([] ∷ a ∷ subscription ∷ b ∷ group ∷ c ∷ provider ∷ res
     (record { subscription = subscription; group = group; types = provider ∷ firsts rest; names = seconds rest })
 reading_of _ = None
 
--- the id that a text is, with its letters as they stand there
+-- the id that a text is, with its letters as the text has them
 abbrev pub reading : List ℕ → Option ResourceId
 reading text = reading_of (segments text)
 
@@ -103,6 +107,10 @@ pub record IsIdOf (text : List ℕ) (key : ResourceId) : Type 0 where
   pub is_key : IsKey key
   pub is_plain : IsPlain key
   pub spelled : fold text ≡ folded_text key
+
+-- the text is the id of a key
+abbrev pub HasKey : List ℕ → Type 0
+HasKey text = (key : ResourceId) × IsIdOf text key
 
 -- the fault of these parts, which exclude one another
 abbrev pub Refuses : ResourceId → IdFault → Type 0

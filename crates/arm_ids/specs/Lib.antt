@@ -2,6 +2,8 @@ pub mod Segments
 pub mod Id
 pub mod Parent
 pub mod Scope
+pub mod ScopeId
+pub mod Members
 pub mod Held
 pub mod Entry
 pub mod Row

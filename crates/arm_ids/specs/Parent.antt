@@ -1,4 +1,4 @@
--- Which key stands below which.
+-- Which key is below which.
 use Rattle.std.specs.Prelude.{◌≡◌, ℕ, ◌&&◌, Bool, List, [], ◌∷◌, ◌++◌, bytes_eq}
 use Rattle.arm_ids.specs.Segments.{is_front}
 use Rattle.arm_ids.specs.declared.id.ResourceId.{ResourceId}

@@ -1,6 +1,6 @@
--- The rows behind what is held.
+-- The rows that keep what is held.
 use Rattle.std.specs.Prelude.{◌≡◌, List, ℕ, map}
-use Rattle.arm_ids.specs.Held.{HeldResource, IsInOrder, held_by}
+use Rattle.arm_ids.specs.Held.{HeldResource, IsInOrder, HaveKeys, held_by}
 use Rattle.arm_ids.specs.Entry.{as_held}
 use Rattle.arm_ids.specs.declared.row.Row.{Row}
 
@@ -16,7 +16,8 @@ order_of row = row.order
 abbrev pub AreOrdered : List Row → Type 0
 AreOrdered rows = map order_of rows ≡ map held_by (map row_held rows)
 
--- what holds of the rows behind every value
+-- what holds of the rows of every value
 pub record AreRows (rows : List Row) : Type 0 where
   pub ordered : AreOrdered rows
   pub in_order : IsInOrder (map row_held rows)
+  pub named : HaveKeys (map row_held rows)

@@ -1,4 +1,4 @@
--- The segments of a text: what stands between its slashes.
+-- The segments of a text: the parts between its slashes.
 use Rattle.std.specs.Prelude.{ℕ, ◌==◌, ◌&&◌, bytes_eq, Bool, true, false, List, [], ◌∷◌, ◌++◌}
 use Rattle.std.specs.List.{slice_split, list_any}
 

@@ -1,10 +1,16 @@
-ghost use Rattle.std.specs.Prelude.{◌≡◌, ◌==◌, ◌∷◌, ◌++◌, suc, ◌↔◌, length, chars, Some, string_bytes, IsTrue, IfOk, IfErr, OnOk};
-ghost use Rattle.arm_ids.specs.Segments.{slashed, joined, by_turns};
-ghost use Rattle.arm_ids.specs.Id.{path, are_words, reading_of, resource_at, folded, text_of, IsPlain, IsIdOf, Refuses};
+// Resource ids: their parts, their texts, and how both are made of each other.
+ghost use Rattle.std.specs.Prelude.{◌≡◌, ◌==◌, ◌∷◌, ◌++◌, suc, ◌↔◌, length, chars, Some, string_bytes};
+ghost use Rattle.std.specs.Prelude.{true, false, IsTrue, IfOk, IfErr, IfSome, IfNone, OnOk};
+ghost use Rattle.arm_ids.specs.Segments.{slashed, joined, by_turns, firsts, seconds};
+ghost use Rattle.arm_ids.specs.Id.{path, are_words, reading_of, resource_at, folded, text_of, if_whole};
+ghost use Rattle.arm_ids.specs.Id.{folded_text, start_of};
+ghost use Rattle.arm_value.specs.Look.{fold};
+ghost use Rattle.arm_ids.specs.Id.{IsPlain, IsIdOf, Refuses};
 
 use crate::fault::IdFault;
-use crate::segments::{
-    all_folded, by_turns, folded, has_empty, is_blank, is_front, is_word, same_texts, segments,
+use crate::segment::{
+    all_folded, copy_pair, folded, has_empty_segment, is_blank, is_front, names_of, push_segment,
+    same_texts, segments, slashed, types_of,
 };
 use arm_value::{OutOfMemory, Text, Texts, copy_texts};
 use std::alloc::Global;
@@ -12,15 +18,36 @@ use std::alloc::Global;
 /// Where a deployment is made. The names are as they were given, in letters of any case.
 #[derive(Debug, Drop)]
 pub struct Place {
+    /// The subscription's id.
     pub subscription: Text,
+    /// The name of the resource group.
     pub group: Text,
+    /// The location of the group, as `westeurope`.
     pub location: Text,
+    /// The name of the deployment.
     pub deployment: Text,
+}
+
+impl Place {
+    /// An equal place.
+    pub fn copy(&self, alloc: Global) -> Result<Place, OutOfMemory>
+        ensures { IfOk result (λ place. place ≡ self.now) }
+    {
+        let (subscription, group) = copy_pair(alloc, &self.subscription, &self.group)?;
+        let (location, deployment) = copy_pair(alloc, &self.location, &self.deployment)?;
+        Ok(Place {
+            subscription,
+            group,
+            location,
+            deployment,
+        })
+    }
 }
 
 /// The parts of a resource id, with their letters as they were spelled.
 ///
-/// `types` begins with the provider's name (the namespace, as `Microsoft.Storage`) and has one segment more than `names`.
+/// `types` begins with the provider's name (the namespace, as `Microsoft.Storage`) and has one
+/// segment more than `names`.
 #[derive(Debug, Drop)]
 pub struct ResourceId {
     pub subscription: Text,
@@ -30,7 +57,8 @@ pub struct ResourceId {
 }
 
 impl ResourceId {
-    ghost use Rattle.arm_ids.specs.Id.{resource_at, folded, text_of, has_empty_segment, is_whole, IsResourceId, IsPlain, reading, Refuses, IsNoId};
+    ghost use Rattle.arm_ids.specs.Id.{resource_at, folded, text_of, has_empty_segment, is_whole, IsResourceId};
+    ghost use Rattle.arm_ids.specs.Id.{IsPlain, reading, Refuses, IsNoId};
     ghost use Rattle.arm_ids.specs.Parent.{begins};
 
     /// The id of a resource in the subscription and group of a place, by its full type and its full name.
@@ -44,22 +72,15 @@ impl ResourceId {
         ensures is_id { IfOk result IsResourceId }
         ensures fault { IfErr result (Refuses (resource_at place.now kind.now name.now)) }
     {
-        let id = ResourceId {
-            subscription: place.subscription.copy(alloc)?,
-            group: place.group.copy(alloc)?,
-            types: segments(alloc, kind)?,
-            names: segments(alloc, name)?,
-        };
-        if id.has_empty_segment() {
-            return Err(IdFault::EmptySegment);
+        let id = resource_at(alloc, place, kind, name)?;
+        match id.fault() {
+            Some(fault) => Err(fault),
+            None => Ok(id),
         }
-        if !id.is_paired() {
-            return Err(IdFault::SegmentsDiffer);
-        }
-        Ok(id)
     }
 
-    /// The id that a text is, with its letters as they stand there. The fixed words may have letters of any case.
+    /// The id that a text is, with its letters as the text has them. The fixed words may have
+    /// letters of any case.
     ///
     /// # Errors
     ///
@@ -82,14 +103,25 @@ impl ResourceId {
         ensures reads_back { IfOk result (λ t. IsResourceId self.now → IsPlain self.now
             → reading t ≡ Some self.now) }
     {
-        let mut text = String::new(alloc);
-        push_segment(&mut text, "subscriptions")?;
-        push_segment(&mut text, self.subscription.as_str())?;
-        push_segment(&mut text, "resourceGroups")?;
-        push_segment(&mut text, self.group.as_str())?;
-        push_segment(&mut text, "providers")?;
+        let mut text = self.start(alloc)?;
         push_path(&mut text, &self.types, &self.names)?;
         Ok(Text::from_string(text))
+    }
+
+    // The text up to the provider's name.
+    fn start(&self, alloc: Global) -> Result<String, OutOfMemory>
+        ensures { IfOk result (λ s. chars (string_bytes s) ≡ slashed (start_of self.now)) }
+    {
+        slashed(
+            alloc,
+            &[
+                "subscriptions",
+                self.subscription.as_str(),
+                "resourceGroups",
+                self.group.as_str(),
+                "providers",
+            ],
+        )
     }
 
     /// The full type, as `Microsoft.Storage/storageAccounts`.
@@ -110,24 +142,26 @@ impl ResourceId {
     pub(crate) fn folded(&self, alloc: Global) -> Result<ResourceId, OutOfMemory>
         ensures { IfOk result (λ i. i ≡ folded self.now) }
     {
-        Ok(ResourceId {
-            subscription: folded(alloc, self.subscription.as_str())?,
-            group: folded(alloc, self.group.as_str())?,
-            types: all_folded(alloc, &self.types)?,
-            names: all_folded(alloc, &self.names)?,
-        })
+        let types = all_folded(alloc, &self.types)?;
+        let names = all_folded(alloc, &self.names)?;
+        folded_in(alloc, &self.subscription, &self.group, types, names)
     }
 
-    /// The same id again, with its letters as they were spelled.
+    // The text of the id in small ASCII letters.
+    pub(crate) fn folded_text(&self, alloc: Global) -> Result<Text, OutOfMemory>
+        ensures { IfOk result (λ t. t ≡ folded_text self.now) }
+    {
+        let text = self.text(alloc)?;
+        folded(alloc, text.as_str())
+    }
+
+    /// An equal id, with its letters as they were spelled.
     pub fn copy(&self, alloc: Global) -> Result<ResourceId, OutOfMemory>
         ensures { IfOk result (λ i. i ≡ self.now) }
     {
-        Ok(ResourceId {
-            subscription: self.subscription.copy(alloc)?,
-            group: self.group.copy(alloc)?,
-            types: copy_texts(alloc, &self.types)?,
-            names: copy_texts(alloc, &self.names)?,
-        })
+        let types = copy_texts(alloc, &self.types)?;
+        let names = copy_texts(alloc, &self.names)?;
+        id_in(alloc, &self.subscription, &self.group, types, names)
     }
 
     // Whether both have the same parts, with the same letters.
@@ -150,13 +184,28 @@ impl ResourceId {
             && is_front(&self.names, &other.names)
     }
 
+    // Why the parts are no id.
+    fn fault(&self) -> Option<IdFault>
+        ensures some { IfSome result (λ fault. Refuses self.now fault) }
+        ensures none { IfNone result ((has_empty_segment self.now ≡ false)
+            × (length self.now.types ≡ suc (length self.now.names))) }
+    {
+        if self.has_empty_segment() {
+            return Some(IdFault::EmptySegment);
+        }
+        if !self.is_paired() {
+            return Some(IdFault::SegmentsDiffer);
+        }
+        None
+    }
+
     fn has_empty_segment(&self) -> bool
         ensures { result ≡ has_empty_segment self.now }
     {
         is_blank(&self.subscription)
             || is_blank(&self.group)
-            || has_empty(&self.types)
-            || has_empty(&self.names)
+            || has_empty_segment(self.types.as_slice())
+            || has_empty_segment(self.names.as_slice())
     }
 
     // Whether there is one type segment more than names.
@@ -190,6 +239,69 @@ pub fn id_text(alloc: Global, place: &Place, kind: &str, name: &str) -> Result<T
     Ok(id.text(alloc)?)
 }
 
+// The parts of the id of a type and a name in a place, whether or not they fit.
+fn resource_at(
+    alloc: Global,
+    place: &Place,
+    kind: &str,
+    name: &str,
+) -> Result<ResourceId, OutOfMemory>
+    ensures { IfOk result (λ i. i ≡ resource_at place.now kind.now name.now) }
+{
+    let types = segments(alloc, kind)?;
+    let names = segments(alloc, name)?;
+    id_in(alloc, &place.subscription, &place.group, types, names)
+}
+
+// The id of these types and names in a group of a subscription.
+fn id_in(
+    alloc: Global,
+    subscription: &Text,
+    group: &Text,
+    types: Texts,
+    names: Texts,
+) -> Result<ResourceId, OutOfMemory>
+    ensures { IfOk result (λ i. i ≡ record {
+      subscription = subscription.now;
+      group = group.now;
+      types = types;
+      names = names;
+    }) }
+{
+    let (subscription, group) = copy_pair(alloc, subscription, group)?;
+    Ok(ResourceId {
+        subscription,
+        group,
+        types,
+        names,
+    })
+}
+
+// The id of these folded types and names in a group of a subscription, which are folded here.
+fn folded_in(
+    alloc: Global,
+    subscription: &Text,
+    group: &Text,
+    types: Texts,
+    names: Texts,
+) -> Result<ResourceId, OutOfMemory>
+    ensures { IfOk result (λ i. i ≡ record {
+      subscription = fold subscription.now;
+      group = fold group.now;
+      types = types;
+      names = names;
+    }) }
+{
+    let subscription = folded(alloc, subscription.as_str())?;
+    let group = folded(alloc, group.as_str())?;
+    Ok(ResourceId {
+        subscription,
+        group,
+        types,
+        names,
+    })
+}
+
 // The id whose text has these segments, where there is one.
 fn spelled(alloc: Global, segments: &[Text]) -> Result<Option<ResourceId>, OutOfMemory>
     ensures { IfOk result (λ i. i ≡ reading_of segments.now) }
@@ -210,40 +322,49 @@ fn spelled(alloc: Global, segments: &[Text]) -> Result<Option<ResourceId>, OutOf
     if !is_blank(root) || !are_words(subscriptions, groups, providers) {
         return Ok(None);
     }
-    let (types, names) = by_turns(alloc, provider, path)?;
-    let id = ResourceId {
-        subscription: subscription.copy(alloc)?,
-        group: group.copy(alloc)?,
-        types,
-        names,
-    };
-    if !id.is_whole() {
-        return Ok(None);
-    }
-    Ok(Some(id))
+    let id = read_parts(alloc, subscription, group, provider, path)?;
+    Ok(id)
+}
+
+// The id of these segments, where it is whole.
+fn read_parts(
+    alloc: Global,
+    subscription: &Text,
+    group: &Text,
+    provider: &Text,
+    path: &[Text],
+) -> Result<Option<ResourceId>, OutOfMemory>
+    ensures { IfOk result (λ i. i ≡ if_whole true (record {
+      subscription = subscription.now;
+      group = group.now;
+      types = provider.now ∷ firsts path.now;
+      names = seconds path.now;
+    })) }
+{
+    let types = types_of(alloc, provider, path)?;
+    let names = names_of(alloc, path)?;
+    let id = id_in(alloc, subscription, group, types, names)?;
+    Ok(if_whole(id))
+}
+
+// The id, where it is whole.
+fn if_whole(id: ResourceId) -> Option<ResourceId>
+    ensures { result ≡ if_whole true id }
+{
+    if id.is_whole() { Some(id) } else { None }
 }
 
 // Whether these are the fixed words of an id.
 fn are_words(subscriptions: &Text, groups: &Text, providers: &Text) -> bool
     ensures { result ≡ are_words subscriptions.now groups.now providers.now }
 {
-    if !is_word(subscriptions, "subscriptions") {
+    if !subscriptions.equals_ignore_case("subscriptions") {
         return false;
     }
-    if !is_word(groups, "resourceGroups") {
+    if !groups.equals_ignore_case("resourceGroups") {
         return false;
     }
-    is_word(providers, "providers")
-}
-
-// Adds a slash and the segment.
-fn push_segment(text: &mut String, segment: &str) -> Result<(), OutOfMemory>
-    ensures { OnOk result (chars (string_bytes text.new)
-        ≡ chars (string_bytes text.old) ++ 47 ∷ chars segment.now) }
-{
-    text.push('/')?;
-    text.push_str(segment)?;
-    Ok(())
+    providers.equals_ignore_case("providers")
 }
 
 // The segments as one text, with a slash between each two.
@@ -258,7 +379,7 @@ fn joined(alloc: Global, segments: &Texts) -> Result<Text, OutOfMemory>
     Ok(Text::from_string(text))
 }
 
-// Adds each segment behind a slash.
+// Adds a slash and the segment, for each of these.
 fn push_segments(text: &mut String, segments: &[Text]) -> Result<(), OutOfMemory>
     ensures { OnOk result (chars (string_bytes text.new)
         ≡ chars (string_bytes text.old) ++ slashed segments.now) }

@@ -1,8 +1,9 @@
+// Keys: what resource ids name, whatever the case of their letters.
 ghost use Rattle.std.specs.Prelude.{◌≡◌, ◌↔◌, chars, IsTrue, IfOk, IfErr};
 
 use crate::fault::IdFault;
 use crate::id::{Place, ResourceId};
-use crate::segments::{folded, is_front, same_texts};
+use crate::segment::{folded, is_front, same_texts};
 use arm_value::{OutOfMemory, Text};
 use std::alloc::Global;
 use std::marker::Model;
@@ -31,7 +32,8 @@ impl Model for Key {
 
 impl Key {
     ghost use Rattle.arm_ids.specs.declared.id.ResourceId.{ResourceId};
-    ghost use Rattle.arm_ids.specs.Id.{resource_at, folded, folded_text, IsResourceId, IsKey, IsPlain, IsIdOf, IsNoKey, Refuses};
+    ghost use Rattle.arm_ids.specs.Id.{resource_at, folded, folded_text, IsResourceId, IsKey, IsPlain};
+    ghost use Rattle.arm_ids.specs.Id.{IsIdOf, IsNoKey, Refuses};
     ghost use Rattle.arm_ids.specs.Parent.{IsParent};
 
     /// The key of a resource in the subscription and group of a place, by its full type and its full name.
@@ -80,6 +82,13 @@ impl Key {
         &self.id
     }
 
+    // The id that the key keeps, of which the key is made no more use.
+    pub(crate) fn into_id(self) -> Text
+        ensures { result ≡ folded_text self }
+    {
+        self.id
+    }
+
     /// The key's parts.
     pub fn parts(&self) -> &ResourceId
         ensures parts { result.now ≡ self.now }
@@ -88,7 +97,7 @@ impl Key {
         &self.parts
     }
 
-    /// The same key again.
+    /// An equal key.
     pub fn copy(&self, alloc: Global) -> Result<Key, OutOfMemory>
         ensures { IfOk result (λ k. k ≡ self.now) }
     {
@@ -121,10 +130,10 @@ impl ResourceId {
         requires { IsResourceId self.now }
         ensures { IfOk result (λ k. k ≡ folded self.now) }
     {
-        let text = self.text(alloc)?;
+        let id = self.folded_text(alloc)?;
         Ok(Key {
             parts: self.folded(alloc)?,
-            id: folded(alloc, text.as_str())?,
+            id,
         })
     }
 }

@@ -1,13 +1,16 @@
-// Entries in the order of their folded ids.
-ghost use Rattle.std.specs.Prelude.{◌≡◌, map, IfOk, option_map, if◌then◌else◌, is_ok};
+// Rows: entries in the order of their folded ids.
+ghost use Rattle.std.specs.Prelude.{◌≡◌, ◌∷◌, ◌++◌, ◌<◌, ◌≤◌, [], map, length, slice_set, IfOk, OnOk};
+ghost use Rattle.std.specs.Prelude.{option_map, if◌then◌else◌, is_ok};
+ghost use Rattle.std.specs.List.{insert};
 ghost use Rattle.std.specs.List.Sorted.{IsStrictlySortedBy};
+ghost use Rattle.arm_ids.specs.Id.{HasKey};
 ghost use Rattle.arm_ids.specs.Held.{id_cmp, held_by, find, put, without, IsPlaceOf};
 ghost use Rattle.arm_ids.specs.Entry.{as_held};
 ghost use Rattle.arm_ids.specs.Row.{order_of, row_held, AreRows};
 
 use crate::entry::Entry;
 use arm_value::{OutOfMemory, Text};
-use std::alloc::Global;
+use std::alloc::{AllocError, Global};
 use std::cmp::Ordering;
 
 /// An entry beside its id in small ASCII letters, by which rows are in order.
@@ -28,6 +31,14 @@ impl Row {
     }
 }
 
+/// Adds a copy of the row.
+pub(crate) fn push_copy(alloc: Global, rows: &mut Vec<Row>, row: &Row) -> Result<(), OutOfMemory>
+    ensures { OnOk result (rows.new.items ≡ rows.old.items ++ row.now ∷ []) }
+{
+    rows.push(row.copy(alloc)?)?;
+    Ok(())
+}
+
 /// The entry of an id.
 pub(crate) fn find_row<'a>(rows: &'a [Row], id: &Text) -> Option<&'a Entry>
     requires { AreRows rows.now }
@@ -43,23 +54,39 @@ pub(crate) fn find_row<'a>(rows: &'a [Row], id: &Text) -> Option<&'a Entry>
 pub(crate) fn put_row(rows: &mut Vec<Row>, row: Row) -> Result<(), OutOfMemory>
     requires rows { AreRows rows.old.items }
     requires order { row.order ≡ held_by (row_held row) }
+    requires named { HasKey row.entry.id }
     ensures rows { AreRows rows.new.items }
     ensures held { map row_held rows.new.items
         ≡ (if is_ok result then put (row_held row) (map row_held rows.old.items) else map row_held rows.old.items) }
 {
     match place(rows.as_slice(), &row.order) {
         Ok(i) => {
-            rows[i] = row;
+            replace_row(rows, i, row);
             Ok(())
         }
-        Err(i) => {
-            rows.insert(i, row)?;
-            Ok(())
-        }
+        Err(i) => insert_row(rows, i, row),
     }
 }
 
-/// Takes the row of an id away.
+fn replace_row(rows: &mut Vec<Row>, i: usize, row: Row)
+    requires { i < length rows.old.items }
+    ensures { rows.new.items ≡ slice_set rows.old.items i row }
+{
+    rows[i] = row;
+}
+
+fn insert_row(rows: &mut Vec<Row>, i: usize, row: Row) -> Result<(), OutOfMemory>
+    requires { i ≤ length rows.old.items }
+    ensures { rows.new.items
+        ≡ (if is_ok result then insert rows.old.items i row else rows.old.items) }
+{
+    match rows.insert(i, row) {
+        Ok(()) => Ok(()),
+        Err(_) => Err(AllocError),
+    }
+}
+
+/// Removes the row of an id and returns its entry.
 pub(crate) fn take_row(rows: &mut Vec<Row>, id: &Text) -> Option<Entry>
     requires { AreRows rows.old.items }
     ensures rows { AreRows rows.new.items }
@@ -75,7 +102,7 @@ pub(crate) fn take_row(rows: &mut Vec<Row>, id: &Text) -> Option<Entry>
     }
 }
 
-// Where the id stands among the rows, or where it would stand.
+// The place of the id among the rows, or the place where it belongs.
 fn place(rows: &[Row], id: &Text) -> Result<usize, usize>
     requires { IsStrictlySortedBy id_cmp (map order_of rows.now) }
     ensures { IsPlaceOf id.now (map order_of rows.now) result }

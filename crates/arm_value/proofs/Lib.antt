@@ -4,6 +4,7 @@ pub mod ReadLemmas
 pub mod WriteLemmas
 pub mod TextLemmas
 pub mod SameLemmas
+pub mod TreeLemmas
 pub mod SetLemmas
 pub mod PointerLemmas
 pub mod GatherLemmas

@@ -11,6 +11,7 @@ use Rattle.arm_value.specs.Same.{is_same, is_same_row, is_same_pairs}
 use Rattle.arm_value.specs.declared.value.Value.{Value}
 use Rattle.arm_value.specs.declared.value.Field.{Field}
 use Rattle.foundation.proofs.TruthValues.{both, and_false}
+use Rattle.arm_value.proofs.TreeLemmas.{members-pairs}
 
 rows_differ : (js ks : List Json) → (length js ≡ length ks → ⊥) → is_same_row (row js) (row ks) ≡ false
 rows_differ [] [] h = absurd (h refl)
@@ -68,10 +69,6 @@ mutual
 items-row : (js : List Json) → items (row js) ≡ js
 items-row [] = refl
 items-row (j ∷ js) = ap (λ r. j ∷ r) (items-row js)
-
-members-pairs : (ms : List Member) → members (pairs ms) ≡ ms
-members-pairs [] = refl
-members-pairs (m ∷ ms) = ap (λ r. m ∷ r) (members-pairs ms)
 
 same_bool : (a : Bool) → is_same (bool a) (bool a) ≡ true
 same_bool true = refl

@@ -38,7 +38,7 @@ below_same k l m h e =
     reversed l k Greater (nat_list_cmp_total.congr (encode_utf8_all k) (encode_utf8_all m) (encode_utf8_all l)
     (reversed k m Equal e) ∙ reversed m l Less h)
 
-all_at : (P : List ℕ → Type 0) (fs : List Field) (i : ℕ) (d : Field) → AllByRecursion P (keys (map member fs))
+pub all_at : (P : List ℕ → Type 0) (fs : List Field) (i : ℕ) (d : Field) → AllByRecursion P (keys (map member fs))
     → i < length fs → P (get_or fs i d).name
 all_at P [] i d h l = absurd (omega arith)
 all_at P (f ∷ fs) zero d h l = h.0

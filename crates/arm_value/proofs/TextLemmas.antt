@@ -7,12 +7,7 @@ use Rattle.std.proofs.lemmas.Str.{encodes-chars, encodes_same, encode_ascii, ins
 use Rattle.std.proofs.lemmas.Slice.Eq.{bytes_eq-Decides}
 use Rattle.std.proofs.lemmas.Bool.Decides.{nat_tests}
 use Rattle.arm_value.specs.Look.{fold, is_same_folded}
-
-both_ways : (a b : Bool) → (a ≡ true → b ≡ true) → (b ≡ true → a ≡ true) → a ≡ b
-both_ways true true f g = refl
-both_ways true false f g = sym (f refl)
-both_ways false true f g = g refl
-both_ways false false f g = refl
+use Rattle.foundation.proofs.TruthValues.{both_ways}
 
 chars_same : (a b : List ℕ) → IsUtf8 a → IsUtf8 b → chars a ≡ chars b → a ≡ b
 chars_same a b u v e = sym (encodes-chars a u) ∙ ap encodes e ∙ encodes-chars b v

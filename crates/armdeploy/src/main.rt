@@ -13,7 +13,7 @@ use std::env;
 use std::process::ExitCode;
 use std::rt::Env;
 
-// What takes memory to make.
+// The parts that take memory.
 #[derive(Drop)]
 struct Parts {
     words: Vec<String>,
@@ -23,7 +23,7 @@ struct Parts {
     journal_b: String,
 }
 
-// The words, four seats over the catalogue, and the names of the working folder and its journal.
+// The words, four seats over the catalogue, and the names of the folder and of the journal's two files.
 fn made<R: Env + Alloc<A = Global>>(rt: &R) -> Result<Parts, AllocError>
     ensures { IfOk result (λ parts. length parts.crew.items ≡ 4) }
 {
@@ -37,7 +37,7 @@ fn made<R: Env + Alloc<A = Global>>(rt: &R) -> Result<Parts, AllocError>
     })
 }
 
-// The words behind the program's own name.
+// The words after the program's own name.
 fn words<R: Env + Alloc<A = Global>>(rt: &R) -> Result<Vec<String>, AllocError> {
     match env::args(rt) {
         Ok(args) => args.skip(1).collect(rt.alloc()),
@@ -45,6 +45,7 @@ fn words<R: Env + Alloc<A = Global>>(rt: &R) -> Result<Vec<String>, AllocError> 
     }
 }
 
+// Four seats over the catalogue.
 fn crew(alloc: Global) -> Result<Vec<Seat<Catalog>>, AllocError>
     ensures { IfOk result (λ crew. length crew.items ≡ 4) }
 {
@@ -59,7 +60,7 @@ fn crew(alloc: Global) -> Result<Vec<Seat<Catalog>>, AllocError>
 fn main(rt: HostRuntime) -> ExitCode {
     let mut out = RealOut::new(rt);
     let Ok(parts) = made(&rt) else {
-        let _said = out.write(b"fault memory\n");
+        let _printed = out.write(b"fault memory\n");
         return ExitCode::from(9);
     };
     let mut crew = parts.crew;

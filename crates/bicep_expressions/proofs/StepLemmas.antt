@@ -38,7 +38,7 @@ pub qualified-other : (space : Namespace) (n m : Name) (i : Bool) (S : List Fram
 qualified-other space n m i S t.OpenParen h = absurd (h refl)
 qualified-other space n m i S x h = refl
 
--- behind a name, what is neither `(` nor an access nor a name goes on as behind any expression
+-- after a name, what is neither `(` nor an access nor a name goes on as after any expression
 pub named-other : (n : Name) (i : Bool) (S : List Frame) (at : ℕ) (x : Terminal) → (x ≡ t.OpenParen → ⊥)
     → ((k : Access) → x ≡ t.Access k → ⊥) → ((s : List ℕ) → x ≡ t.Name s → ⊥)
     → named_step 64 n i S at x ≡ gone_on 64 (flat (name n)) i S x

@@ -1,21 +1,26 @@
-// What ends an expression: the operators before it are closed, and what is open then takes it.
+// Tokens that end an expression: its operators are closed, and what is open then takes it.
 #![tactic(auto, using(bicep_machine::proofs::StackLemmas::stacks))]
 
 ghost use Rattle.std.specs.Prelude.{◌≡◌, Some, false, true, ◌∷◌};
-ghost use Rattle.bicep_machine.specs.Closing.{called, closed, paren_on, bracket_on, comma_on, brace_on, colon_on, late_colon_on, middle_on, right_on, newline_on};
+ghost use Rattle.bicep_machine.specs.Closing.{called, closed, paren_on, bracket_on, comma_on, brace_on, colon_on};
+ghost use Rattle.bicep_machine.specs.Closing.{late_colon_on, middle_on, right_on, newline_on};
 ghost use Rattle.bicep_machine.specs.Kept.{put, of_hole, of_items, of_loop};
-ghost use Rattle.bicep_machine.specs.Stack.{a_loop, bodied, calling, done, in_array, in_text, item, looped, looped_body, wanted};
-ghost use Rattle.bicep_machine.specs.Views.{Gives, kept, kept_holes, kept_items, callee_of, header_of, frames_of, next_of, state_of, Frames};
+ghost use Rattle.bicep_machine.specs.Stack.{a_loop, bodied, calling, done, in_array, in_text, item, looped};
+ghost use Rattle.bicep_machine.specs.Stack.{looped_body, wanted};
+ghost use Rattle.foundation.specs.Stopping.{Gives};
+ghost use Rattle.bicep_machine.specs.Views.{kept, kept_holes, kept_items, callee_of, header_of, frames_of, next_of};
+ghost use Rattle.bicep_machine.specs.Views.{state_of, Frames};
 ghost use Rattle.bicep_expressions.specs.Ends.{ended_on};
 
-use crate::places::{close_member, end_call, end_items, enter, guard, put_each, put_member};
 use arm_value::Text;
 use bicep_machine::{
-    Callee, Frame, Front, Header, Kept, Next, State, Stop, close, closed, each_of, empty, file,
+    Callee, Frame, Front, Header, Kept, Next, State, close, closed, each_of, empty, enter, file,
     index_of, loop_of, parentheses_of, plain_of, property_of, refuse, run_out, statement_of,
     text_of, with_expression, with_hole, with_item,
 };
+use bicep_places::{close_member, end_call, end_items, guard, put_each, put_member};
 use bicep_tree::{Expr, Hole, LoopNames, Terminal};
+use foundation::Stop;
 use std::alloc::Global;
 
 // The last argument of a call.
@@ -51,8 +56,7 @@ fn end_at_paren(alloc: Global, e: Kept<Box<Expr>>, stack: &mut Vec<Frame>) -> Re
             end_arguments(alloc, callee, was, arguments, e, stack)
         }
         Some(Frame::InCondition(at, header, front)) => guard(header, front, at, e, stack),
-        Some(other) => refuse((other, e)),
-        None => refuse(e),
+        other => refuse((other, e)),
     }
 }
 
@@ -94,8 +98,7 @@ fn end_at_bracket(
         Some(Frame::Opened(at, was)) => end_array(alloc, at, was, empty(alloc), e, stack),
         Some(Frame::InArray(at, was, items)) => end_array(alloc, at, was, items, e, stack),
         Some(Frame::Looped(names)) => put_each(each_of(names, e), stack),
-        Some(other) => refuse((other, e)),
-        None => refuse(e),
+        other => refuse((other, e)),
     }
 }
 
@@ -156,8 +159,7 @@ fn end_at_comma(alloc: Global, e: Kept<Box<Expr>>, stack: &mut Vec<Frame>) -> Re
         Some(Frame::Opened(at, was)) => add_item(at, was, empty(alloc), e, stack),
         Some(Frame::InArray(at, was, items)) => add_item(at, was, items, e, stack),
         Some(Frame::Valued(label)) => put_member(property_of(label, plain_of(e)), stack),
-        Some(other) => refuse((other, e)),
-        None => refuse(e),
+        other => refuse((other, e)),
     }
 }
 
@@ -168,12 +170,11 @@ fn end_at_brace(alloc: Global, e: Kept<Box<Expr>>, stack: &mut Vec<Frame>) -> Re
 {
     match close(stack) {
         Some(Frame::Valued(label)) => close_member(alloc, property_of(label, plain_of(e)), stack),
-        Some(other) => refuse((other, e)),
-        None => refuse(e),
+        other => refuse((other, e)),
     }
 }
 
-// The value of a loop is wanted.
+// Opens the value of a loop.
 fn want_each(
     alloc: Global,
     at: usize,
@@ -193,7 +194,7 @@ fn want_each(
     enter(Frame::Looped(names), State::Wanted(false), false, stack)
 }
 
-// The body of a loop is wanted.
+// Opens the body of a loop.
 fn want_body(
     alloc: Global,
     at: usize,
@@ -240,12 +241,11 @@ fn end_at_colon(
         }
         Some(Frame::Over(at, names)) => want_each(alloc, at, names, e, stack),
         Some(Frame::BodyOver(at, names, header)) => want_body(alloc, at, names, header, e, stack),
-        Some(other) => refuse((other, e)),
-        None => refuse(e),
+        other => refuse((other, e)),
     }
 }
 
-/// `:` behind a newline.
+/// `:` after a newline.
 pub fn end_at_late_colon(
     alloc: Global,
     e: Kept<Box<Expr>>,
@@ -264,8 +264,7 @@ pub fn end_at_late_colon(
                 stack,
             )
         }
-        Some(other) => refuse((other, e)),
-        None => refuse(e),
+        other => refuse((other, e)),
     }
 }
 
@@ -310,8 +309,7 @@ fn end_at_middle(
         Some(Frame::InText(at, before, holes)) => {
             add_hole(at, before, holes, e, after, inside, stack)
         }
-        Some(other) => refuse((other, e, after)),
-        None => refuse((e, after)),
+        other => refuse((other, e, after)),
     }
 }
 
@@ -352,8 +350,7 @@ fn end_at_right(
         Some(Frame::InText(at, before, holes)) => {
             end_text(alloc, at, before, holes, e, after, inside)
         }
-        Some(other) => refuse((other, e, after)),
-        None => refuse((e, after)),
+        other => refuse((other, e, after)),
     }
 }
 
@@ -423,7 +420,6 @@ fn end_line(alloc: Global, e: Kept<Box<Expr>>, stack: &mut Vec<Frame>) -> Result
             let declaration = with_expression(assigned, e);
             file(statement_of(decorators, declaration), stack)
         }
-        Some(other) => refuse((other, e)),
-        None => refuse(e),
+        other => refuse((other, e)),
     }
 }

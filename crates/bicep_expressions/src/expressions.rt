@@ -9,18 +9,22 @@ ghost use Rattle.bicep_tree.specs.declared.leaf.Access.TheVariants as a;
 ghost use Rattle.bicep_tree.specs.Tree.{name};
 ghost use Rattle.bicep_machine.specs.Kept.{flat, of_access};
 ghost use Rattle.bicep_machine.specs.Closing.{closed};
-ghost use Rattle.bicep_machine.specs.Machine.{begun, wanted_step, with_operator, with_question, gone_on, namespace_of, space_on, named_step, qualifying_step, qualified_step, dotted_step, first_step, item_step};
+ghost use Rattle.bicep_machine.specs.Machine.{begun, wanted_step, with_operator, with_question, gone_on};
+ghost use Rattle.bicep_machine.specs.Machine.{namespace_of, space_on, named_step, qualifying_step, qualified_step};
+ghost use Rattle.bicep_machine.specs.Machine.{dotted_step, first_step, item_step};
 ghost use Rattle.bicep_machine.specs.Folding.{in_on};
-ghost use Rattle.bicep_machine.specs.Views.{Gives, kept, callee_of, frames_of, state_of, next_of, Frames};
+ghost use Rattle.foundation.specs.Stopping.{Gives};
+ghost use Rattle.bicep_machine.specs.Views.{kept, callee_of, frames_of, state_of, next_of, Frames};
 
 use crate::ends::end;
-use crate::places::{close_call, close_items, enter, item_on, pair_on, part_items};
 use arm_value::{OutOfMemory, Text};
 use bicep_machine::{
-    Callee, Frame, Kept, Next, State, Stop, access_of, closed, empty, is_in, level_of, literal_at,
+    Callee, Frame, Kept, Next, State, access_of, closed, empty, enter, is_in, level_of, literal_at,
     named, namespace_of, not_null_of, refuse, run_out,
 };
+use bicep_places::{close_call, close_items, item_on, pair_on, part_items};
 use bicep_tree::{Access, Expr, Function, Indexing, Name, Namespace, Operator, Prefix, Terminal};
+use foundation::Stop;
 use std::alloc::Global;
 
 // An operator before its operand.
@@ -33,7 +37,7 @@ fn prefix(operator: Operator, at: usize, inside: bool, stack: &mut Vec<Frame>) -
             let frame = Frame::Prefixing(at, Prefix::Negate);
             enter(frame, State::Wanted(false), inside, stack)
         },
-        _ => Err(Stop::NotAFile),
+        _ => Err(Stop::Refused),
     }
 }
 
@@ -79,7 +83,7 @@ pub fn begin(
     }
 }
 
-/// Something behind which an expression comes.
+/// Something after which an expression comes.
 pub fn want_on(
     alloc: Global,
     skips: bool,
@@ -117,7 +121,7 @@ pub fn ask(
     enter(Frame::Asked(condition), State::Wanted(true), inside, stack)
 }
 
-// An operator behind an operand.
+// An operator after an operand.
 fn operate(
     alloc: Global,
     operator: Operator,
@@ -138,19 +142,19 @@ fn operate(
     )
 }
 
-// A word behind an expression.
+// A word after an expression.
 fn run_in(e: Kept<Box<Expr>>, word: Text, stack: &mut Vec<Frame>) -> Result<Next, Stop>
     ensures { Gives (λ n. next_of n stack.new.items) result
         (in_on word (kept e) (frames_of stack.old.items)) }
 {
-    if is_in(&word) {
+    if is_in(word) {
         pair_on(e, stack)
     } else {
-        refuse((e, word))
+        refuse(e)
     }
 }
 
-/// An expression goes on or ends.
+/// An expression continues or ends.
 pub fn go_on(
     alloc: Global,
     e: Kept<Box<Expr>>,
@@ -198,7 +202,7 @@ fn call(alloc: Global, callee: Callee, was: bool, stack: &mut Vec<Frame>) -> Res
     enter(frame, State::First, true, stack)
 }
 
-// `.`, `.?` or `::` behind a name.
+// `.`, `.?` or `::` after a name.
 fn dot(alloc: Global, access: Access, name: Name, inside: bool) -> Result<Next, Stop>
     ensures { (S : Frames) → (at : ℕ) → Gives (λ n. (state_of n.state, n.inside, S)) result
         (named_step 64 name inside S at (t.Access access)) }
@@ -212,7 +216,7 @@ fn dot(alloc: Global, access: Access, name: Name, inside: bool) -> Result<Next, 
     }
 }
 
-// `.` behind a name.
+// `.` after a name.
 fn dot_member(alloc: Global, name: Name, inside: bool) -> Result<Next, Stop>
     ensures { (S : Frames) → Gives (λ n. (state_of n.state, n.inside, S)) result
         (space_on 64 (namespace_of name.text) name inside S) }
@@ -356,7 +360,7 @@ pub fn begin_arguments(
     }
 }
 
-/// `[`, or separators behind it or an item.
+/// `[`, or separators after it or an item.
 pub fn item(
     alloc: Global,
     stack: &mut Vec<Frame>,

@@ -68,7 +68,7 @@ fn add_type(out: &mut String, name: TypeName) -> Result<(), AllocError> {
     Ok(())
 }
 
-// What stands behind the word and the symbol.
+// What comes after the word and the symbol.
 fn add_declaration(out: &mut String, declaration: &Declaration) -> Result<(), AllocError> {
     match declaration {
         Declaration::Metadata(_, _, expr) => add_expr(out, expr)?,

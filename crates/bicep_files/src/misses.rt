@@ -1,4 +1,4 @@
-// Near misses: a file with one mistake, and the place from which no file goes on.
+// Near misses: a file with one mistake, and the place from which no file continues.
 
 use crate::hosts::{CLUSTER, CONTAINERS, FUNCTIONS, MACHINE, QUEUES, SITE};
 use crate::networks::{ENDPOINTS, NETWORK, PEERINGS, RECORDS, RULES};
@@ -11,8 +11,8 @@ use std::alloc::Global;
 use std::process::Abort;
 use std::test::Fail;
 
-// A file, what is right in it, and what stands there by mistake: `^` marks the token with which no
-// file goes on.
+// A file, what is right in it, and the mistake that replaces it: `^` marks the token with which no
+// file continues.
 type Miss = (&'static str, &'static str, &'static str);
 
 const STORED: [Miss; 8] = [
@@ -99,7 +99,7 @@ const WHOLES: [Miss; 7] = [
     ),
 ];
 
-// The source with the mistake in the place of what is right, which stands once, and the offset that
+// The source with the mistake in the place of what is right, which is there once, and the offset that
 // is marked.
 fn mistaken(alloc: Global, miss: &Miss) -> Result<(String, usize), Fail> {
     let Some((front, back)) = miss.0.split_once(miss.1) else {

@@ -1,4 +1,4 @@
-// Files of networks: what is in them, what stands before them, and how they are named.
+// Files of networks: what is in them, what comes before them, and how they are named.
 
 use crate::sample::Sample;
 

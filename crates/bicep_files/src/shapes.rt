@@ -63,7 +63,7 @@ fn add_character(out: &mut String, character: char) -> Result<(), AllocError> {
     Ok(())
 }
 
-// The characters of a text, with an escape where one stands for them in Bicep.
+// The characters of a text, with an escape where Bicep has one.
 fn add_characters(out: &mut String, text: &Text) -> Result<(), AllocError> {
     for character in text.as_str().chars() {
         add_character(out, character)?;
@@ -129,7 +129,7 @@ pub fn add_names(out: &mut String, names: &LoopNames) -> Result<(), AllocError> 
     Ok(())
 }
 
-// The holes of an interpolated text, and the characters behind each.
+// The holes of an interpolated text, and the characters after each.
 #[cycle(shapes)]
 fn add_holes(out: &mut String, holes: &[Hole]) -> Result<(), AllocError> {
     for hole in holes {

@@ -78,7 +78,7 @@ module apps params.settings.0.value => {{stage == 'dev'} ? 'local' : database.ou
 output hosts => array = [for i in range(0, 2): apps[i].outputs.host]
 ";
 
-/// A module for each region, and a profile that stands before all of them.
+/// A module for each region, and a profile before all of them.
 pub const REGIONS: &str = "metadata owner = 'web team'
 metadata version = { major: 2, minor: 1 }
 

@@ -21,28 +21,39 @@ use Rattle.bicep_lexer.specs.declared.front.Front.{Front}
 use Rattle.bicep_lexer.specs.declared.front.Front.TheVariants as front
 use Rattle.bicep_lexer.specs.declared.texts.PieceEnd.{PieceEnd}
 use Rattle.bicep_lexer.specs.declared.texts.PieceEnd.TheVariants as ends
-use Rattle.bicep_lexer.specs.Bytes.{is_letter, is_name_byte, is_blank, begins_with, name_length, digits_of, number_from}
-use Rattle.bicep_lexer.specs.Escapes.{is_escape}
+use Rattle.bicep_lexer.specs.Bytes.{is_letter, is_name_byte, is_blank, begins_with, number_from}
+use Rattle.bicep_lexer.specs.Reader.Scanning.{name_length, digits_of}
+use Rattle.bicep_lexer.specs.Reader.Scanning.{is_escape}
 use Rattle.bicep_lexer.specs.Marks.{double_mark, single_mark}
-use Rattle.bicep_lexer.specs.Skipped.{newline_length, line_length, closes_comment, comment_length, behind_comment}
+use Rattle.bicep_lexer.specs.Signs.{BeginsEscape}
+use Rattle.bicep_lexer.specs.Skipped.{newline_length, closes_comment, line_after_comment}
+use Rattle.bicep_lexer.specs.Reader.Scanning.{line_length, comment_length}
 use Rattle.bicep_lexer.specs.Skipped.{is_directive}
-use Rattle.bicep_lexer.specs.Texts.{piece_end, further, is_hole, is_break, quotes, verbatim_length}
-use Rattle.bicep_lexer.specs.Fronts.{unfinished, innermost, word, number_front, piece, verbatim, text_front, closed}
-use Rattle.bicep_lexer.specs.Fronts.{close_front, opens_comment, commented, comment_front, newline_front}
-use Rattle.bicep_lexer.specs.Fronts.{directive_front, single, double, mark_front, front_of}
-use Rattle.bicep_lexer.specs.Reading.{Outcome, Standing, turned, before, ended_by, reading_from, reading}
-use Rattle.bicep_lexer.specs.Grammar.{Throughout, begins, IsRun, ends_line, IsLine, IsInside, three_quotes, IsLineEnd}
+use Rattle.bicep_lexer.specs.Reader.Scanning.{piece_end, further, verbatim_length}
+use Rattle.bicep_lexer.specs.Signs.{is_hole}
+use Rattle.bicep_lexer.specs.Texts.{is_break, quotes}
+use Rattle.bicep_lexer.specs.Faults.{unfinished}
+use Rattle.bicep_lexer.specs.Grammar.{innermost}
+use Rattle.bicep_lexer.specs.Reader.Fronts.{word, number_front, piece, verbatim, text_front, closed}
+use Rattle.bicep_lexer.specs.Reader.Fronts.{close_front, commented, comment_front, newline_front}
+use Rattle.bicep_lexer.specs.Grammar.{opens_comment}
+use Rattle.bicep_lexer.specs.Reader.Fronts.{directive_front, single, double, mark_front, front_of}
+use Rattle.bicep_lexer.specs.Reader.Steps.{Outcome, before, ended_by, reading_from, reading}
+use Rattle.bicep_lexer.specs.Reading.{Standing}
+use Rattle.bicep_lexer.specs.Grammar.{turned}
+use Rattle.bicep_lexer.specs.Grammar.{Throughout, begins, IsRun, ends_line, IsLine, three_quotes, IsLineEnd}
 use Rattle.bicep_lexer.specs.Grammar.{makes_double, IsWord, name, number, newline, text, left, middle, right}
 use Rattle.bicep_lexer.specs.Grammar.{verbatim as verbatim_word, open_brace, close_brace, lone_brace}
 use Rattle.bicep_lexer.specs.Grammar.{double as double_word, single as single_word, IsSkipped, blank, line_comment}
 use Rattle.bicep_lexer.specs.Grammar.{comment, directive, folded, Part, skip, token, bytes_of, tokens_of}
-use Rattle.bicep_lexer.specs.Grammar.{behind_token, InARow, StandsBefore, NoneIsOpen, Spells, AreSlices}
-use Rattle.bicep_lexer.specs.Progress.{behind, OnFront}
+use Rattle.bicep_lexer.specs.Grammar.{line_after_token, InARow, StandsBefore, NoneIsOpen, Spells, AreSlices}
+use Rattle.bicep_lexer.specs.Reader.Steps.{then_rest, OnFront}
 use Rattle.bicep_lexer.proofs.Spans.{front_span}
 use Rattle.std.proofs.lemmas.List.{drop-drop}
 use Rattle.bicep_lexer.specs.Faults.{BeginsPiece, BeginsNothing, IsFault, open_at_end, bad_number, bad_escape}
 use Rattle.bicep_lexer.specs.Faults.{open_at_line, open_at_file, open_verbatim, open_comment, bad_character, Refuses}
-use Rattle.bicep_lexer.proofs.Ends.{if_else}
+use Rattle.foundation.proofs.Choices.{if_else}
+use Rattle.bicep_lexer.proofs.SignLaws.{Passes, inside_passes, reads_escape}
 use Rattle.bicep_lexer.proofs.Steps.{by_front, read_front, reading-skip}
 
 pub passed : {A : Type 0} (b : Bool) (x y : A) → b ≡ false → cond b x y ≡ y
@@ -79,7 +90,7 @@ further-suc n ends.File = refl
 further-suc n (ends.BadEscape m) = let e : 1 + (n + m) ≡ suc n + m = omega arith in ap (λ k. ends.BadEscape k) e
 
 -- a piece ends where what is inside it ends
-inside_ends : (escaped : Bool) (w tail : List ℕ) (e : PieceEnd) → IsInside escaped w tail → piece_end false tail ≡ e
+inside_ends : (escaped : Bool) (w tail : List ℕ) (e : PieceEnd) → Passes escaped w tail → piece_end false tail ≡ e
     → piece_end escaped (w ++ tail) ≡ further (length w) e
 inside_ends escaped [] tail e h is = ap (λ x. piece_end x tail) h ∙ is ∙ sym (further-zero e)
 inside_ends true (b ∷ w) tail e h is = ap (further 1) (inside_ends false w tail e h is) ∙ further-suc (length w) e
@@ -88,7 +99,7 @@ inside_ends false (b ∷ w) tail e h is =
     passed (eqb b 39) (ends.Quote 1) _ (not_equal b 39 h.0)
     ∙ passed (is_hole b bs) (ends.Hole 2) _ h.1
     ∙ passed (is_break b) ends.Line _ h.2
-    ∙ (elim (eqb b 92) as (λ t. eqb b 92 ≡ t → IsInside t w tail
+    ∙ (elim (eqb b 92) as (λ t. eqb b 92 ≡ t → Passes t w tail
     → cond t (cond (is_escape bs) (further 1 (piece_end true bs)) (ends.BadEscape 0))
     (further 1 (piece_end false bs)) ≡ further 1 (piece_end t bs)) [
       | true ↦ λ y i. taken (is_escape bs) (further 1 (piece_end true bs)) (ends.BadEscape 0) (h.3 (eqb-true b 92 y))
@@ -145,15 +156,15 @@ verbatim_is (b ∷ w) tail h some =
     ∙ ap (option_map suc) (verbatim_is w tail h.1 some)
     ∙ ap (λ n. Some n) e
 
--- what the front is where a token stands there
+-- what the front is where a token begins
 pub data TokenFront (kind : TokenKind) (n : ℕ) (t : Turn) (o : Result Front LexFault) : Type 0 where
   newline_is : kind ≡ k.Newline → t ≡ turn.Stays → o ≡ Ok (front.Newline n) → TokenFront kind n t o
-  word_is : behind_token kind ≡ line.Within → o ≡ Ok (front.Word kind n t) → TokenFront kind n t o
+  word_is : line_after_token kind ≡ line.Within → o ≡ Ok (front.Word kind n t) → TokenFront kind n t o
 
 word_as : (kind kind' : TokenKind) (n n' : ℕ) (t t' : Turn) (o : Result Front LexFault) → kind ≡ kind' → n ≡ n'
-    → t ≡ t' → behind_token kind' ≡ line.Within → o ≡ Ok (front.Word kind' n' t') → TokenFront kind n t o
+    → t ≡ t' → line_after_token kind' ≡ line.Within → o ≡ Ok (front.Word kind' n' t') → TokenFront kind n t o
 word_as kind kind' n n' t t' o ks ns ts within h =
-    word_is (ap behind_token ks ∙ within)
+    word_is (ap line_after_token ks ∙ within)
     (h ∙ sym (ap (λ x. Ok (front.Word x n t)) ks ∙ ap (λ x. Ok (front.Word kind' x t)) ns
     ∙ ap (λ x. Ok (front.Word kind' n' x)) ts))
 
@@ -205,7 +216,7 @@ close_is_front at os l bs = refl
 
 -- a piece with what is inside and its end
 inside_piece : (quote at : ℕ) (os : List Open) (last other : TokenKind × Turn) (w tail : List ℕ) (e : PieceEnd)
-    → IsInside false w tail → piece_end false tail ≡ e
+    → Passes false w tail → piece_end false tail ≡ e
     → piece quote at os last other (piece_end false (w ++ tail)) ≡ piece quote at os last other (further (length w) e)
 inside_piece quote at os last other w tail e h is = ap (piece quote at os last other) (inside_ends false w tail e h is)
 
@@ -219,7 +230,7 @@ text_is_front at os bs h = passed (eqb (quotes 3 (39 ∷ bs)) 3) _ _ h
 along : (w ends rest : List ℕ) → (w ++ ends) ++ rest ≡ w ++ (ends ++ rest)
 along w ends rest = append_assoc w ends rest
 
-whole_front : (at : ℕ) (os : List Open) (l : Line) (w rest : List ℕ) → IsInside false w (39 ∷ rest)
+whole_front : (at : ℕ) (os : List Open) (l : Line) (w rest : List ℕ) → Passes false w (39 ∷ rest)
     → quotes 3 (39 ∷ ((w ++ 39 ∷ []) ++ rest)) == 3 ≡ false
     → front_of at os l (39 ∷ ((w ++ 39 ∷ []) ++ rest)) ≡ Ok (front.Word k.Text (length w + 1 + 1) turn.Stays)
 whole_front at os l w rest inside short =
@@ -230,7 +241,7 @@ whole_front at os l w rest inside short =
     ∙ inside_piece at at os (k.Text, turn.Stays) (k.LeftPiece, turn.Opens (opened.Text at)) w (39 ∷ rest)
     (ends.Quote 1) inside refl
 
-left_front : (at : ℕ) (os : List Open) (l : Line) (w rest : List ℕ) → IsInside false w (36 ∷ 123 ∷ rest)
+left_front : (at : ℕ) (os : List Open) (l : Line) (w rest : List ℕ) → Passes false w (36 ∷ 123 ∷ rest)
     → quotes 3 (39 ∷ ((w ++ 36 ∷ 123 ∷ []) ++ rest)) == 3 ≡ false
     → front_of at os l (39 ∷ ((w ++ 36 ∷ 123 ∷ []) ++ rest))
     ≡ Ok (front.Word k.LeftPiece (length w + 2 + 1) (turn.Opens (opened.Text at)))
@@ -243,7 +254,7 @@ left_front at os l w rest inside short =
     (ends.Hole 2) inside refl
 
 right_front : (at quote : ℕ) (os : List Open) (l : Line) (w rest : List ℕ) → innermost os ≡ Some (opened.Text quote)
-    → IsInside false w (39 ∷ rest)
+    → Passes false w (39 ∷ rest)
     → front_of at os l (125 ∷ ((w ++ 39 ∷ []) ++ rest)) ≡ Ok (front.Word k.RightPiece (length w + 1 + 1) turn.Closes)
 right_front at quote os l w rest top inside =
     close_is_front at os l ((w ++ 39 ∷ []) ++ rest)
@@ -254,7 +265,7 @@ right_front at quote os l w rest top inside =
     (ends.Quote 1) inside refl
 
 middle_front : (at quote : ℕ) (os : List Open) (l : Line) (w rest : List ℕ) → innermost os ≡ Some (opened.Text quote)
-    → IsInside false w (36 ∷ 123 ∷ rest)
+    → Passes false w (36 ∷ 123 ∷ rest)
     → front_of at os l (125 ∷ ((w ++ 36 ∷ 123 ∷ []) ++ rest))
     ≡ Ok (front.Word k.MiddlePiece (length w + 2 + 1) turn.Stays)
 middle_front at quote os l w rest top inside =
@@ -302,11 +313,11 @@ NoOther b = (is_blank b ≡ false) × (is_letter b ≡ false) × (is_ascii_digit
 
 abbrev pub SingleFacts : Option TokenKind → ℕ → Type 0
 SingleFacts None b = Unit {0}
-SingleFacts (Some kind) b = NoOther b × (behind_token kind ≡ line.Within)
+SingleFacts (Some kind) b = NoOther b × (line_after_token kind ≡ line.Within)
 
 abbrev pub DoubleFacts : Option TokenKind → ℕ → Type 0
 DoubleFacts None a = Unit {0}
-DoubleFacts (Some kind) a = NoOther a × (eqb a 47 ≡ false) × (behind_token kind ≡ line.Within)
+DoubleFacts (Some kind) a = NoOther a × (eqb a 47 ≡ false) × (line_after_token kind ≡ line.Within)
 
 other_as : (b x : ℕ) → eqb b x ≡ true → NoOther x → NoOther b
 other_as b x y h = subst NoOther (sym (eqb-true b x y)) h
@@ -429,7 +440,7 @@ open_front : (at : ℕ) (os : List Open) (l : Line) (rest : List ℕ)
 unfolding front_of
 open_front at os l rest = refl
 
--- what stands at the front, where a word does
+-- the front, where a word begins
 word_front : (os : List Open) (l : Line) (at : ℕ) (kind : TokenKind) (w rest : List ℕ) (t : Turn)
     → IsWord os l at kind w rest t → TokenFront kind (length w) t (front_of at os l (w ++ rest))
 word_front os l at kind w rest t (name ks ts b bs ws letter run) =
@@ -450,25 +461,29 @@ word_front os l at kind w rest t (text ks ts inside ws is short) =
     word_as kind k.Text (length w) (length inside + 1 + 1) t turn.Stays (front_of at os l (w ++ rest)) ks
     (ap length ws ∙ n) ts refl
     (ap (λ x. front_of at os l (x ++ rest)) ws
-    ∙ whole_front at os l inside rest is (subst (λ x. quotes 3 (x ++ rest) == 3 ≡ false) ws short))
+    ∙ whole_front at os l inside rest (inside_passes inside (39 ∷ rest) refl is)
+    (subst (λ x. quotes 3 (x ++ rest) == 3 ≡ false) ws short))
 word_front os l at kind w rest t (left ks ts inside ws is short) =
     let n : suc (length (inside ++ 36 ∷ 123 ∷ [])) ≡ length inside + 2 + 1 =
     omega (arith, length-append inside (36 ∷ 123 ∷ [])) in
     word_as kind k.LeftPiece (length w) (length inside + 2 + 1) t (turn.Opens (opened.Text at))
     (front_of at os l (w ++ rest)) ks (ap length ws ∙ n) ts refl
     (ap (λ x. front_of at os l (x ++ rest)) ws
-    ∙ left_front at os l inside rest is (subst (λ x. quotes 3 (x ++ rest) == 3 ≡ false) ws short))
+    ∙ left_front at os l inside rest (inside_passes inside (36 ∷ 123 ∷ rest) refl is)
+    (subst (λ x. quotes 3 (x ++ rest) == 3 ≡ false) ws short))
 word_front os l at kind w rest t (middle ks ts quote top inside ws is) =
     let n : suc (length (inside ++ 36 ∷ 123 ∷ [])) ≡ length inside + 2 + 1 =
     omega (arith, length-append inside (36 ∷ 123 ∷ [])) in
     word_as kind k.MiddlePiece (length w) (length inside + 2 + 1) t turn.Stays (front_of at os l (w ++ rest)) ks
     (ap length ws ∙ n) ts refl
-    (ap (λ x. front_of at os l (x ++ rest)) ws ∙ middle_front at quote os l inside rest top is)
+    (ap (λ x. front_of at os l (x ++ rest)) ws ∙ middle_front at quote os l inside rest top
+    (inside_passes inside (36 ∷ 123 ∷ rest) refl is))
 word_front os l at kind w rest t (right ks ts quote top inside ws is) =
     let n : suc (length (inside ++ 39 ∷ [])) ≡ length inside + 1 + 1 = omega (arith, length-append inside (39 ∷ [])) in
     word_as kind k.RightPiece (length w) (length inside + 1 + 1) t turn.Closes (front_of at os l (w ++ rest)) ks
     (ap length ws ∙ n) ts refl
-    (ap (λ x. front_of at os l (x ++ rest)) ws ∙ right_front at quote os l inside rest top is)
+    (ap (λ x. front_of at os l (x ++ rest)) ws ∙ right_front at quote os l inside rest top
+    (inside_passes inside (39 ∷ rest) refl is))
 word_front os l at kind w rest t (verbatim_word ks ts inside closing ws is counted some) =
     let n : suc (suc (suc (length (inside ++ closing)))) ≡ length inside + length closing + 3 =
     omega (arith, length-append inside closing) in
@@ -524,7 +539,7 @@ star_front at os l rest = refl
 comment_is_front : (at : ℕ) (os : List Open) (l : Line) (w rest : List ℕ)
     → Throughout closes_comment false w (42 ∷ 47 ∷ rest)
     → front_of at os l (47 ∷ 42 ∷ ((w ++ 42 ∷ 47 ∷ []) ++ rest))
-    ≡ Ok (front.Skipped (length w + 2 + 2) (behind_comment l (w ++ 42 ∷ 47 ∷ [])))
+    ≡ Ok (front.Skipped (length w + 2 + 2) (line_after_comment l (w ++ 42 ∷ 47 ∷ [])))
 comment_is_front at os l w rest h =
     let n : length (w ++ 42 ∷ 47 ∷ []) ≡ length w + 2 = omega (arith, length-append w (42 ∷ 47 ∷ [])) in
     let bytes = (w ++ 42 ∷ 47 ∷ []) ++ rest in
@@ -532,7 +547,7 @@ comment_is_front at os l w rest h =
     ∙ take_seam (w ++ 42 ∷ 47 ∷ []) rest in
     star_front at os l bytes
     ∙ ap (commented at os l (47 ∷ 42 ∷ bytes)) (ap comment_length (along w (42 ∷ 47 ∷ []) rest) ∙ comment_is w rest h)
-    ∙ ap (λ xs. Ok (front.Skipped (length w + 2 + 2) (behind_comment l xs))) front_bytes
+    ∙ ap (λ xs. Ok (front.Skipped (length w + 2 + 2) (line_after_comment l xs))) front_bytes
 
 hash_front : (at : ℕ) (os : List Open) (l : Line) (rest : List ℕ)
     → front_of at os l (35 ∷ rest) ≡ directive_front at l (35 ∷ rest)
@@ -549,7 +564,7 @@ skipped_as : (n n' : ℕ) (l l' : Line) (o : Result Front LexFault) → n ≡ n'
     → o ≡ Ok (front.Skipped n l)
 skipped_as n n' l l' o ns ls h = h ∙ sym (ap (λ x. Ok (front.Skipped x l)) ns ∙ ap (λ x. Ok (front.Skipped n' x)) ls)
 
--- what stands at the front, where something is skipped
+-- the front, where something is skipped
 skipped_front : (os : List Open) (l : Line) (at : ℕ) (w rest : List ℕ) (next : Line) → IsSkipped l w rest next
     → front_of at os l (w ++ rest) ≡ Ok (front.Skipped (length w) next)
 skipped_front os l at w rest next (blank ns b is ws) =
@@ -563,7 +578,7 @@ skipped_front os l at w rest next (line_comment ns others ws is) =
 skipped_front os l at w rest next (comment inside ns ws is) =
     let n : suc (suc (length (inside ++ 42 ∷ 47 ∷ []))) ≡ length inside + 2 + 2 =
     omega (arith, length-append inside (42 ∷ 47 ∷ [])) in
-    skipped_as (length w) (length inside + 2 + 2) next (behind_comment l (inside ++ 42 ∷ 47 ∷ []))
+    skipped_as (length w) (length inside + 2 + 2) next (line_after_comment l (inside ++ 42 ∷ 47 ∷ []))
     (front_of at os l (w ++ rest)) (ap length ws ∙ n) ns
     (ap (λ x. front_of at os l (x ++ rest)) ws ∙ comment_is_front at os l inside rest is)
 skipped_front os l at w rest next (directive ns place others ws is row) =
@@ -585,18 +600,18 @@ read_by : (at : ℕ) (os : List Open) (l : Line) (left : List ℕ) (f : Front) �
 read_by at os l [] f h = absurd (no_front at os l f h)
 read_by at os l (b ∷ bs) f h = read_front at os l (b ∷ bs) (omega arith) ∙ ap (by_front at os (b ∷ bs)) h
 
--- the reading behind a token
+-- the reading after a token
 token_read : (os : List Open) (l : Line) (at : ℕ) (kind : TokenKind) (w rest : List ℕ) (t : Turn)
     → TokenFront kind (length w) t (front_of at os l (w ++ rest))
     → reading_from 0 at os l (w ++ rest) ≡ before (kind, at, w)
-    (reading_from 0 (at + length w) (turned t os) (behind_token kind) rest)
+    (reading_from 0 (at + length w) (turned t os) (line_after_token kind) rest)
 token_read os l at kind w rest t (newline_is ks ts is) =
     read_by at os l (w ++ rest) (front.Newline (length w)) is
     ∙ ap (λ xs. before (k.Newline, at, xs)
     (reading_from 0 (at + length w) os line.Folded (drop (length w) (w ++ rest)))) (take_seam w rest)
     ∙ ap (λ xs. before (k.Newline, at, w) (reading_from 0 (at + length w) os line.Folded xs)) (drop_seam w rest)
     ∙ ap (λ x. before (k.Newline, at, w) (reading_from 0 (at + length w) (turned x os) line.Folded rest)) (sym ts)
-    ∙ ap (λ x. before (x, at, w) (reading_from 0 (at + length w) (turned t os) (behind_token x) rest)) (sym ks)
+    ∙ ap (λ x. before (x, at, w) (reading_from 0 (at + length w) (turned t os) (line_after_token x) rest)) (sym ks)
 token_read os l at kind w rest t (word_is within is) =
     read_by at os l (w ++ rest) (front.Word kind (length w) t) is
     ∙ ap (λ xs. before (kind, at, xs)
@@ -604,20 +619,20 @@ token_read os l at kind w rest t (word_is within is) =
     ∙ ap (λ xs. before (kind, at, w) (reading_from 0 (at + length w) (turned t os) line.Within xs)) (drop_seam w rest)
     ∙ ap (λ x. before (kind, at, w) (reading_from 0 (at + length w) (turned t os) x rest)) (sym within)
 
-behind-more : (t : Standing) (ts : List Standing) (o : Outcome) → before t (behind ts o) ≡ behind (t ∷ ts) o
-behind-more t ts (Ok us) = refl
-behind-more t ts (Err f) = refl
+then_rest-more : (t : Standing) (ts : List Standing) (o : Outcome) → before t (then_rest ts o) ≡ then_rest (t ∷ ts) o
+then_rest-more t ts (Ok us) = refl
+then_rest-more t ts (Err f) = refl
 
-behind-none : (o : Outcome) → behind [] o ≡ o
-behind-none (Ok us) = refl
-behind-none (Err f) = refl
+then_rest-none : (o : Outcome) → then_rest [] o ≡ o
+then_rest-none (Ok us) = refl
+then_rest-none (Err f) = refl
 
 -- parts in a row are read as their tokens, and then the rest as it is read
 row_is_read : (Then : List Open → Line → ℕ → Type 0) (rest : List ℕ) (final : Outcome)
     → ((os : List Open) (l : Line) (at : ℕ) → Then os l at → reading_from 0 at os l rest ≡ final)
     → (ps : List Part) (os : List Open) (l : Line) (at : ℕ) → InARow Then rest os l at ps
-    → reading_from 0 at os l (bytes_of ps rest) ≡ behind (tokens_of at ps) final
-row_is_read Then rest final last [] os l at h = last os l at h ∙ sym (behind-none final)
+    → reading_from 0 at os l (bytes_of ps rest) ≡ then_rest (tokens_of at ps) final
+row_is_read Then rest final last [] os l at h = last os l at h ∙ sym (then_rest-none final)
 row_is_read Then rest final last (skip w next ∷ ps) os l at h =
     read_by at os l (w ++ bytes_of ps rest) (front.Skipped (length w) next)
     (skipped_front os l at w (bytes_of ps rest) next h.0)
@@ -626,13 +641,13 @@ row_is_read Then rest final last (skip w next ∷ ps) os l at h =
 row_is_read Then rest final last (token kind w t ∷ ps) os l at h =
     token_read os l at kind w (bytes_of ps rest) t (word_front os l at kind w (bytes_of ps rest) t h.0)
     ∙ ap (before (kind, at, w))
-    (row_is_read Then rest final last ps (turned t os) (behind_token kind) (at + length w) h.1)
-    ∙ behind-more (kind, at, w) (tokens_of (at + length w) ps) final
+    (row_is_read Then rest final last ps (turned t os) (line_after_token kind) (at + length w) h.1)
+    ∙ then_rest-more (kind, at, w) (tokens_of (at + length w) ps) final
 
 source_is_read : (Then : List Open → Line → ℕ → Type 0) (rest : List ℕ) (final : Outcome)
     → ((os : List Open) (l : Line) (at : ℕ) → Then os l at → reading_from 0 at os l rest ≡ final)
     → (source mark : List ℕ) (ps : List Part) → StandsBefore source rest mark ps Then
-    → reading source ≡ behind (tokens_of (length mark) ps) final
+    → reading source ≡ then_rest (tokens_of (length mark) ps) final
 unfolding reading
 source_is_read Then rest final last source mark ps s =
     let n = length mark in
@@ -702,6 +717,15 @@ break_ends c rest h =
 wrong_ends : (rest : List ℕ) → is_escape rest ≡ false → piece_end false (92 ∷ rest) ≡ ends.BadEscape 0
 wrong_ends rest h = passed (is_escape rest) (further 1 (piece_end true rest)) (ends.BadEscape 0) h
 
+no_escape : (rest : List ℕ) → ¬ BeginsEscape (92 ∷ rest) → is_escape rest ≡ false
+no_escape rest h = elim (is_escape rest) as (λ t. is_escape rest ≡ t → t ≡ false) [
+  | true ↦ λ e. absurd (h (reads_escape rest e))
+  | false ↦ λ e. refl
+] refl
+
+break_no_brace : (c : ℕ) → is_break c ≡ true → eqb c 123 ≡ false
+break_no_brace c h = grind (arith, nat_tests)
+
 open_verbatim_is : (w : List ℕ) → Throughout three_quotes false w [] → verbatim_length w ≡ None
 open_verbatim_is [] h = refl
 open_verbatim_is (b ∷ w) h =
@@ -749,49 +773,52 @@ fault_read at os l bytes f some h = read_front at os l bytes some ∙ ap (by_fro
 cons_some : (b : ℕ) (bs bytes : List ℕ) → bytes ≡ b ∷ bs → 0 < length bytes
 cons_some b bs bytes h = omega (arith, ap length h)
 
--- the fault that stands there is read
+-- a fault at the front is read
 fault_is_read : (os : List Open) (l : Line) (at : ℕ) (bytes : List ℕ) (f : LexFault) → IsFault os l at bytes f
     → reading_from 0 at os l bytes ≡ Err f
-fault_is_read os l at bytes f (open_at_end is quote top told) = ap (λ xs. reading_from 0 at os l xs) is
-    ∙ ap ended_by top ∙ sym (ap (λ x. Err x) told)
-fault_is_read os l at bytes f (bad_number first others rest is run large told) =
+fault_is_read os l at bytes f (open_at_end is quote top named) = ap (λ xs. reading_from 0 at os l xs) is
+    ∙ ap ended_by top ∙ sym (ap (λ x. Err x) named)
+fault_is_read os l at bytes f (bad_number first others rest is run large named) =
     fault_read at os l bytes f (cons_some first (others ++ rest) bytes is)
-    (ap (front_of at os l) is ∙ too_large at os l first others rest run large ∙ sym (ap (λ x. Err x) told))
-fault_is_read os l at bytes f (bad_escape b quote inside rest opens is ok wrong told) =
+    (ap (front_of at os l) is ∙ too_large at os l first others rest run large ∙ sym (ap (λ x. Err x) named))
+fault_is_read os l at bytes f (bad_escape b quote inside rest opens is ok wrong named) =
     let n : length inside + 0 ≡ length inside = omega arith in
     fault_read at os l bytes f (cons_some b (inside ++ 92 ∷ rest) bytes is)
     (ap (front_of at os l) is
     ∙ piece_fault at os l b quote (inside ++ 92 ∷ rest) (further (length inside) (ends.BadEscape 0)) f
     (subst (λ xs. BeginsPiece os at b xs quote) is opens)
-    (inside_ends false inside (92 ∷ rest) (ends.BadEscape 0) ok (wrong_ends rest wrong))
-    (λ last other. ap (λ i. Err (fault.BadEscape (at + (i + 1)))) n ∙ sym (ap (λ x. Err x) told)))
-fault_is_read os l at bytes f (open_at_line b quote inside end rest opens is ok break told) =
+    (inside_ends false inside (92 ∷ rest) (ends.BadEscape 0) (inside_passes inside (92 ∷ rest) refl ok)
+    (wrong_ends rest (no_escape rest wrong)))
+    (λ last other. ap (λ i. Err (fault.BadEscape (at + (i + 1)))) n ∙ sym (ap (λ x. Err x) named)))
+fault_is_read os l at bytes f (open_at_line b quote inside end rest opens is ok break named) =
     fault_read at os l bytes f (cons_some b (inside ++ end ∷ rest) bytes is)
     (ap (front_of at os l) is
     ∙ piece_fault at os l b quote (inside ++ end ∷ rest) ends.Line f
     (subst (λ xs. BeginsPiece os at b xs quote) is opens)
-    (inside_ends false inside (end ∷ rest) ends.Line ok (break_ends end rest break))
-    (λ last other. sym (ap (λ x. Err x) told)))
-fault_is_read os l at bytes f (open_at_file b quote inside opens is ok told) =
+    (inside_ends false inside (end ∷ rest) ends.Line (inside_passes inside (end ∷ rest) (break_no_brace end break) ok)
+    (break_ends end rest break))
+    (λ last other. sym (ap (λ x. Err x) named)))
+fault_is_read os l at bytes f (open_at_file b quote inside opens is ok named) =
     fault_read at os l bytes f (cons_some b inside bytes is)
     (ap (front_of at os l) is
     ∙ piece_fault at os l b quote inside ends.File f (subst (λ xs. BeginsPiece os at b xs quote) is opens)
-    (ap (piece_end false) (sym (append-nil inside)) ∙ inside_ends false inside [] ends.File ok refl)
-    (λ last other. sym (ap (λ x. Err x) told)))
-fault_is_read os l at bytes f (open_verbatim inside is ok told) =
+    (ap (piece_end false) (sym (append-nil inside))
+    ∙ inside_ends false inside [] ends.File (inside_passes inside [] refl ok) refl)
+    (λ last other. sym (ap (λ x. Err x) named)))
+fault_is_read os l at bytes f (open_verbatim inside is ok named) =
     fault_read at os l bytes f (cons_some 39 (39 ∷ 39 ∷ inside) bytes is)
     (ap (front_of at os l) is ∙ quote_front at os l (39 ∷ 39 ∷ inside)
-    ∙ open_verbatim_front at os inside (open_verbatim_is inside ok) ∙ sym (ap (λ x. Err x) told))
-fault_is_read os l at bytes f (open_comment inside is ok told) =
+    ∙ open_verbatim_front at os inside (open_verbatim_is inside ok) ∙ sym (ap (λ x. Err x) named))
+fault_is_read os l at bytes f (open_comment inside is ok named) =
     fault_read at os l bytes f (cons_some 47 (42 ∷ inside) bytes is)
     (ap (front_of at os l) is ∙ star_front at os l inside
-    ∙ ap (commented at os l (47 ∷ 42 ∷ inside)) (open_comment_is inside ok) ∙ sym (ap (λ x. Err x) told))
-fault_is_read os l at bytes f (bad_character first others is nothing alone told) =
+    ∙ ap (commented at os l (47 ∷ 42 ∷ inside)) (open_comment_is inside ok) ∙ sym (ap (λ x. Err x) named))
+fault_is_read os l at bytes f (bad_character first others is nothing alone named) =
     fault_read at os l bytes f (cons_some first others bytes is)
     (ap (front_of at os l) is ∙ nothing_front at os l first others (subst (BeginsNothing l first) is nothing) alone
-    ∙ sym (ap (λ x. Err x) told))
+    ∙ sym (ap (λ x. Err x) named))
 
--- a source in which a fault stands is refused for it
+-- a source with a fault is refused for it
 pub refuses : (source : List ℕ) (f : LexFault) → Refuses source f → reading source ≡ Err f
 refuses source f s =
     source_is_read (λ os l at. IsFault os l at s.2 f) s.2 (Err f) (λ os l at h. fault_is_read os l at s.2 f h) source
@@ -808,7 +835,7 @@ token_some os l at kind w rest t (word_is within is) =
     subst (λ o. OnFront o (w ++ rest)) is (front_span at os l (w ++ rest)) in
     span.some
 
--- what is left behind a word
+-- what is left after a word
 left_of : (source w more : List ℕ) (at : ℕ) → drop at source ≡ w ++ more → drop (at + length w) source ≡ more
 left_of source w more at h = sym (drop-drop (length w) at source) ∙ ap (drop (length w)) h ∙ drop_seam w more
 
@@ -823,7 +850,7 @@ slices_of source Then rest (token kind w t ∷ ps) from os l at le h row = (
   le,
   token_some os l at kind w (bytes_of ps rest) t (word_front os l at kind w (bytes_of ps rest) t row.0),
   sym (ap (take (length w)) h ∙ take_seam w (bytes_of ps rest)),
-  slices_of source Then rest ps (at + length w) (turned t os) (behind_token kind) (at + length w) (omega arith)
+  slices_of source Then rest ps (at + length w) (turned t os) (line_after_token kind) (at + length w) (omega arith)
       (left_of source w (bytes_of ps rest) at h) row.1,
 )
 

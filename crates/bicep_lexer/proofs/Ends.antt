@@ -1,15 +1,13 @@
 -- How far the pieces of texts reach.
 use Rattle.std.proofs.Common.{◌≡◌, ℕ, suc, ◌+◌, ◌≤◌, Bool, true, false, cond, ◌&&◌, eqb, List, [], ◌∷◌, length, refl}
 use Rattle.std.proofs.Common.{arith}
-use Rattle.bicep_lexer.specs.Escapes.{is_escape}
-use Rattle.bicep_lexer.specs.Texts.{piece_end, further, counted, is_hole, is_break}
+use Rattle.bicep_lexer.specs.Reader.Scanning.{is_escape}
+use Rattle.bicep_lexer.specs.Reader.Scanning.{piece_end, further, counted}
+use Rattle.bicep_lexer.specs.Signs.{is_hole}
+use Rattle.bicep_lexer.specs.Texts.{is_break}
 use Rattle.bicep_lexer.specs.declared.texts.PieceEnd.{PieceEnd}
 use Rattle.bicep_lexer.specs.declared.texts.PieceEnd.TheVariants as ends
-
--- a fact of both sides of a test
-pub if_else : {A : Type 0} (P : A → Type 0) (b : Bool) (x y : A) → (b ≡ true → P x) → (b ≡ false → P y) → P (cond b x y)
-if_else P true x y f g = f refl
-if_else P false x y f g = g refl
+use Rattle.foundation.proofs.Choices.{if_else}
 
 counted-further : (e : PieceEnd) (m : ℕ) → counted e ≤ m → counted (further 1 e) ≤ m + 1
 counted-further (ends.Quote n) m h = omega arith

@@ -5,11 +5,13 @@ use Rattle.std.specs.declared.alloc.Global.{Global}
 use Rattle.bicep_lexer.specs.declared.fault.LexFault.{LexFault}
 use Rattle.bicep_lexer.specs.declared.fault.LexFault.TheVariants.{OutOfMemory}
 use Rattle.bicep_lexer.specs.declared.token.Token.{Token}
-use Rattle.bicep_lexer.specs.Reading.{Standing, Outcome, standing, reading}
-use Rattle.bicep_lexer.specs.Grammar.{Spells, AreSlices}
+use Rattle.bicep_lexer.specs.Reading.{Standing, standing}
+use Rattle.bicep_lexer.specs.Reader.Steps.{Outcome, reading}
+use Rattle.bicep_lexer.specs.Grammar.{Spells, AreSlices, AreSigned}
 use Rattle.bicep_lexer.specs.Faults.{Refuses}
 use Rattle.bicep_lexer.proofs.Complete.{complete, refuses, slices}
 use Rattle.bicep_lexer.proofs.Sound.{sound, sound_fault}
+use Rattle.bicep_lexer.proofs.SignedTokens.{texts_signed}
 
 -- what `tokens` answers
 abbrev pub Answer : Type 0
@@ -69,3 +71,9 @@ pub sliced : (source : List ℕ) (r : Answer) → GivesTokens source r
     → IfOk r (λ found. AreSlices source 0 (map standing found.items))
 sliced source (Ok found) h = slices source (map standing found.items) (sound source (map standing found.items) h)
 sliced source (Err f) h = h
+
+pub signed : (source : List ℕ) (r : Answer) → GivesTokens source r
+    → IfOk r (λ found. AreSigned (map standing found.items))
+signed source (Ok found) h =
+    texts_signed source (map standing found.items) (sound source (map standing found.items) h)
+signed source (Err f) h = h

@@ -1,9 +1,12 @@
 pub mod Scans
 pub mod Ends
+pub mod SignLaws
 pub mod Spans
 pub mod Steps
 pub mod Characters
 pub mod Complete
 pub mod Sound
+pub mod SignedTokens
 pub mod Laws
 pub mod Meaning
+pub mod SignCharacters

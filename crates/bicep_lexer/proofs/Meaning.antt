@@ -57,16 +57,17 @@ no_u c h = elim (eqb c 117) as (λ t. eqb c 117 ≡ t → t ≡ false) [
 -- each escape's character in its place
 signs_meant : (ss : List Sign) → AreSigns ss → unescaped (written ss) ≡ meant ss
 signs_meant [] h = refl
-signs_meant (itself c ∷ ss) h = passed (eqb c 92) _ _ (not_equal c 92 h.0) ∙ ap (λ xs. c ∷ xs) (signs_meant ss h.1)
+signs_meant (itself c ∷ ss) h = passed (eqb c 92) _ _ (not_equal c 92 h.0.1)
+    ∙ ap (λ xs. c ∷ xs) (signs_meant ss h.2)
 signs_meant (escape c ∷ ss) h = passed (eqb c 117) _ _ (no_u c h.0)
-    ∙ ap (λ xs. unwrap_or (simple_escape c) c ∷ xs) (signs_meant ss h.1)
+    ∙ ap (λ xs. unwrap_or (simple_escape c) c ∷ xs) (signs_meant ss h.2)
 signs_meant (unicode ds ∷ ss) h =
     let v = hexadecimal_from 0 ds in
-    braced 0 ds (written ss) h.0.0 (scalar_small v h.0.1)
-    ∙ ap (λ xs. xs ++ unescaped (written ss)) (taken (is_scalar v) (v ∷ []) [] h.0.1)
-    ∙ ap (λ xs. v ∷ xs) (signs_meant ss h.1)
+    braced 0 ds (written ss) h.0.2 (scalar_small v h.0.3)
+    ∙ ap (λ xs. xs ++ unescaped (written ss)) (taken (is_scalar v) (v ∷ []) [] h.0.3)
+    ∙ ap (λ xs. v ∷ xs) (signs_meant ss h.2)
 
--- what is inside is what stands between the ends
+-- what is inside is what is between the ends
 inside_is : (first : ℕ) (inner ends : List ℕ) → inside 1 (length ends) (first ∷ (inner ++ ends)) ≡ inner
 inside_is first inner ends =
     let n : suc (length (inner ++ ends)) - (1 + length ends) ≡ length inner = omega (arith, length-append inner ends) in

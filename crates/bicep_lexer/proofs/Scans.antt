@@ -8,16 +8,20 @@ use Rattle.std.proofs.Math.Nat.{pow-le-pow_right}
 use Rattle.std.proofs.lemmas.Grind.{pow_more}
 use Rattle.std.proofs.lemmas.Bool.Decides.{nat_tests}
 use Rattle.bicep_lexer.specs.Bytes.{number_from}
-use Rattle.bicep_lexer.specs.Skipped.{newline_length, line_length, closes_comment, comment_length}
-use Rattle.bicep_lexer.specs.Escapes.{is_escape, hexadecimal, closed_number}
-use Rattle.bicep_lexer.specs.Texts.{quotes, verbatim_length, further, piece_end, is_hole, is_break}
+use Rattle.bicep_lexer.specs.Skipped.{newline_length, closes_comment}
+use Rattle.bicep_lexer.specs.Reader.Scanning.{line_length, comment_length}
+use Rattle.bicep_lexer.specs.Reader.Scanning.{is_escape, closed_number}
+use Rattle.bicep_lexer.specs.Escapes.{hexadecimal}
+use Rattle.bicep_lexer.specs.Texts.{quotes, is_break}
+use Rattle.bicep_lexer.specs.Reader.Scanning.{verbatim_length, further, piece_end}
+use Rattle.bicep_lexer.specs.Signs.{is_hole}
 use Rattle.bicep_lexer.specs.declared.texts.PieceEnd.{PieceEnd}
 use Rattle.bicep_lexer.specs.declared.texts.PieceEnd.TheVariants as ends
 
 line_one : (b : ℕ) (bs : List ℕ) → newline_length (b ∷ bs) ≡ 0 → line_length (b ∷ bs) ≡ suc (line_length bs)
 line_one b bs h = ap (λ k. cond (eqb k 0) (suc (line_length bs)) 0) h
 
--- where no line's end stands, the line is one byte longer than the rest says
+-- where no line ends, the line is one byte longer than from the next byte on
 pub line_step : (bytes : List ℕ) (n : ℕ) → n < length bytes → newline_length (drop n bytes) ≡ 0
     → line_length (drop n bytes) ≡ suc (line_length (drop (n + 1) bytes))
 line_step bytes n lt h =
@@ -69,7 +73,7 @@ further-more n (ends.BadEscape m) = let e : n + (1 + m) ≡ n + 1 + m = omega ar
 pub tail_is : (bytes : List ℕ) (n : ℕ) → take (length bytes - n) (drop n bytes) ≡ drop n bytes
 tail_is bytes n = ap (λ k. take k (drop n bytes)) (sym (length-drop n bytes)) ∙ take-length (drop n bytes)
 
--- a byte behind a `\`
+-- a byte after a `\`
 pub escaped_step : (bytes : List ℕ) (n : ℕ) → n < length bytes
     → further n (piece_end true (drop n bytes)) ≡ further (n + 1) (piece_end false (drop (n + 1) bytes))
 escaped_step bytes n lt = ap (further n) (at_drop_more (piece_end true) bytes n 0 lt)
@@ -79,7 +83,7 @@ plain_one : (b : ℕ) (bs : List ℕ) → (b ≡ 39 → ⊥) → is_hole b bs �
     → piece_end false (b ∷ bs) ≡ further 1 (piece_end false bs)
 plain_one b bs quote hole break backslash = grind (arith, nat_tests)
 
--- a byte that stands for itself
+-- a byte that is itself
 pub plain_step : (bytes rest : List ℕ) (n : ℕ) → rest ≡ drop (n + 1) bytes → n < length bytes
     → (get_or bytes n 0 ≡ 39 → ⊥) → is_hole (get_or bytes n 0) rest ≡ false → is_break (get_or bytes n 0) ≡ false
     → (get_or bytes n 0 ≡ 92 → ⊥)
@@ -137,7 +141,7 @@ hexadecimal_fits digits n d some most small digit =
     let p : 16 ^ (6 - (digits - 1)) ≤ 16 ^ 6 = pow-le-pow_right {n = 16} sixteen {i = 6 - (digits - 1)} {j = 6} le in
     omega (arith, hexadecimal_grows digits n d some most small digit, p)
 
--- from how what is left ends, before and behind a byte, to how the whole ends
+-- from how what is left ends, before and after a byte, to how the whole ends
 pub ended_step : (bytes : List ℕ) (n : ℕ) (e e' x y : Bool) (r : PieceEnd) → e ≡ x → e' ≡ y
     → further n (piece_end x (drop n bytes)) ≡ further (n + 1) (piece_end y (drop (n + 1) bytes))
     → further n (piece_end e (drop n bytes)) ≡ r → further (n + 1) (piece_end e' (drop (n + 1) bytes)) ≡ r

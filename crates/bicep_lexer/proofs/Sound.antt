@@ -23,38 +23,48 @@ use Rattle.bicep_lexer.specs.declared.front.Front.{Front}
 use Rattle.bicep_lexer.specs.declared.front.Front.TheVariants as front
 use Rattle.bicep_lexer.specs.declared.texts.PieceEnd.{PieceEnd}
 use Rattle.bicep_lexer.specs.declared.texts.PieceEnd.TheVariants as ends
-use Rattle.bicep_lexer.specs.Bytes.{is_letter, is_name_byte, is_blank, begins_with, name_length, digits_of, number_from}
-use Rattle.bicep_lexer.specs.Escapes.{is_escape}
+use Rattle.bicep_lexer.specs.Bytes.{is_letter, is_name_byte, is_blank, begins_with, number_from}
+use Rattle.bicep_lexer.specs.Reader.Scanning.{name_length, digits_of}
+use Rattle.bicep_lexer.specs.Reader.Scanning.{is_escape}
 use Rattle.bicep_lexer.specs.Marks.{double_mark, single_mark}
-use Rattle.bicep_lexer.specs.Skipped.{newline_length, line_length, closes_comment, comment_length, behind_comment}
+use Rattle.bicep_lexer.specs.Signs.{IsInside, BeginsEscape}
+use Rattle.bicep_lexer.specs.Skipped.{newline_length, closes_comment, line_after_comment}
+use Rattle.bicep_lexer.specs.Reader.Scanning.{line_length, comment_length}
 use Rattle.bicep_lexer.specs.Skipped.{is_directive}
-use Rattle.bicep_lexer.specs.Texts.{piece_end, further, is_hole, is_break, quotes, verbatim_length}
-use Rattle.bicep_lexer.specs.Fronts.{outermost, innermost, word, number_front, piece, verbatim, text_front, closed}
-use Rattle.bicep_lexer.specs.Fronts.{close_front, opens_comment, commented, comment_front, newline_front}
-use Rattle.bicep_lexer.specs.Fronts.{directive_front, single, double, mark_front, front_by, front_of}
-use Rattle.bicep_lexer.specs.Reading.{Standing, Outcome, turned, before, ended_by, reading_from, mark_length, reading}
-use Rattle.bicep_lexer.specs.Progress.{OnFront}
-use Rattle.bicep_lexer.specs.Grammar.{Throughout, IsRun, ends_line, IsLine, IsInside, three_quotes, IsLineEnd}
+use Rattle.bicep_lexer.specs.Reader.Scanning.{piece_end, further, verbatim_length}
+use Rattle.bicep_lexer.specs.Signs.{is_hole}
+use Rattle.bicep_lexer.specs.Texts.{is_break, quotes}
+use Rattle.bicep_lexer.specs.Grammar.{outermost, innermost}
+use Rattle.bicep_lexer.specs.Reader.Fronts.{word, number_front, piece, verbatim, text_front, closed}
+use Rattle.bicep_lexer.specs.Reader.Fronts.{close_front, commented, comment_front, newline_front}
+use Rattle.bicep_lexer.specs.Grammar.{opens_comment}
+use Rattle.bicep_lexer.specs.Reader.Fronts.{directive_front, single, double, mark_front, front_by, front_of}
+use Rattle.bicep_lexer.specs.Reading.{Standing}
+use Rattle.bicep_lexer.specs.Reader.Steps.{Outcome, before, ended_by, reading_from, reading}
+use Rattle.bicep_lexer.specs.Grammar.{turned, mark_length}
+use Rattle.bicep_lexer.specs.Reader.Steps.{OnFront}
+use Rattle.bicep_lexer.specs.Grammar.{Throughout, IsRun, ends_line, IsLine, three_quotes, IsLineEnd}
 use Rattle.bicep_lexer.specs.Grammar.{makes_double, IsWord, name, number, newline, text, left, middle, right}
 use Rattle.bicep_lexer.specs.Grammar.{verbatim as verbatim_word, open_brace, close_brace, lone_brace}
 use Rattle.bicep_lexer.specs.Grammar.{double as double_word, single as single_word, IsSkipped, blank, line_comment}
 use Rattle.bicep_lexer.specs.Grammar.{comment, directive, folded, Part, skip, token, bytes_of, tokens_of}
-use Rattle.bicep_lexer.specs.Grammar.{behind_token, InARow, StandsBefore, NoneIsOpen, Spells}
+use Rattle.bicep_lexer.specs.Grammar.{line_after_token, InARow, StandsBefore, NoneIsOpen, Spells}
 use Rattle.bicep_lexer.specs.Faults.{BeginsNothing, IsFault, open_at_end, bad_number, bad_escape, open_at_line}
 use Rattle.bicep_lexer.specs.Faults.{open_at_file, open_verbatim, open_comment, bad_character, Refuses}
-use Rattle.bicep_lexer.proofs.Ends.{if_else}
+use Rattle.foundation.proofs.Choices.{if_else}
+use Rattle.bicep_lexer.proofs.SignLaws.{Passes, passes_inside, escape_reads, break_stops}
 use Rattle.bicep_lexer.proofs.Spans.{front_span, quotes_is, quotes_reach}
 use Rattle.bicep_lexer.proofs.Steps.{by_front, read_front, reading-skip}
 use Rattle.bicep_lexer.proofs.Complete.{taken, take_seam, drop_seam, single_facts, double_facts, SingleFacts}
 use Rattle.bicep_lexer.proofs.Complete.{DoubleFacts}
 
--- what may stand at the front
+-- what a front may be
 abbrev OnGood : List Open → Line → ℕ → Result Front LexFault → List ℕ → Type 0
 OnGood os l at (Err f) bytes = IsFault os l at bytes f
 OnGood os l at (Ok (front.Skipped n next)) bytes = IsSkipped l (take n bytes) (drop n bytes) next
 OnGood os l at (Ok (front.Newline n)) bytes = IsWord os l at k.Newline (take n bytes) (drop n bytes) turn.Stays
 OnGood os l at (Ok (front.Word kind n t)) bytes = IsWord os l at kind (take n bytes) (drop n bytes) t
-    × (behind_token kind ≡ line.Within)
+    × (line_after_token kind ≡ line.Within)
 
 -- a word and its rest, as the first bytes and the others
 split_word : (os : List Open) (l : Line) (at : ℕ) (kind : TokenKind) (t : Turn) (w rest bytes : List ℕ) (n : ℕ)
@@ -128,18 +138,18 @@ number_good os l at b bs h =
 -- how what is inside a piece ends
 abbrev InsideOf : Bool → List ℕ → PieceEnd → Type 0
 InsideOf escaped bs (ends.Quote n) = (w : List ℕ) × (rest : List ℕ) × (bs ≡ w ++ 39 ∷ rest) × (n ≡ length w + 1)
-    × IsInside escaped w (39 ∷ rest)
+    × Passes escaped w (39 ∷ rest)
 InsideOf escaped bs (ends.Hole n) = (w : List ℕ) × (rest : List ℕ) × (bs ≡ w ++ 36 ∷ 123 ∷ rest) × (n ≡ length w + 2)
-    × IsInside escaped w (36 ∷ 123 ∷ rest)
+    × Passes escaped w (36 ∷ 123 ∷ rest)
 InsideOf escaped bs ends.Line = (w : List ℕ) × (end : ℕ) × (rest : List ℕ) × (bs ≡ w ++ end ∷ rest)
-    × (is_break end ≡ true) × IsInside escaped w (end ∷ rest)
-InsideOf escaped bs ends.File = (escaped ≡ true → 0 < length bs) → IsInside escaped bs []
+    × (is_break end ≡ true) × Passes escaped w (end ∷ rest)
+InsideOf escaped bs ends.File = (escaped ≡ true → 0 < length bs) → Passes escaped bs []
 InsideOf escaped bs (ends.BadEscape n) = (w : List ℕ) × (rest : List ℕ) × (bs ≡ w ++ 92 ∷ rest) × (n ≡ length w)
-    × (is_escape rest ≡ false) × IsInside escaped w (92 ∷ rest)
+    × (is_escape rest ≡ false) × Passes escaped w (92 ∷ rest)
 
 -- one byte more inside
 inside_more : (escaped next : Bool) (b : ℕ) (bs : List ℕ) (e : PieceEnd)
-    → ((w tail : List ℕ) → bs ≡ w ++ tail → IsInside next w tail → IsInside escaped (b ∷ w) tail)
+    → ((w tail : List ℕ) → bs ≡ w ++ tail → Passes next w tail → Passes escaped (b ∷ w) tail)
     → (next ≡ true → 0 < length bs) → InsideOf next bs e → InsideOf escaped (b ∷ bs) (further 1 e)
 inside_more escaped next b bs (ends.Quote n) more some h =
     let count : 1 + n ≡ suc (length h.0) + 1 = omega (arith, h.3) in
@@ -187,7 +197,7 @@ inside_good false (b ∷ bs) =
       subst (λ x. is_hole b x ≡ false) is no_hole,
       no_break,
       (λ e. subst (λ x. is_escape x ≡ true) is right),
-      subst (λ t. IsInside t w tail) (sym y) i,
+      subst (λ t. Passes t w tail) (sym y) i,
     ))
     (λ e. escape_some bs right) (inside_good true bs))
     (λ wrong. ([], bs, ap (λ x. x ∷ bs) (eqb-true b 92 y), refl, wrong, refl)))
@@ -197,7 +207,7 @@ inside_good false (b ∷ bs) =
       subst (λ x. is_hole b x ≡ false) is no_hole,
       no_break,
       (λ e. absurd (unequal b 92 no_backslash e)),
-      subst (λ t. IsInside t w tail) (sym no_backslash) i,
+      subst (λ t. Passes t w tail) (sym no_backslash) i,
     ))
     (λ e. absurd cc) (inside_good false bs)))))
 
@@ -214,27 +224,50 @@ quote_count n w h = omega (arith, h, length-append w (39 ∷ []))
 hole_count : (n : ℕ) (w : List ℕ) → n ≡ length w + 2 → n + 1 ≡ suc (length (w ++ 36 ∷ 123 ∷ []))
 hole_count n w h = omega (arith, h, length-append w (36 ∷ 123 ∷ []))
 
+-- what is inside, before each end of a piece
+quote_inside : (w rest : List ℕ) → Passes false w (39 ∷ rest) → IsInside w
+quote_inside w rest h = passes_inside w (39 ∷ rest) (refl, refl, refl) h
+
+hole_inside : (w rest : List ℕ) → Passes false w (36 ∷ 123 ∷ rest) → IsInside w
+hole_inside w rest h = passes_inside w (36 ∷ 123 ∷ rest) (refl, refl, refl) h
+
+break_inside : (w : List ℕ) (end : ℕ) (rest : List ℕ) → is_break end ≡ true → Passes false w (end ∷ rest) → IsInside w
+break_inside w end rest break h = passes_inside w (end ∷ rest) (break_stops end rest break) h
+
+backslash_inside : (w rest : List ℕ) → Passes false w (92 ∷ rest) → IsInside w
+backslash_inside w rest h = passes_inside w (92 ∷ rest) (refl, refl, refl) h
+
+wrong_escape : (rest : List ℕ) → is_escape rest ≡ false → ¬ BeginsEscape (92 ∷ rest)
+wrong_escape rest h e = absurd_both (is_escape rest) (escape_reads rest e) h
+  where
+    absurd_both : (b : Bool) → b ≡ true → b ≡ false → ⊥
+    absurd_both true h i = cc
+    absurd_both false h i = cc
+
 text_good : (os : List Open) (l : Line) (at : ℕ) (bs : List ℕ) (e : PieceEnd) → quotes 3 (39 ∷ bs) == 3 ≡ false
     → InsideOf false bs e
     → OnGood os l at (piece at at os (k.Text, turn.Stays) (k.LeftPiece, turn.Opens (opened.Text at)) e) (39 ∷ bs)
 text_good os l at bs (ends.Quote n) short h =
     let whole = quote_split 39 n h.0 h.1 bs h.2 in (
       split_word os l at k.Text turn.Stays (39 ∷ (h.0 ++ 39 ∷ [])) h.1 (39 ∷ bs) (n + 1) whole (quote_count n h.0 h.3)
-          (text refl refl h.0 refl h.4 (subst (λ x. quotes 3 x == 3 ≡ false) whole short)),
+          (text refl refl h.0 refl (quote_inside h.0 h.1 h.4) (subst (λ x. quotes 3 x == 3 ≡ false) whole short)),
       refl,
     )
 text_good os l at bs (ends.Hole n) short h =
     let whole = hole_split 39 n h.0 h.1 bs h.2 in (
       split_word os l at k.LeftPiece (turn.Opens (opened.Text at)) (39 ∷ (h.0 ++ 36 ∷ 123 ∷ [])) h.1 (39 ∷ bs)
           (n + 1) whole (hole_count n h.0 h.3)
-          (left refl refl h.0 refl h.4 (subst (λ x. quotes 3 x == 3 ≡ false) whole short)),
+          (left refl refl h.0 refl (hole_inside h.0 h.1 h.4) (subst (λ x. quotes 3 x == 3 ≡ false) whole short)),
       refl,
     )
 text_good os l at bs ends.Line short h =
-    open_at_line 39 at h.0 h.1 h.2 (inl (refl, refl, short)) (ap (λ xs. 39 ∷ xs) h.3) h.5 h.4 refl
-text_good os l at bs ends.File short h = open_at_file 39 at bs (inl (refl, refl, short)) refl (h (λ e. absurd cc)) refl
+    open_at_line 39 at h.0 h.1 h.2 (inl (refl, refl, short)) (ap (λ xs. 39 ∷ xs) h.3)
+    (break_inside h.0 h.1 h.2 h.4 h.5) h.4 refl
+text_good os l at bs ends.File short h =
+    open_at_file 39 at bs (inl (refl, refl, short)) refl (passes_inside bs [] tt (h (λ e. absurd cc))) refl
 text_good os l at bs (ends.BadEscape n) short h =
-    bad_escape 39 at h.0 h.1 (inl (refl, refl, short)) (ap (λ xs. 39 ∷ xs) h.2) h.5 h.4
+    bad_escape 39 at h.0 h.1 (inl (refl, refl, short)) (ap (λ xs. 39 ∷ xs) h.2) (backslash_inside h.0 h.1 h.5)
+    (wrong_escape h.1 h.4)
     (ap (λ i. fault.BadEscape (at + (i + 1))) h.3)
 
 later_good : (os : List Open) (l : Line) (at quote : ℕ) (bs : List ℕ) (e : PieceEnd)
@@ -243,20 +276,23 @@ later_good : (os : List Open) (l : Line) (at quote : ℕ) (bs : List ℕ) (e : P
 later_good os l at quote bs (ends.Quote n) top h = (
   split_word os l at k.RightPiece turn.Closes (125 ∷ (h.0 ++ 39 ∷ [])) h.1 (125 ∷ bs) (n + 1)
       (quote_split 125 n h.0 h.1 bs h.2) (quote_count n h.0 h.3)
-      (right refl refl quote top h.0 refl h.4),
+      (right refl refl quote top h.0 refl (quote_inside h.0 h.1 h.4)),
   refl,
 )
 later_good os l at quote bs (ends.Hole n) top h = (
   split_word os l at k.MiddlePiece turn.Stays (125 ∷ (h.0 ++ 36 ∷ 123 ∷ [])) h.1 (125 ∷ bs) (n + 1)
       (hole_split 125 n h.0 h.1 bs h.2) (hole_count n h.0 h.3)
-      (middle refl refl quote top h.0 refl h.4),
+      (middle refl refl quote top h.0 refl (hole_inside h.0 h.1 h.4)),
   refl,
 )
 later_good os l at quote bs ends.Line top h =
-    open_at_line 125 quote h.0 h.1 h.2 (inr (refl, top)) (ap (λ xs. 125 ∷ xs) h.3) h.5 h.4 refl
-later_good os l at quote bs ends.File top h = open_at_file 125 quote bs (inr (refl, top)) refl (h (λ e. absurd cc)) refl
+    open_at_line 125 quote h.0 h.1 h.2 (inr (refl, top)) (ap (λ xs. 125 ∷ xs) h.3) (break_inside h.0 h.1 h.2 h.4 h.5)
+    h.4 refl
+later_good os l at quote bs ends.File top h =
+    open_at_file 125 quote bs (inr (refl, top)) refl (passes_inside bs [] tt (h (λ e. absurd cc))) refl
 later_good os l at quote bs (ends.BadEscape n) top h =
-    bad_escape 125 quote h.0 h.1 (inr (refl, top)) (ap (λ xs. 125 ∷ xs) h.2) h.5 h.4
+    bad_escape 125 quote h.0 h.1 (inr (refl, top)) (ap (λ xs. 125 ∷ xs) h.2) (backslash_inside h.0 h.1 h.5)
+    (wrong_escape h.1 h.4)
     (ap (λ i. fault.BadEscape (at + (i + 1))) h.3)
 
 -- how a verbatim text ends
@@ -415,9 +451,9 @@ comment_is_good os l at bs (Some n) h =
     let word_is : w ++ 42 ∷ 47 ∷ [] ≡ take n bs =
     sym (ap (λ i. take i bs) count ∙ ap (take (length (w ++ 42 ∷ 47 ∷ []))) whole
     ∙ take_seam (w ++ 42 ∷ 47 ∷ []) rest) in
-    split_skipped l (behind_comment l (take n bs)) (47 ∷ 42 ∷ (w ++ 42 ∷ 47 ∷ [])) rest (47 ∷ 42 ∷ bs) (n + 2)
+    split_skipped l (line_after_comment l (take n bs)) (47 ∷ 42 ∷ (w ++ 42 ∷ 47 ∷ [])) rest (47 ∷ 42 ∷ bs) (n + 2)
     (ap (λ xs. 47 ∷ 42 ∷ xs) whole) all
-    (comment w (ap (behind_comment l) (sym word_is)) refl h.3)
+    (comment w (ap (line_after_comment l) (sym word_is)) refl h.3)
 
 comment_front_good : (os : List Open) (l : Line) (at : ℕ) (bs : List ℕ)
     → OnGood os l at (comment_front at os l (47 ∷ 42 ∷ bs)) (47 ∷ 42 ∷ bs)
@@ -579,7 +615,7 @@ RowTo Then rest os l at bytes ps = (bytes_of ps rest ≡ bytes) × InARow Then r
 token_row : (Then : List Open → Line → ℕ → Type 0) (rest : List ℕ) (os : List Open) (l : Line) (at : ℕ)
     (bytes : List ℕ) (kind : TokenKind) (n : ℕ) (t : Turn) (ps : List Part) → n ≤ length bytes
     → IsWord os l at kind (take n bytes) (drop n bytes) t
-    → RowTo Then rest (turned t os) (behind_token kind) (at + n) (drop n bytes) ps
+    → RowTo Then rest (turned t os) (line_after_token kind) (at + n) (drop n bytes) ps
     → RowTo Then rest os l at bytes (token kind (take n bytes) t ∷ ps)
 token_row Then rest os l at bytes kind n t ps within is_word r =
     let w = take n bytes in
@@ -587,7 +623,7 @@ token_row Then rest os l at bytes kind n t ps within is_word r =
       ap (λ xs. w ++ xs) r.0 ∙ take-append-drop n bytes,
       (
         subst (λ xs. IsWord os l at kind w xs t) (sym r.0) is_word,
-        subst (λ i. InARow Then rest (turned t os) (behind_token kind) (at + i) ps) count r.1,
+        subst (λ i. InARow Then rest (turned t os) (line_after_token kind) (at + i) ps) count r.1,
       ),
     )
 
@@ -606,74 +642,74 @@ skip_row Then rest os l next at bytes n ps within skipped r =
     )
 
 -- what the reading of what is left says of it
-abbrev Told : Outcome → List Open → Line → ℕ → List ℕ → Type 0
-Told (Ok ts) os l at bytes = (ps : List Part) × RowTo NoneIsOpen [] os l at bytes ps × (ts ≡ tokens_of at ps)
-Told (Err f) os l at bytes = (ps : List Part) × (rest : List ℕ)
+abbrev Reads : Outcome → List Open → Line → ℕ → List ℕ → Type 0
+Reads (Ok ts) os l at bytes = (ps : List Part) × RowTo NoneIsOpen [] os l at bytes ps × (ts ≡ tokens_of at ps)
+Reads (Err f) os l at bytes = (ps : List Part) × (rest : List ℕ)
     × RowTo (λ os l at. IsFault os l at rest f) rest os l at bytes ps
 
-token_told : (os : List Open) (l : Line) (at : ℕ) (bytes : List ℕ) (kind : TokenKind) (n : ℕ) (t : Turn) (o : Outcome)
+token_reads : (os : List Open) (l : Line) (at : ℕ) (bytes : List ℕ) (kind : TokenKind) (n : ℕ) (t : Turn) (o : Outcome)
     → n ≤ length bytes → IsWord os l at kind (take n bytes) (drop n bytes) t
-    → Told o (turned t os) (behind_token kind) (at + n) (drop n bytes)
-    → Told (before (kind, at, take n bytes) o) os l at bytes
-token_told os l at bytes kind n t (Ok ts) within is_word r =
+    → Reads o (turned t os) (line_after_token kind) (at + n) (drop n bytes)
+    → Reads (before (kind, at, take n bytes) o) os l at bytes
+token_reads os l at bytes kind n t (Ok ts) within is_word r =
     let w = take n bytes in
     let count : n ≡ length w = sym (length-take-le n bytes within) in (
       token kind w t ∷ r.0,
       token_row NoneIsOpen [] os l at bytes kind n t r.0 within is_word r.1,
       ap (λ xs. (kind, at, w) ∷ xs) (r.2 ∙ ap (λ i. tokens_of (at + i) r.0) count),
     )
-token_told os l at bytes kind n t (Err f) within is_word r = (
+token_reads os l at bytes kind n t (Err f) within is_word r = (
   token kind (take n bytes) t ∷ r.0,
   r.1,
   token_row (λ os l at. IsFault os l at r.1 f) r.1 os l at bytes kind n t r.0 within is_word r.2,
 )
 
-skip_told : (os : List Open) (l next : Line) (at : ℕ) (bytes : List ℕ) (n : ℕ) (o : Outcome) → n ≤ length bytes
-    → IsSkipped l (take n bytes) (drop n bytes) next → Told o os next (at + n) (drop n bytes) → Told o os l at bytes
-skip_told os l next at bytes n (Ok ts) within skipped r =
+skip_reads : (os : List Open) (l next : Line) (at : ℕ) (bytes : List ℕ) (n : ℕ) (o : Outcome) → n ≤ length bytes
+    → IsSkipped l (take n bytes) (drop n bytes) next → Reads o os next (at + n) (drop n bytes) → Reads o os l at bytes
+skip_reads os l next at bytes n (Ok ts) within skipped r =
     let count : n ≡ length (take n bytes) = sym (length-take-le n bytes within) in (
       skip (take n bytes) next ∷ r.0,
       skip_row NoneIsOpen [] os l next at bytes n r.0 within skipped r.1,
       r.2 ∙ ap (λ i. tokens_of (at + i) r.0) count,
     )
-skip_told os l next at bytes n (Err f) within skipped r = (
+skip_reads os l next at bytes n (Err f) within skipped r = (
   skip (take n bytes) next ∷ r.0,
   r.1,
   skip_row (λ os l at. IsFault os l at r.1 f) r.1 os l next at bytes n r.0 within skipped r.2,
 )
 
 -- the same for all that is shorter
-abbrev ToldBelow : ℕ → Type 0
-ToldBelow m = (os : List Open) (l : Line) (at : ℕ) (bytes : List ℕ) → length bytes ≤ m
-    → Told (reading_from 0 at os l bytes) os l at bytes
+abbrev ReadsBelow : ℕ → Type 0
+ReadsBelow m = (os : List Open) (l : Line) (at : ℕ) (bytes : List ℕ) → length bytes ≤ m
+    → Reads (reading_from 0 at os l bytes) os l at bytes
 
-front_told : (m : ℕ) → ToldBelow m → (os : List Open) (l : Line) (at : ℕ) (bytes : List ℕ) (o : Result Front LexFault)
-    → length bytes ≤ suc m → OnFront o bytes → OnGood os l at o bytes → Told (by_front at os bytes o) os l at bytes
-front_told m below os l at bytes (Err f) most span good = ([], bytes, (refl, good))
-front_told m below os l at bytes (Ok (front.Skipped n next)) most span good =
-    skip_told os l next at bytes n (reading_from 0 (at + n) os next (drop n bytes)) span.1 good
+front_reads : (m : ℕ) → ReadsBelow m → (os : List Open) (l : Line) (at : ℕ) (bytes : List ℕ) (o : Result Front LexFault)
+    → length bytes ≤ suc m → OnFront o bytes → OnGood os l at o bytes → Reads (by_front at os bytes o) os l at bytes
+front_reads m below os l at bytes (Err f) most span good = ([], bytes, (refl, good))
+front_reads m below os l at bytes (Ok (front.Skipped n next)) most span good =
+    skip_reads os l next at bytes n (reading_from 0 (at + n) os next (drop n bytes)) span.1 good
     (below os next (at + n) (drop n bytes) (omega (arith, length-drop n bytes, span.0, most)))
-front_told m below os l at bytes (Ok (front.Newline n)) most span good =
-    token_told os l at bytes k.Newline n turn.Stays (reading_from 0 (at + n) os line.Folded (drop n bytes))
+front_reads m below os l at bytes (Ok (front.Newline n)) most span good =
+    token_reads os l at bytes k.Newline n turn.Stays (reading_from 0 (at + n) os line.Folded (drop n bytes))
     span.within good
     (below os line.Folded (at + n) (drop n bytes) (omega (arith, length-drop n bytes, span.some, most)))
-front_told m below os l at bytes (Ok (front.Word kind n t)) most span good =
-    token_told os l at bytes kind n t (reading_from 0 (at + n) (turned t os) line.Within (drop n bytes)) span.within
+front_reads m below os l at bytes (Ok (front.Word kind n t)) most span good =
+    token_reads os l at bytes kind n t (reading_from 0 (at + n) (turned t os) line.Within (drop n bytes)) span.within
     good.0
-    (subst (λ x. Told (reading_from 0 (at + n) (turned t os) line.Within (drop n bytes)) (turned t os) x (at + n)
+    (subst (λ x. Reads (reading_from 0 (at + n) (turned t os) line.Within (drop n bytes)) (turned t os) x (at + n)
     (drop n bytes)) (sym good.1)
     (below (turned t os) line.Within (at + n) (drop n bytes) (omega (arith, length-drop n bytes, span.some, most))))
 
-end_told : (os : List Open) (l : Line) (at : ℕ) (o : Option ℕ) → outermost os ≡ o → Told (ended_by o) os l at []
-end_told os l at None top = ([], (refl, top), refl)
-end_told os l at (Some quote) top = ([], [], (refl, open_at_end refl quote top refl))
+end_reads : (os : List Open) (l : Line) (at : ℕ) (o : Option ℕ) → outermost os ≡ o → Reads (ended_by o) os l at []
+end_reads os l at None top = ([], (refl, top), refl)
+end_reads os l at (Some quote) top = ([], [], (refl, open_at_end refl quote top refl))
 
-told : (m : ℕ) → ToldBelow m
-told m os l at [] most = end_told os l at (outermost os) refl
-told zero os l at (b ∷ bs) most = absurd (omega arith)
-told (suc m) os l at (b ∷ bs) most =
-    subst (λ o. Told o os l at (b ∷ bs)) (sym (read_front at os l (b ∷ bs) (omega arith)))
-    (front_told m (told m) os l at (b ∷ bs) (front_of at os l (b ∷ bs)) most (front_span at os l (b ∷ bs))
+reads : (m : ℕ) → ReadsBelow m
+reads m os l at [] most = end_reads os l at (outermost os) refl
+reads zero os l at (b ∷ bs) most = absurd (omega arith)
+reads (suc m) os l at (b ∷ bs) most =
+    subst (λ o. Reads o os l at (b ∷ bs)) (sym (read_front at os l (b ∷ bs) (omega arith)))
+    (front_reads m (reads m) os l at (b ∷ bs) (front_of at os l (b ∷ bs)) most (front_span at os l (b ∷ bs))
     (front_good os l at b bs))
 
 mark-within : (source : List ℕ) → mark_length source ≤ length source
@@ -692,7 +728,7 @@ mark-within (b ∷ c ∷ d ∷ source) =
 
 -- what the reading of a source says of what is below its byte order mark
 below_mark : (source : List ℕ)
-    → Told (reading source) [] line.Front (length (take (mark_length source) source))
+    → Reads (reading source) [] line.Front (length (take (mark_length source) source))
     (drop (mark_length source) source)
 unfolding reading
 below_mark source =
@@ -703,14 +739,14 @@ below_mark source =
     let read : reading_from 0 n [] line.Front (drop n source) ≡ reading_from n 0 [] line.Front source =
     sym (reading-skip n 0 [] line.Front source within
     ∙ ap (λ i. reading_from 0 i [] line.Front (drop n source)) e) in
-    subst (λ i. Told (reading_from n 0 [] line.Front source) [] line.Front i (drop n source)) count
-    (subst (λ o. Told o [] line.Front n (drop n source)) read
-    (told (length (drop n source)) [] line.Front n (drop n source) (omega arith)))
+    subst (λ i. Reads (reading_from n 0 [] line.Front source) [] line.Front i (drop n source)) count
+    (subst (λ o. Reads o [] line.Front n (drop n source)) read
+    (reads (length (drop n source)) [] line.Front n (drop n source) (omega arith)))
 
-stands : (source rest : List ℕ) (ps : List Part) (Then : List Open → Line → ℕ → Type 0)
+row_before : (source rest : List ℕ) (ps : List Part) (Then : List Open → Line → ℕ → Type 0)
     → RowTo Then rest [] line.Front (length (take (mark_length source) source)) (drop (mark_length source) source) ps
     → StandsBefore source rest (take (mark_length source) source) ps Then
-stands source rest ps Then r =
+row_before source rest ps Then r =
     let n = mark_length source in
     record {
       is = sym (ap (λ xs. take n source ++ xs) r.0 ∙ take-append-drop n source);
@@ -722,14 +758,14 @@ stands source rest ps Then r =
 pub sound : (source : List ℕ) (tokens : List Standing) → reading source ≡ Ok tokens → Spells source tokens
 sound source tokens h =
     let n = mark_length source in
-    let r : Told (Ok tokens) [] line.Front (length (take n source)) (drop n source) =
-    subst (λ o. Told o [] line.Front (length (take n source)) (drop n source)) h (below_mark source) in
-    (take n source, r.0, stands source [] r.0 NoneIsOpen r.1, r.2)
+    let r : Reads (Ok tokens) [] line.Front (length (take n source)) (drop n source) =
+    subst (λ o. Reads o [] line.Front (length (take n source)) (drop n source)) h (below_mark source) in
+    (take n source, r.0, row_before source [] r.0 NoneIsOpen r.1, r.2)
 
 -- a source that is read as a fault is refused for it
 pub sound_fault : (source : List ℕ) (f : LexFault) → reading source ≡ Err f → Refuses source f
 sound_fault source f h =
     let n = mark_length source in
-    let r : Told (Err f) [] line.Front (length (take n source)) (drop n source) =
-    subst (λ o. Told o [] line.Front (length (take n source)) (drop n source)) h (below_mark source) in
-    (take n source, r.0, r.1, stands source r.1 r.0 (λ os l at. IsFault os l at r.1 f) r.2)
+    let r : Reads (Err f) [] line.Front (length (take n source)) (drop n source) =
+    subst (λ o. Reads o [] line.Front (length (take n source)) (drop n source)) h (below_mark source) in
+    (take n source, r.0, r.1, row_before source r.1 r.0 (λ os l at. IsFault os l at r.1 f) r.2)

@@ -1,4 +1,4 @@
--- What stands at the front has bytes, no more than are there, and a token begins and ends with ASCII.
+-- A front has at least one byte and no more than the rest has, and a token begins and ends with ASCII.
 use Rattle.std.proofs.Common.{◌≡◌, ℕ, zero, suc, ◌+◌, ◌-◌, ◌^◌, ◌<◌, ◌≤◌, Bool, true, false, cond, not, ◌&&◌, ◌||◌}
 use Rattle.std.proofs.Common.{eqb, nat_lt, nat_le, List, [], ◌∷◌, length, take, drop, get_or, Option, Some, None}
 use Rattle.std.proofs.Common.{Result, Ok, option_map, refl, ap, sym, subst, ◌∙◌, arith}
@@ -20,16 +20,23 @@ use Rattle.bicep_lexer.specs.declared.front.Front.{Front}
 use Rattle.bicep_lexer.specs.declared.front.Front.TheVariants as front
 use Rattle.bicep_lexer.specs.declared.texts.PieceEnd.{PieceEnd}
 use Rattle.bicep_lexer.specs.declared.texts.PieceEnd.TheVariants as ends
-use Rattle.bicep_lexer.specs.Bytes.{is_letter, is_name_byte, is_blank, name_length, digits_of, number_from}
-use Rattle.bicep_lexer.specs.Escapes.{is_escape}
+use Rattle.bicep_lexer.specs.Bytes.{is_letter, is_name_byte, is_blank, number_from}
+use Rattle.bicep_lexer.specs.Reader.Scanning.{name_length, digits_of}
+use Rattle.bicep_lexer.specs.Reader.Scanning.{is_escape}
 use Rattle.bicep_lexer.specs.Marks.{double_mark, single_mark}
-use Rattle.bicep_lexer.specs.Skipped.{newline_length, line_length, closes_comment, comment_length, is_directive}
-use Rattle.bicep_lexer.specs.Texts.{piece_end, further, is_hole, is_break, quotes, verbatim_length}
-use Rattle.bicep_lexer.specs.Fronts.{innermost, number_front, piece, verbatim, text_front, closed, close_front}
-use Rattle.bicep_lexer.specs.Fronts.{opens_comment, commented, comment_front, newline_front, directive_front, single}
-use Rattle.bicep_lexer.specs.Fronts.{double, mark_front, front_by, front_of}
-use Rattle.bicep_lexer.specs.Progress.{IsSpan, OnFront}
-use Rattle.bicep_lexer.proofs.Ends.{if_else, hole_room}
+use Rattle.bicep_lexer.specs.Skipped.{newline_length, closes_comment, is_directive}
+use Rattle.bicep_lexer.specs.Reader.Scanning.{line_length, comment_length}
+use Rattle.bicep_lexer.specs.Reader.Scanning.{piece_end, further, verbatim_length}
+use Rattle.bicep_lexer.specs.Signs.{is_hole}
+use Rattle.bicep_lexer.specs.Texts.{is_break, quotes}
+use Rattle.bicep_lexer.specs.Grammar.{innermost}
+use Rattle.bicep_lexer.specs.Reader.Fronts.{number_front, piece, verbatim, text_front, closed, close_front}
+use Rattle.bicep_lexer.specs.Grammar.{opens_comment}
+use Rattle.bicep_lexer.specs.Reader.Fronts.{commented, comment_front, newline_front, directive_front, single}
+use Rattle.bicep_lexer.specs.Reader.Fronts.{double, mark_front, front_by, front_of}
+use Rattle.bicep_lexer.specs.Reader.Steps.{IsSpan, OnFront}
+use Rattle.bicep_lexer.proofs.Ends.{hole_room}
+use Rattle.foundation.proofs.Choices.{if_else}
 
 abbrev Small : ℕ → Type 0
 Small b = b < 128

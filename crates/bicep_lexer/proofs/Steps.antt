@@ -9,10 +9,12 @@ use Rattle.bicep_lexer.specs.declared.front.Line.{Line}
 use Rattle.bicep_lexer.specs.declared.front.Line.TheVariants as line
 use Rattle.bicep_lexer.specs.declared.front.Front.{Front}
 use Rattle.bicep_lexer.specs.declared.front.Front.TheVariants as front
-use Rattle.bicep_lexer.specs.Fronts.{front_of}
-use Rattle.bicep_lexer.specs.Reading.{Standing, Outcome, turned, before, follow, ended, reading_from, mark_length}
-use Rattle.bicep_lexer.specs.Reading.{reading}
-use Rattle.bicep_lexer.specs.Progress.{behind, whole, OnFront}
+use Rattle.bicep_lexer.specs.Reader.Fronts.{front_of}
+use Rattle.bicep_lexer.specs.Reading.{Standing}
+use Rattle.bicep_lexer.specs.Reader.Steps.{Outcome, before, follow, ended, reading_from}
+use Rattle.bicep_lexer.specs.Grammar.{turned, mark_length}
+use Rattle.bicep_lexer.specs.Reader.Steps.{reading}
+use Rattle.bicep_lexer.specs.Reader.Steps.{then_rest, whole, OnFront}
 use Rattle.bicep_lexer.proofs.Scans.{tail_is}
 use Rattle.bicep_lexer.proofs.Spans.{front_span}
 
@@ -24,7 +26,7 @@ reading-skip (suc n) at os l (b ∷ bs) h =
     let e : at + 1 + n ≡ at + suc n = omega arith in
     reading-skip n (at + 1) os l bs (omega arith) ∙ ap (λ i. reading_from 0 i os l (drop n bs)) e
 
--- what is left behind the first bytes
+-- what is left after the first bytes
 left_behind : (n at : ℕ) (os : List Open) (l : Line) (b : ℕ) (bs : List ℕ) → 0 < n → n ≤ suc (length bs)
     → reading_from (n - 1) (at + 1) os l bs ≡ reading_from 0 (at + n) os l (drop n (b ∷ bs))
 left_behind zero at os l b bs some within = absurd (omega arith)
@@ -32,7 +34,7 @@ left_behind (suc n) at os l b bs some within =
     let less : suc n - 1 ≡ n = omega arith in
     ap (λ i. reading_from i (at + 1) os l bs) less ∙ reading-skip (suc n) at os l (b ∷ bs) within
 
--- the reading of what is left, by what stands at its front
+-- the reading of what is left, by its front
 abbrev pub by_front : ℕ → List Open → List ℕ → Result Front LexFault → Outcome
 by_front at os left (Err f) = Err f
 by_front at os left (Ok (front.Skipped n l)) = reading_from 0 (at + n) os l (drop n left)
@@ -55,12 +57,12 @@ pub read_front : (at : ℕ) (os : List Open) (l : Line) (left : List ℕ) → 0 
 read_front at os l [] h = absurd (omega arith)
 read_front at os l (b ∷ bs) h = follow_front at os b bs (front_of at os l (b ∷ bs)) (front_span at os l (b ∷ bs))
 
-behind-before : (found : List Standing) (t : Standing) (o : Outcome)
-    → behind found (before t o) ≡ behind (found ++ t ∷ []) o
-behind-before found t (Ok ts) = ap (λ x. Ok x) (sym (append_assoc found (t ∷ []) ts))
-behind-before found t (Err f) = refl
+then_rest-before : (found : List Standing) (t : Standing) (o : Outcome)
+    → then_rest found (before t o) ≡ then_rest (found ++ t ∷ []) o
+then_rest-before found t (Ok ts) = ap (λ x. Ok x) (sym (append_assoc found (t ∷ []) ts))
+then_rest-before found t (Err f) = refl
 
--- the reading of the whole behind what stands at the front
+-- the reading of the whole after the front
 abbrev pub stepped : List ℕ → ℕ → List Open → List Standing → Result Front LexFault → Outcome
 stepped text at os found (Err f) = Err f
 stepped text at os found (Ok (front.Skipped n l)) = whole text (at + n) os l found
@@ -70,37 +72,37 @@ stepped text at os found (Ok (front.Word kind n t)) =
     whole text (at + n) (turned t os) line.Within (found ++ (kind, at, take n (drop at text)) ∷ [])
 
 by_front-stepped : (text : List ℕ) (at : ℕ) (os : List Open) (found : List Standing) (o : Result Front LexFault)
-    → behind found (by_front at os (drop at text) o) ≡ stepped text at os found o
+    → then_rest found (by_front at os (drop at text) o) ≡ stepped text at os found o
 by_front-stepped text at os found (Err f) = refl
 by_front-stepped text at os found (Ok (front.Skipped n l)) =
-    ap (λ xs. behind found (reading_from 0 (at + n) os l xs)) (drop-drop n at text)
+    ap (λ xs. then_rest found (reading_from 0 (at + n) os l xs)) (drop-drop n at text)
 by_front-stepped text at os found (Ok (front.Newline n)) =
-    behind-before found (k.Newline, at, take n (drop at text))
+    then_rest-before found (k.Newline, at, take n (drop at text))
     (reading_from 0 (at + n) os line.Folded (drop n (drop at text)))
-    ∙ ap (λ xs. behind (found ++ (k.Newline, at, take n (drop at text)) ∷ [])
+    ∙ ap (λ xs. then_rest (found ++ (k.Newline, at, take n (drop at text)) ∷ [])
     (reading_from 0 (at + n) os line.Folded xs)) (drop-drop n at text)
 by_front-stepped text at os found (Ok (front.Word kind n t)) =
-    behind-before found (kind, at, take n (drop at text))
+    then_rest-before found (kind, at, take n (drop at text))
     (reading_from 0 (at + n) (turned t os) line.Within (drop n (drop at text)))
-    ∙ ap (λ xs. behind (found ++ (kind, at, take n (drop at text)) ∷ [])
+    ∙ ap (λ xs. then_rest (found ++ (kind, at, take n (drop at text)) ∷ [])
     (reading_from 0 (at + n) (turned t os) line.Within xs)) (drop-drop n at text)
 
--- one step leaves the reading of the whole as it was
+-- after one step the reading of the whole is unchanged
 pub step_is : (text : List ℕ) (at : ℕ) (os : List Open) (l : Line) (found : List Standing) (o : Result Front LexFault)
     → at < length text → o ≡ front_of at os l (drop at text) → whole text at os l found ≡ stepped text at os found o
 step_is text at os l found o lt is =
-    ap (behind found) (read_front at os l (drop at text) (omega (arith, length-drop at text)))
+    ap (then_rest found) (read_front at os l (drop at text) (omega (arith, length-drop at text)))
     ∙ by_front-stepped text at os found (front_of at os l (drop at text))
     ∙ ap (stepped text at os found) (sym is)
 
 -- at the end nothing is left
 pub whole-end : (text : List ℕ) (at : ℕ) (os : List Open) (l : Line) (found : List Standing) → length text ≤ at
-    → whole text at os l found ≡ behind found (ended os)
-whole-end text at os l found h = at_drop_all (λ xs. behind found (reading_from 0 at os l xs)) text at h
+    → whole text at os l found ≡ then_rest found (ended os)
+whole-end text at os l found h = at_drop_all (λ xs. then_rest found (reading_from 0 at os l xs)) text at h
 
-behind-none : (o : Outcome) → behind [] o ≡ o
-behind-none (Ok ts) = refl
-behind-none (Err f) = refl
+then_rest-none : (o : Outcome) → then_rest [] o ≡ o
+then_rest-none (Ok ts) = refl
+then_rest-none (Err f) = refl
 
 -- at the start nothing is found
 pub whole-start : (text : List ℕ) (at : ℕ) → at ≡ mark_length text → at ≤ length text
@@ -108,7 +110,7 @@ pub whole-start : (text : List ℕ) (at : ℕ) → at ≡ mark_length text → a
 unfolding reading
 whole-start text at is h =
     let e : 0 + at ≡ at = omega arith in
-    behind-none (reading_from 0 at [] line.Front (drop at text))
+    then_rest-none (reading_from 0 at [] line.Front (drop at text))
     ∙ ap (λ i. reading_from 0 i [] line.Front (drop at text)) (sym e)
     ∙ sym (reading-skip at 0 [] line.Front text h)
     ∙ ap (λ n. reading_from n 0 [] line.Front text) is
@@ -133,3 +135,9 @@ pub whole_same : (text text' : List ℕ) (at at' : ℕ) (os os' : List Open) (l 
 whole_same text text' at at' os os' l found found' r t a o f h =
     ap (λ x. whole x at os l found) t ∙ ap (λ x. whole text' x os l found) a ∙ ap (λ x. whole text' at' x l found) o
     ∙ ap (λ x. whole text' at' os' l x) f ∙ h
+
+pub whole_same_at : (text text' : List ℕ) (at at' : ℕ) (os os' : List Open) (l l' : Line) (found found' : List Standing)
+    (r : Outcome) → text ≡ text' → at ≡ at' → os ≡ os' → l ≡ l' → found ≡ found' → whole text' at' os' l' found' ≡ r
+    → whole text at os l found ≡ r
+whole_same_at text text' at at' os os' l l' found found' r t a o s f h =
+    ap (λ x. whole text at os x found) s ∙ whole_same text text' at at' os os' l' found found' r t a o f h

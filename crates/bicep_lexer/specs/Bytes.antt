@@ -1,12 +1,12 @@
--- The bytes of names and numbers, and how far they reach.
-use Rattle.std.specs.Prelude.{ℕ, ◌+◌, ◌*◌, ◌-◌, Bool, false, ◌==◌, ◌||◌, List, [], ◌∷◌, length, take_while}
+-- The bytes of names and numbers.
+use Rattle.std.specs.Prelude.{ℕ, ◌+◌, ◌*◌, ◌-◌, Bool, false, ◌==◌, ◌||◌, List, [], ◌∷◌}
 use Rattle.std.specs.Char.{is_ascii_alphabetic, is_ascii_digit}
 
 -- a letter of ASCII or `_`, which begins a name
 abbrev pub is_letter : ℕ → Bool
 is_letter b = is_ascii_alphabetic b || b == 95
 
--- a letter, `_` or a digit, which goes on with a name
+-- a letter, `_` or a digit, which continues a name
 abbrev pub is_name_byte : ℕ → Bool
 is_name_byte b = is_letter b || is_ascii_digit b
 
@@ -19,15 +19,7 @@ abbrev pub begins_with : ℕ → List ℕ → Bool
 begins_with b [] = false
 begins_with b (c ∷ cs) = c == b
 
--- how many bytes of a name stand at the front
-unfoldable pub name_length : List ℕ → ℕ
-name_length bytes = length (take_while is_name_byte bytes)
-
--- the decimal digits at the front
-abbrev pub digits_of : List ℕ → List ℕ
-digits_of bytes = take_while is_ascii_digit bytes
-
--- the number that decimal digits write behind digits of value n
+-- the number that decimal digits write after digits of value n
 abbrev pub number_from : ℕ → List ℕ → ℕ
 number_from n [] = n
 number_from n (d ∷ ds) = number_from (10 * n + (d - 48)) ds

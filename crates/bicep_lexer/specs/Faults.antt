@@ -1,6 +1,6 @@
--- Which faults stand in a source.
-use Rattle.std.specs.Prelude.{◌≡◌, ◌≢◌, ℕ, ◌+◌, ◌≤◌, ◌^◌, true, false, ◌==◌, List, [], ◌∷◌, ◌++◌, length, Some, None}
-use Rattle.std.specs.Prelude.{◌⊎◌}
+-- Which faults a source has.
+use Rattle.std.specs.Prelude.{◌≡◌, ◌≢◌, ℕ, ◌+◌, ◌≤◌, ◌^◌, true, false, ◌==◌, List, [], ◌∷◌, ◌++◌, length, Option}
+use Rattle.std.specs.Prelude.{Some, None, ◌⊎◌}
 use Rattle.std.specs.Char.{is_ascii_digit}
 use Rattle.bicep_lexer.specs.declared.fault.LexFault.{LexFault}
 use Rattle.bicep_lexer.specs.declared.fault.LexFault.TheVariants as fault
@@ -9,13 +9,20 @@ use Rattle.bicep_lexer.specs.declared.front.Open.TheVariants as opened
 use Rattle.bicep_lexer.specs.declared.front.Line.{Line}
 use Rattle.bicep_lexer.specs.declared.front.Line.TheVariants as line
 use Rattle.bicep_lexer.specs.Bytes.{is_letter, is_blank, number_from}
-use Rattle.bicep_lexer.specs.Escapes.{is_escape}
 use Rattle.bicep_lexer.specs.Marks.{single_mark}
+use Rattle.bicep_lexer.specs.Signs.{IsInside, BeginsEscape}
 use Rattle.bicep_lexer.specs.Skipped.{closes_comment, is_directive}
 use Rattle.bicep_lexer.specs.Texts.{is_break, quotes}
-use Rattle.bicep_lexer.specs.Fronts.{outermost, innermost, unfinished, opens_comment}
-use Rattle.bicep_lexer.specs.Grammar.{Throughout, IsRun, ends_line, IsInside, three_quotes, makes_double, Part}
-use Rattle.bicep_lexer.specs.Grammar.{StandsBefore}
+use Rattle.bicep_lexer.specs.Grammar.{outermost, innermost, opens_comment, Throughout, IsRun, ends_line, three_quotes}
+use Rattle.bicep_lexer.specs.Grammar.{makes_double, Part, StandsBefore}
+
+-- the fault where the file ends: at the outermost text that is open, else as given
+abbrev pub unfinished_by : Option ℕ → LexFault → LexFault
+unfinished_by None f = f
+unfinished_by (Some at) f = fault.OpenText at
+
+unfoldable pub unfinished : List Open → LexFault → LexFault
+unfinished os f = unfinished_by (outermost os) f
 
 -- the byte begins a piece of the text whose opening quote is at `quote`: it is that quote, and does not
 -- open a verbatim text, or it is the `}` of what was opened last
@@ -37,26 +44,26 @@ pub record BeginsNothing (l : Line) (first : ℕ) (bytes : List ℕ) : Type 0 wh
   pub no_close_brace : first == 125 ≡ false
   pub no_mark : single_mark first ≡ None
 
--- A fault at the front of what is left at a place.
+-- A fault at the front of the rest of a source, at its place.
 pub data IsFault (os : List Open) (l : Line) (at : ℕ) (bytes : List ℕ) (f : LexFault) : Type 0 where
   -- the file ends where a text is open: at the outermost
   open_at_end : bytes ≡ [] → (quote : ℕ) → outermost os ≡ Some quote → f ≡ fault.OpenText quote
       → IsFault os l at bytes f
-  -- as many digits as there are write too large a number
+  -- digits, as many as there are, of a number from 2^63 on
   bad_number : (first : ℕ) (others rest : List ℕ) → bytes ≡ first ∷ (others ++ rest)
       → IsRun is_ascii_digit (first ∷ others) rest → 2 ^ 63 ≤ number_from 0 (first ∷ others) → f ≡ fault.BadNumber at
       → IsFault os l at bytes f
   -- a piece of a text comes to a `\` that begins no escape
   bad_escape : (b quote : ℕ) (inside rest : List ℕ) → BeginsPiece os at b bytes quote
-      → bytes ≡ b ∷ (inside ++ 92 ∷ rest) → IsInside false inside (92 ∷ rest) → is_escape rest ≡ false
+      → bytes ≡ b ∷ (inside ++ 92 ∷ rest) → IsInside inside → ¬ BeginsEscape (92 ∷ rest)
       → f ≡ fault.BadEscape (at + (length inside + 1)) → IsFault os l at bytes f
   -- a piece of a text comes to the line's end
   open_at_line : (b quote : ℕ) (inside : List ℕ) (end : ℕ) (rest : List ℕ) → BeginsPiece os at b bytes quote
-      → bytes ≡ b ∷ (inside ++ end ∷ rest) → IsInside false inside (end ∷ rest) → is_break end ≡ true
+      → bytes ≡ b ∷ (inside ++ end ∷ rest) → IsInside inside → is_break end ≡ true
       → f ≡ fault.OpenText quote → IsFault os l at bytes f
-  -- a piece of a text, a verbatim text or a comment comes to the file's end: the outermost open text is told
+  -- a piece of a text, a verbatim text or a comment comes to the file's end: the fault is at the outermost open text
   open_at_file : (b quote : ℕ) (inside : List ℕ) → BeginsPiece os at b bytes quote → bytes ≡ b ∷ inside
-      → IsInside false inside [] → f ≡ unfinished os (fault.OpenText quote) → IsFault os l at bytes f
+      → IsInside inside → f ≡ unfinished os (fault.OpenText quote) → IsFault os l at bytes f
   open_verbatim : (inside : List ℕ) → bytes ≡ 39 ∷ 39 ∷ 39 ∷ inside → Throughout three_quotes false inside []
       → f ≡ unfinished os (fault.OpenText at) → IsFault os l at bytes f
   open_comment : (inside : List ℕ) → bytes ≡ 47 ∷ 42 ∷ inside → Throughout closes_comment false inside []
@@ -65,7 +72,7 @@ pub data IsFault (os : List Open) (l : Line) (at : ℕ) (bytes : List ℕ) (f : 
   bad_character : (first : ℕ) (others : List ℕ) → bytes ≡ first ∷ others → BeginsNothing l first bytes
       → makes_double first others ≡ false → f ≡ fault.BadCharacter at → IsFault os l at bytes f
 
--- the source is parts in a row up to a place where the fault stands
+-- the source is parts in a row up to a place where the fault is
 abbrev pub Refuses : List ℕ → LexFault → Type 0
 Refuses source f = (mark : List ℕ) × (ps : List Part) × (rest : List ℕ)
     × StandsBefore source rest mark ps (λ os l at. IsFault os l at rest f)

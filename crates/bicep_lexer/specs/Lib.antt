@@ -1,12 +1,11 @@
 pub mod Bytes
 pub mod Escapes
 pub mod Marks
+pub mod Signs
 pub mod Skipped
 pub mod Texts
-pub mod Fronts
 pub mod Reading
-pub mod Progress
-pub mod Values
 pub mod Grammar
 pub mod Faults
-pub mod Signs
+pub mod Values
+pub mod Reader

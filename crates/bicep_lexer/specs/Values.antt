@@ -1,4 +1,5 @@
--- What the tokens of texts mean.
+-- What tokens mean, character by character. Of texts, `specs/Signs` says it by how they are written: `Token::value`
+-- ensures both.
 use Rattle.std.specs.Prelude.{ℕ, ◌+◌, ◌*◌, ◌-◌, min, ◌==◌, List, [], ◌∷◌, ◌++◌, length, take, drop, Option, Some}
 use Rattle.std.specs.Prelude.{None, unwrap_or, if◌then◌else◌}
 use Rattle.bicep_lexer.specs.declared.kind.TokenKind.{TokenKind}
@@ -8,7 +9,7 @@ use Rattle.bicep_lexer.specs.declared.value.Mode.TheVariants as mode
 use Rattle.bicep_lexer.specs.Escapes.{hexadecimal, is_scalar, simple_escape}
 use Rattle.bicep_lexer.specs.Skipped.{newline_length}
 
--- the number behind one digit more, up to what 32 bits hold; a `{` is no digit
+-- the number with one digit more, up to 2^32 - 1; a `{` is no digit
 abbrev pub with_digit : ℕ → Option ℕ → ℕ
 with_digit v None = v
 with_digit v (Some d) = min (16 * v + d) 0xFFFF_FFFF
@@ -17,7 +18,7 @@ with_digit v (Some d) = min (16 * v + d) 0xFFFF_FFFF
 abbrev pub character_of : ℕ → List ℕ
 character_of v = if is_scalar v then v ∷ [] else []
 
--- the characters with each escape's character in its place
+-- the characters with each escape replaced by the character that it means
 abbrev pub unescaped_from : Mode → List ℕ → List ℕ
 unescaped_from m [] = []
 unescaped_from mode.Plain (c ∷ cs) =
@@ -31,11 +32,11 @@ unescaped_from (mode.Braced v) (c ∷ cs) =
 abbrev pub unescaped : List ℕ → List ℕ
 unescaped cs = unescaped_from mode.Plain cs
 
--- without so many characters at the front and at the back
+-- without the first `front` and the last `back` characters
 abbrev pub inside : ℕ → ℕ → List ℕ → List ℕ
 inside front back cs = take (length cs - (front + back)) (drop front cs)
 
--- without a newline at the front
+-- without a first LF or CR LF
 abbrev pub below_newline : List ℕ → List ℕ
 below_newline cs = drop (newline_length cs) cs
 

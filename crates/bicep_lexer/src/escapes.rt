@@ -1,11 +1,12 @@
 // The escapes of texts in single quotes.
 
 ghost use Rattle.std.specs.Prelude.{◌≡◌, ◌<◌, IfSome};
-ghost use Rattle.bicep_lexer.specs.Escapes.{hexadecimal, scalar_of, closed_number, braced_scalar, simple_escape, is_escape};
+ghost use Rattle.bicep_lexer.specs.Escapes.{hexadecimal, simple_escape};
+ghost use Rattle.bicep_lexer.specs.Reader.Scanning.{scalar_of, closed_number, braced_scalar, is_escape};
 
 use crate::bytes::begins_with;
 
-/// The value of a hexadecimal digit.
+/// The value of a hexadecimal digit; `None` for any other character.
 pub fn hexadecimal(character: u32) -> Option<u32>
     ensures value { result ≡ hexadecimal character }
     ensures bound { IfSome result (λ digit. digit < 16) }
@@ -21,7 +22,7 @@ pub fn hexadecimal(character: u32) -> Option<u32>
     }
 }
 
-/// The number of at most six hexadecimal digits and a `}` at the front.
+/// The number that at most six hexadecimal digits and a `}` write at the front.
 pub fn closed_number(bytes: &[u8]) -> Option<u32>
     ensures { result ≡ closed_number 6 0 bytes.now }
 {
@@ -55,8 +56,8 @@ fn scalar_of(number: u32) -> Option<u32>
     }
 }
 
-/// The character of `{h}` at the front, with one to six hexadecimal digits.
-#[tactic(auto, unfolding(crate::specs::Escapes::braced_scalar))]
+/// The character of `{h}` at the front, where h is one to six hexadecimal digits of a Unicode scalar value.
+#[tactic(auto, unfolding(crate::specs::Reader::Scanning::braced_scalar))]
 pub fn braced_scalar(bytes: &[u8]) -> Option<u32>
     ensures { result ≡ braced_scalar bytes.now }
 {
@@ -75,7 +76,7 @@ pub fn braced_scalar(bytes: &[u8]) -> Option<u32>
     }
 }
 
-/// The character that one behind a `\` stands for.
+/// The character that `\` and this character mean.
 pub fn simple_escape(byte: u8) -> Option<u8>
     ensures { result ≡ simple_escape byte }
 {
@@ -92,8 +93,8 @@ pub fn simple_escape(byte: u8) -> Option<u8>
     }
 }
 
-/// Whether what stands behind a `\` makes an escape of it.
-#[tactic(auto, unfolding(crate::specs::Escapes::is_escape))]
+/// Whether a `\` before these bytes begins an escape.
+#[tactic(auto, unfolding(crate::specs::Reader::Scanning::is_escape))]
 pub fn is_escape(bytes: &[u8]) -> bool
     ensures { result ≡ is_escape bytes.now }
 {

@@ -1,36 +1,41 @@
-// What stands at the front of what is left of a source.
+// What is at the front of the rest of a source.
 
 ghost use Rattle.std.specs.Prelude.{◌≡◌, ◌+◌, ◌≤◌, ◌<◌, ◌^◌, IsTrue, length};
-ghost use Rattle.bicep_lexer.specs.Texts.{counted};
-ghost use Rattle.bicep_lexer.specs.Fronts.{outermost, unfinished, innermost, number_front, piece, text_front, close_front, comment_front, opens_comment, newline_front, directive_front, mark_front, front_of};
+ghost use Rattle.bicep_lexer.specs.Reader.Scanning.{counted};
+ghost use Rattle.bicep_lexer.specs.Grammar.{outermost, innermost, opens_comment};
+ghost use Rattle.bicep_lexer.specs.Faults.{unfinished};
+ghost use Rattle.bicep_lexer.specs.Reader.Fronts.{number_front, piece, text_front, close_front, comment_front};
+ghost use Rattle.bicep_lexer.specs.Reader.Fronts.{newline_front, directive_front, mark_front, other_front, front_of};
 
 use crate::bytes::{begins_with, is_blank, is_letter};
 use crate::fault::LexFault;
 use crate::kind::TokenKind;
 use crate::marks::{double_mark, single_mark};
-use crate::skipped::{behind_comment, comment_length, is_directive, line_length, newline_length};
+use crate::skipped::{
+    comment_length, is_directive, line_after_comment, line_length, newline_length,
+};
 use crate::texts::{PieceEnd, piece_end, quotes, verbatim_length};
 use crate::words::{digits_length, is_within, name_length};
 
-/// What has been opened and not closed: a brace, or an interpolated text by its opening quote's place.
+/// What is open: a brace, or an interpolated text with the offset of its opening quote.
 #[derive(Clone, Copy)]
 pub enum Open {
     Brace,
     Text(usize),
 }
 
-/// What stands on the line so far.
+/// What is on the line so far.
 #[derive(Clone, Copy)]
 pub enum Line {
     /// A token.
     Within,
-    /// No token, at the front of the file or behind a comment that the line begins in.
+    /// No token; the line is the first of the file, or begins in a comment.
     Front,
-    /// No token, behind a newline token.
+    /// No token; the line follows a newline token.
     Folded,
 }
 
-/// What a token does to what is open.
+/// What a token opens or closes.
 #[derive(Clone, Copy)]
 pub enum Turn {
     Stays,
@@ -38,7 +43,8 @@ pub enum Turn {
     Closes,
 }
 
-/// What stands at the front: its length in bytes, and what is behind it.
+/// The front of the rest: something that is skipped, with what is then on the line, a newline token, or a
+/// word with what it opens or closes. The number is its length in bytes.
 #[derive(Clone, Copy)]
 pub enum Front {
     Skipped(usize, Line),
@@ -46,7 +52,7 @@ pub enum Front {
     Word(TokenKind, usize, Turn),
 }
 
-/// The opening quote of the outermost text that is open.
+/// The offset of the opening quote of the outermost text that is open.
 pub fn outermost(opened: &[Open]) -> Option<usize>
     ensures { result ≡ outermost opened.now }
 {
@@ -58,7 +64,7 @@ pub fn outermost(opened: &[Open]) -> Option<usize>
     None
 }
 
-#[tactic(auto, unfolding(crate::specs::Fronts::unfinished))]
+#[tactic(auto, unfolding(crate::specs::Faults::unfinished))]
 fn unfinished(opened: &[Open], fault: LexFault) -> LexFault
     ensures { result ≡ unfinished opened.now fault }
 {
@@ -74,7 +80,7 @@ fn innermost(opened: &[Open]) -> Option<Open>
     opened.last().copied()
 }
 
-#[tactic(auto, unfolding(crate::specs::Fronts::number_front))]
+#[tactic(auto, unfolding(crate::specs::Reader::Fronts::number_front))]
 fn number_front(bytes: &[u8], at: usize) -> Result<Front, LexFault>
     ensures { result ≡ number_front at bytes.now }
 {
@@ -106,7 +112,7 @@ fn piece(
     }
 }
 
-#[tactic(auto, unfolding(crate::specs::Fronts::text_front))]
+#[tactic(auto, unfolding(crate::specs::Reader::Fronts::text_front))]
 fn text_front(bytes: &[u8], at: usize, opened: &[Open]) -> Result<Front, LexFault>
     requires some { 1 ≤ length bytes.now }
     requires bound { at + length bytes.now < 2 ^ 64 }
@@ -130,7 +136,7 @@ fn text_front(bytes: &[u8], at: usize, opened: &[Open]) -> Result<Front, LexFaul
     }
 }
 
-#[tactic(auto, unfolding(crate::specs::Fronts::close_front))]
+#[tactic(auto, unfolding(crate::specs::Reader::Fronts::close_front))]
 fn close_front(bytes: &[u8], at: usize, opened: &[Open]) -> Result<Front, LexFault>
     requires some { 1 ≤ length bytes.now }
     requires bound { at + length bytes.now < 2 ^ 64 }
@@ -153,14 +159,14 @@ fn close_front(bytes: &[u8], at: usize, opened: &[Open]) -> Result<Front, LexFau
     }
 }
 
-#[tactic(auto, unfolding(crate::specs::Fronts::comment_front))]
+#[tactic(auto, unfolding(crate::specs::Reader::Fronts::comment_front))]
 fn comment_front(bytes: &[u8], at: usize, opened: &[Open], line: Line) -> Result<Front, LexFault>
     requires { 2 ≤ length bytes.now }
     ensures { result ≡ comment_front at opened.now line bytes.now }
 {
     let rest = &bytes[2..];
     match comment_length(rest) {
-        Some(length) => Ok(Front::Skipped(length + 2, behind_comment(line, &rest[..length]))),
+        Some(length) => Ok(Front::Skipped(length + 2, line_after_comment(line, &rest[..length]))),
         None => Err(unfinished(opened, LexFault::OpenComment(at))),
     }
 }
@@ -189,7 +195,7 @@ fn directive_front(bytes: &[u8], at: usize, line: Line) -> Result<Front, LexFaul
     }
 }
 
-#[tactic(auto, unfolding(crate::specs::Fronts::mark_front))]
+#[tactic(auto, unfolding(crate::specs::Reader::Fronts::mark_front))]
 fn mark_front(bytes: &[u8], at: usize) -> Result<Front, LexFault>
     ensures { result ≡ mark_front at bytes.now }
 {
@@ -217,8 +223,37 @@ fn opens_comment(bytes: &[u8], second: u8) -> bool
     }
 }
 
-/// What stands at the front of what is left, at its place in the source.
-#[tactic(auto, unfolding(crate::specs::Fronts::front_of))]
+// What is at the front where no blank, no name, no number and no text is.
+fn other_front(
+    bytes: &[u8],
+    at: usize,
+    opened: &[Open],
+    line: Line,
+    first: u8,
+) -> Result<Front, LexFault>
+    requires some { 1 ≤ length bytes.now }
+    requires bound { at + length bytes.now < 2 ^ 64 }
+    ensures { result ≡ other_front at opened.now line first bytes.now }
+{
+    if opens_comment(bytes, b'/') {
+        Ok(Front::Skipped(line_length(bytes), line))
+    } else if opens_comment(bytes, b'*') {
+        comment_front(bytes, at, opened, line)
+    } else if newline_length(bytes) != 0 {
+        newline_front(line, newline_length(bytes))
+    } else if first == b'#' {
+        directive_front(bytes, at, line)
+    } else if first == b'{' {
+        Ok(Front::Word(TokenKind::OpenBrace, 1, Turn::Opens(Open::Brace)))
+    } else if first == b'}' {
+        close_front(bytes, at, opened)
+    } else {
+        mark_front(bytes, at)
+    }
+}
+
+/// What is at the front of `bytes`, the rest of the source from the offset `at` on.
+#[tactic(auto, unfolding(crate::specs::Reader::Fronts::front_of))]
 pub fn front_of(bytes: &[u8], at: usize, opened: &[Open], line: Line) -> Result<Front, LexFault>
     requires { at + length bytes.now < 2 ^ 64 }
     ensures { result ≡ front_of at opened.now line bytes.now }
@@ -235,19 +270,7 @@ pub fn front_of(bytes: &[u8], at: usize, opened: &[Open], line: Line) -> Result<
         number_front(bytes, at)
     } else if first == b'\'' {
         text_front(bytes, at, opened)
-    } else if opens_comment(bytes, b'/') {
-        Ok(Front::Skipped(line_length(bytes), line))
-    } else if opens_comment(bytes, b'*') {
-        comment_front(bytes, at, opened, line)
-    } else if newline_length(bytes) != 0 {
-        newline_front(line, newline_length(bytes))
-    } else if first == b'#' {
-        directive_front(bytes, at, line)
-    } else if first == b'{' {
-        Ok(Front::Word(TokenKind::OpenBrace, 1, Turn::Opens(Open::Brace)))
-    } else if first == b'}' {
-        close_front(bytes, at, opened)
     } else {
-        mark_front(bytes, at)
+        other_front(bytes, at, opened, line, first)
     }
 }

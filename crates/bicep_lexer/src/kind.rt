@@ -7,7 +7,7 @@ pub enum TokenKind {
     Name,
     /// Decimal digits, of a value up to 9,223,372,036,854,775,807.
     Number,
-    /// A line's end, with those that follow it before the next token.
+    /// A line end. The line ends between it and the next token make no further token.
     Newline,
     /// A text in single quotes without interpolation, quotes included.
     Text,

@@ -1,45 +1,33 @@
-// The marks.
+// The marks, by their bytes.
 
 ghost use Rattle.std.specs.Prelude.{◌≡◌};
 ghost use Rattle.bicep_lexer.specs.Marks.{double_mark, single_mark};
 
 use crate::kind::TokenKind;
 
-/// The mark of two bytes.
+/// The kind of the mark of two bytes.
 #[tactic(auto, unfolding(crate::specs::Marks::double_mark))]
 pub fn double_mark(first: u8, second: u8) -> Option<TokenKind>
     ensures { result ≡ double_mark first second }
 {
-    if first == b'=' && second == b'=' {
-        Some(TokenKind::Equals)
-    } else if first == b'=' && second == b'~' {
-        Some(TokenKind::EqualsInsensitive)
-    } else if first == b'!' && second == b'=' {
-        Some(TokenKind::NotEquals)
-    } else if first == b'!' && second == b'~' {
-        Some(TokenKind::NotEqualsInsensitive)
-    } else if first == b'<' && second == b'=' {
-        Some(TokenKind::LessOrEqual)
-    } else if first == b'>' && second == b'=' {
-        Some(TokenKind::GreaterOrEqual)
-    } else if first == b'&' && second == b'&' {
-        Some(TokenKind::And)
-    } else if first == b'|' && second == b'|' {
-        Some(TokenKind::Or)
-    } else if first == b'?' && second == b'?' {
-        Some(TokenKind::DoubleQuestion)
-    } else if first == b'.' && second == b'?' {
-        Some(TokenKind::SafeDot)
-    } else if first == b'[' && second == b'?' {
-        Some(TokenKind::SafeBracket)
-    } else if first == b':' && second == b':' {
-        Some(TokenKind::DoubleColon)
-    } else {
-        None
+    match (first, second) {
+        (b'=', b'=') => Some(TokenKind::Equals),
+        (b'=', b'~') => Some(TokenKind::EqualsInsensitive),
+        (b'!', b'=') => Some(TokenKind::NotEquals),
+        (b'!', b'~') => Some(TokenKind::NotEqualsInsensitive),
+        (b'<', b'=') => Some(TokenKind::LessOrEqual),
+        (b'>', b'=') => Some(TokenKind::GreaterOrEqual),
+        (b'&', b'&') => Some(TokenKind::And),
+        (b'|', b'|') => Some(TokenKind::Or),
+        (b'?', b'?') => Some(TokenKind::DoubleQuestion),
+        (b'.', b'?') => Some(TokenKind::SafeDot),
+        (b'[', b'?') => Some(TokenKind::SafeBracket),
+        (b':', b':') => Some(TokenKind::DoubleColon),
+        _ => None,
     }
 }
 
-/// The mark of one byte, braces apart.
+/// The kind of the mark of one byte, other than a brace.
 #[tactic(auto, unfolding(crate::specs::Marks::single_mark))]
 pub fn single_mark(byte: u8) -> Option<TokenKind>
     ensures { result ≡ single_mark byte }

@@ -1,12 +1,14 @@
-// Line's ends, and what is skipped.
+// Line ends, and what is skipped.
 
 ghost use Rattle.std.specs.Prelude.{◌≡◌, ◌≤◌, IsTrue, IfSome, length};
-ghost use Rattle.bicep_lexer.specs.Skipped.{newline_length, line_length, closes_comment, comment_length, behind_comment, goes_on, is_directive};
+ghost use Rattle.bicep_lexer.specs.Skipped.{newline_length, closes_comment, line_after_comment, goes_on};
+ghost use Rattle.bicep_lexer.specs.Skipped.{is_directive};
+ghost use Rattle.bicep_lexer.specs.Reader.Scanning.{line_length, comment_length};
 
 use crate::bytes::{begins_with, is_name_byte};
 use crate::front::Line;
 
-/// The bytes of the LF or the CR LF at the front, or 0.
+/// The length of the LF or the CR LF at the front in bytes, or 0.
 pub fn newline_length(bytes: &[u8]) -> usize
     ensures { result ≡ newline_length bytes.now }
 {
@@ -46,7 +48,7 @@ fn closes_comment(bytes: &[u8]) -> bool
     }
 }
 
-/// How many bytes a comment still has, its `*/` included.
+/// How many bytes a comment still has, its `*/` included; `None` where it is open.
 pub fn comment_length(bytes: &[u8]) -> Option<usize>
     ensures value { result ≡ comment_length bytes.now }
     ensures bound { IfSome result (λ count. count ≤ length bytes.now) }
@@ -59,9 +61,9 @@ pub fn comment_length(bytes: &[u8]) -> Option<usize>
     None
 }
 
-/// What stands on the line behind a comment.
-pub fn behind_comment(line: Line, comment: &[u8]) -> Line
-    ensures { result ≡ behind_comment line comment.now }
+/// What is on the line after a comment.
+pub fn line_after_comment(line: Line, comment: &[u8]) -> Line
+    ensures { result ≡ line_after_comment line comment.now }
 {
     match line {
         Line::Within => {

@@ -1,23 +1,25 @@
-// How texts end.
+// How pieces of texts and verbatim texts end.
 
 ghost use Rattle.std.specs.Prelude.{◌≡◌, ◌≤◌, IsTrue, IfSome, false, length};
-ghost use Rattle.bicep_lexer.specs.Texts.{counted, is_hole, is_break, piece_end, quotes, verbatim_length};
+ghost use Rattle.bicep_lexer.specs.Reader.Scanning.{counted, piece_end, verbatim_length};
+ghost use Rattle.bicep_lexer.specs.Signs.{is_hole};
+ghost use Rattle.bicep_lexer.specs.Texts.{is_break, quotes};
 
 use crate::bytes::begins_with;
 use crate::escapes::is_escape;
 
-/// How a piece of a text in single quotes ends: the bytes up to there.
+/// How a piece of a text in single quotes ends, and the number of bytes before that.
 #[derive(Clone, Copy)]
 pub enum PieceEnd {
-    /// Its closing quote, which is counted.
+    /// At its closing quote, which is counted.
     Quote(usize),
-    /// A `${`, which is counted.
+    /// At a `${`, which is counted.
     Hole(usize),
-    /// The line ends.
+    /// At a line end, before the closing quote.
     Line,
-    /// The file ends.
+    /// At the end of the file, before the closing quote.
     File,
-    /// A `\` that begins no escape, which is not counted.
+    /// At a `\` that begins no escape; the `\` is not counted.
     BadEscape(usize),
 }
 
@@ -34,7 +36,7 @@ fn is_break(byte: u8) -> bool
     byte == b'\n' || byte == b'\r'
 }
 
-/// How a piece of a text in single quotes ends, behind its first byte.
+/// How a piece of a text in single quotes ends, from the byte after its first.
 #[tactic(auto, using(crate::proofs::Ends::counted_within))]
 pub fn piece_end(bytes: &[u8]) -> PieceEnd
     ensures value { result ≡ piece_end false bytes.now }
@@ -62,7 +64,7 @@ pub fn piece_end(bytes: &[u8]) -> PieceEnd
     PieceEnd::File
 }
 
-/// The quotes at the front, of the first so many bytes.
+/// The number of quotes at the front, of the first `most` bytes.
 #[tactic(auto, unfolding(crate::specs::Texts::quotes))]
 pub fn quotes(most: usize, bytes: &[u8]) -> usize
     ensures value { result ≡ quotes most bytes.now }
@@ -75,7 +77,7 @@ pub fn quotes(most: usize, bytes: &[u8]) -> usize
         .count()
 }
 
-/// How many bytes a verbatim text still has, its closing quotes included.
+/// How many bytes a verbatim text still has, its closing quotes included; `None` where it is open.
 pub fn verbatim_length(bytes: &[u8]) -> Option<usize>
     ensures value { result ≡ verbatim_length bytes.now }
     ensures bound { IfSome result (λ count. count ≤ length bytes.now) }

@@ -1,11 +1,13 @@
-// What the tokens of texts mean.
+// What tokens mean.
 
-ghost use Rattle.std.specs.Prelude.{◌≡◌, ℕ, ◌+◌, ◌++◌, ◌∷◌, List, [], ◌≤◌, ◌<◌, ◌^◌, length, string_bytes, unwrap_or, IfOk, OnOk};
-ghost use Rattle.std.specs.Str.{chars};
+ghost use Rattle.std.specs.Prelude.{◌≡◌, ℕ, ◌+◌, ◌++◌, ◌∷◌, List, [], ◌≤◌, ◌<◌, ◌^◌, length, string_bytes};
+ghost use Rattle.std.specs.Prelude.{unwrap_or, IfOk, OnOk};
+ghost use Rattle.std.specs.Str.{chars, IsUtf8};
 ghost use Rattle.bicep_lexer.specs.Escapes.{hexadecimal, simple_escape};
 ghost use Rattle.bicep_lexer.specs.Skipped.{newline_length};
-ghost use Rattle.bicep_lexer.specs.Signs.{Sign, AreSigns, IsBetween, written, meant};
-ghost use Rattle.bicep_lexer.specs.Values.{with_digit, character_of, unescaped_from, unescaped, inside, below_newline, value_of};
+ghost use Rattle.bicep_lexer.specs.Signs.{Sign, AreSigns, IsBetween, IsSigned, IsMeant, written, meant};
+ghost use Rattle.bicep_lexer.specs.Values.{with_digit, character_of, unescaped_from, unescaped, inside};
+ghost use Rattle.bicep_lexer.specs.Values.{below_newline, value_of};
 
 use crate::escapes::hexadecimal;
 use crate::kind::TokenKind;
@@ -13,14 +15,14 @@ use crate::token::Token;
 use arm_value::{OutOfMemory, Text};
 use std::alloc::{AllocError, Global};
 
-/// What the characters read so far leave to the next.
+/// What the characters so far say of the next one.
 #[derive(Clone, Copy)]
 pub enum Mode {
-    /// It stands for itself, or is a `\`.
+    /// It is itself, or it is a `\`.
     Plain,
-    /// It stands behind a `\`.
+    /// It follows a `\`.
     Escaped,
-    /// It is in `u{h}`, behind digits of this value.
+    /// It is in `u{h}`, after digits of this value.
     Braced(u32),
 }
 
@@ -61,7 +63,8 @@ fn escape_of(character: char) -> char
 }
 
 fn turn(text: &mut String, mode: Mode, character: char) -> Result<Mode, AllocError>
-    ensures { IfOk result (λ next. (rest : List ℕ) → chars (string_bytes text.new) ++ unescaped_from next rest ≡ chars (string_bytes text.old) ++ unescaped_from mode (character ∷ rest)) }
+    ensures { IfOk result (λ next. (rest : List ℕ) → chars (string_bytes text.new) ++ unescaped_from next rest
+        ≡ chars (string_bytes text.old) ++ unescaped_from mode (character ∷ rest)) }
 {
     match mode {
         Mode::Plain => {
@@ -88,7 +91,7 @@ fn turn(text: &mut String, mode: Mode, character: char) -> Result<Mode, AllocErr
     }
 }
 
-/// The characters with each escape's character in its place.
+/// The characters with each escape replaced by the character that it means.
 #[tactic(auto, using(crate::proofs::Characters::characters))]
 fn unescaped(alloc: Global, characters: &[char]) -> Result<String, AllocError>
     ensures { IfOk result (λ text. chars (string_bytes text) ≡ unescaped characters.now) }
@@ -101,7 +104,7 @@ fn unescaped(alloc: Global, characters: &[char]) -> Result<String, AllocError>
     Ok(text)
 }
 
-/// The characters as they are.
+/// The characters as a string.
 #[tactic(auto, using(crate::proofs::Characters::characters))]
 fn written(alloc: Global, characters: &[char]) -> Result<String, AllocError>
     ensures { IfOk result (λ text. chars (string_bytes text) ≡ characters.now) }
@@ -113,7 +116,7 @@ fn written(alloc: Global, characters: &[char]) -> Result<String, AllocError>
     Ok(text)
 }
 
-/// Without so many characters at the front and at the back.
+/// The characters without the first `front` and the last `back`; none where there are fewer.
 fn inside(characters: &[char], front: usize, back: usize) -> &[char]
     requires { front + back < 2 ^ 64 }
     ensures { result.now ≡ inside front back characters.now }
@@ -124,7 +127,7 @@ fn inside(characters: &[char], front: usize, back: usize) -> &[char]
     &characters[front..characters.len() - back]
 }
 
-/// Without a newline at the front.
+/// The characters without a first LF or CR LF.
 fn below_newline(characters: &[char]) -> &[char]
     ensures { result.now ≡ below_newline characters.now }
 {
@@ -136,7 +139,8 @@ fn below_newline(characters: &[char]) -> &[char]
 }
 
 fn characters_of(alloc: Global, text: &str) -> Result<Vec<char>, AllocError>
-    ensures { IfOk result (λ characters. characters.items ≡ chars text.now) }
+    ensures characters { IfOk result (λ characters. characters.items ≡ chars text.now) }
+    ensures utf8 { IsUtf8 text.now }
 {
     text.chars().collect(alloc)
 }
@@ -153,13 +157,16 @@ fn value_of(alloc: Global, kind: TokenKind, characters: &[char]) -> Result<Strin
 }
 
 impl Token<'_> {
-    /// What the token means: of a text or a piece of one its characters between its ends, with each
-    /// escape's character in its place; of a verbatim text those between its quotes, without a newline
-    /// right behind the opening; of any other token its own characters. Memory that is refused is
-    /// `OutOfMemory`.
+    /// The characters that the token means. Of a text or a piece of one these are the characters between
+    /// its ends, with each escape replaced by the character that it means. Of a verbatim text these are the
+    /// characters between its quotes, without a line end right after the opening. Of any other token these
+    /// are its own characters.
     pub fn value(&self, alloc: Global) -> Result<Text, OutOfMemory>
         ensures value { IfOk result (λ text. text ≡ value_of self.now.kind (chars self.now.text.now)) }
-        ensures meant { IfOk result (λ text. (signs : List Sign) → AreSigns signs → IsBetween self.now.kind (chars self.now.text.now) (written signs) → text ≡ meant signs) }
+        ensures meant { IfOk result (λ text. (signs : List Sign) → AreSigns signs
+            → IsBetween self.now.kind (chars self.now.text.now) (written signs) → text ≡ meant signs) }
+        ensures signed { IfOk result (λ text. IsSigned self.now.kind self.now.text.now
+            → IsMeant self.now.kind (chars self.now.text.now) text) }
     {
         let characters = characters_of(alloc, self.text)?;
         let value = value_of(alloc, self.kind, &characters)?;

@@ -1,17 +1,20 @@
 // How far names and numbers reach.
 
 ghost use Rattle.std.specs.Prelude.{◌≡◌, ◌^◌, nat_lt, length};
-ghost use Rattle.bicep_lexer.specs.Bytes.{name_length, digits_of, number_from};
+ghost use Rattle.bicep_lexer.specs.Reader.Scanning.{name_length, digits_of};
+ghost use Rattle.bicep_lexer.specs.Bytes.{number_from};
 
 use crate::bytes::is_name_byte;
 
-#[tactic(auto, unfolding(crate::specs::Bytes::name_length))]
+/// The length of the name at the front in bytes.
+#[tactic(auto, unfolding(crate::specs::Reader::Scanning::name_length))]
 pub fn name_length(bytes: &[u8]) -> usize
     ensures { result ≡ name_length bytes.now }
 {
     bytes.iter().take_while(|byte| is_name_byte(**byte)).count()
 }
 
+/// The number of decimal digits at the front.
 pub fn digits_length(bytes: &[u8]) -> usize
     ensures { result ≡ length (digits_of bytes.now) }
 {
@@ -21,7 +24,7 @@ pub fn digits_length(bytes: &[u8]) -> usize
         .count()
 }
 
-/// Whether digits write a number below 2^63.
+/// Whether the decimal digits write a number below 2^63.
 pub fn is_within(digits: &[u8]) -> bool
     ensures { result ≡ nat_lt (number_from 0 digits.now) (2 ^ 63) }
 {

@@ -1,4 +1,4 @@
--- Which resources may stand in one file.
+-- Which resources may be in one file.
 use Rattle.std.proofs.Common.{◌≡◌, ◌≢◌, ◌≤◌, ℕ, List, [], ◌∷◌, ◌++◌, length, map, Bool, true, false, true≢false, not}
 use Rattle.std.proofs.Common.{◌&&◌, ◌||◌, nat_le, bytes_eq, refl, sym, ap, ap₂, ◌∙◌, arith, subst}
 use Rattle.std.specs.List.{AllByRecursion, list_any}
@@ -10,7 +10,8 @@ use Rattle.bicep_literal.specs.Checks.{is_taken, is_same_symbol, is_same_key, cl
 use Rattle.bicep_literal.specs.declared.entry.Entry.{Entry}
 use Rattle.bicep_literal.proofs.ValueLemmas.{eq_word, word_eq}
 use Rattle.bicep_literal.proofs.Putting.{all_map}
-use Rattle.bicep_literal.proofs.EntryLemmas.{or_parts, and_parts, not_true, within, below}
+use Rattle.bicep_literal.proofs.EntryLemmas.{or_parts, not_true, within, below}
+use Rattle.foundation.proofs.TruthValues.{both as and_parts, unless}
 use Rattle.bicep_literal.proofs.Entering.{EnterEach}
 
 abbrev pub folded_symbol : Entry → List ℕ
@@ -22,10 +23,6 @@ resource_in e = e.resource
 not_false : (a : Bool) → a ≡ false → not a ≡ true
 not_false true e = absurd (true≢false e)
 not_false false e = refl
-
-unless : (b : Bool) → (b ≡ true → ⊥) → b ≡ false
-unless true h = absurd (h refl)
-unless false h = refl
 
 ne_word : (xs ys : List ℕ) → bytes_eq xs ys ≡ false → xs ≢ ys
 ne_word xs ys e same = true≢false (sym (word_eq xs ys same) ∙ e)
@@ -172,12 +169,9 @@ taken_differ = differ_by_test taken refl
 taken_folded : map fold taken ≡ taken
 taken_folded = refl
 
-turned : (xs ys : List ℕ) → xs ≢ ys → ys ≢ xs
-turned xs ys ne e = ne (sym e)
-
 -- whether the symbol is among these words
 abbrev is_word_of : List (List ℕ) → List ℕ → Bool
-is_word_of ws s = list_any (λ w. is_same_folded s w) ws
+is_word_of ws s = list_any (λ w. is_same_folded w s) ws
 
 words_apart : (ws : List (List ℕ)) (es : List Entry) → AllByRecursion (λ e. is_word_of ws e.symbol ≡ false) es
     → AllByRecursion (λ x. AllByRecursion (λ y. x ≢ y) (map folded_symbol es)) (map fold ws)
@@ -185,10 +179,9 @@ words_apart [] es h = tt
 words_apart (w ∷ ws) es h = (
   all_in_map (λ y. fold w ≢ y) folded_symbol es
       (all_map (λ e. is_word_of (w ∷ ws) e.symbol ≡ false) (λ e. fold w ≢ fold e.symbol) es
-      (λ e c. turned (fold e.symbol) (fold w)
-      (ne_word (fold e.symbol) (fold w) (or_parts (is_same_folded e.symbol w) (is_word_of ws e.symbol) c).0)) h),
+      (λ e c. ne_word (fold w) (fold e.symbol) (or_parts (is_same_folded w e.symbol) (is_word_of ws e.symbol) c).0) h),
   words_apart ws es (all_map (λ e. is_word_of (w ∷ ws) e.symbol ≡ false) (λ e. is_word_of ws e.symbol ≡ false) es
-      (λ e c. (or_parts (is_same_folded e.symbol w) (is_word_of ws e.symbol) c).1) h),
+      (λ e c. (or_parts (is_same_folded w e.symbol) (is_word_of ws e.symbol) c).1) h),
 )
 
 apart_words : (ws : List (List ℕ)) (es : List Entry)
@@ -206,8 +199,7 @@ apart_words (w ∷ ws) es h = both es (all_from_map (λ y. fold w ≢ y) folded_
         → AllByRecursion (λ e. is_word_of (w ∷ ws) e.symbol ≡ false) es
     both [] h g = tt
     both (e ∷ es) h g = (
-      nor (is_same_folded e.symbol w) (is_word_of ws e.symbol)
-          (word_ne (fold e.symbol) (fold w) (turned (fold w) (fold e.symbol) h.0)) g.0,
+      nor (is_same_folded w e.symbol) (is_word_of ws e.symbol) (word_ne (fold w) (fold e.symbol) h.0) g.0,
       both es h.1 g.1,
     )
 
@@ -239,7 +231,7 @@ declare_each [] (e ∷ es) h = absurd h
 declare_each (d ∷ ds) [] h = absurd h
 declare_each (d ∷ ds) (e ∷ es) h = (h.0.1, declare_each ds es h.1)
 
--- entries that may stand together are those of a file
+-- entries that may be in one file are those of a file
 pub proper_sound : (ds : List Declaration) (es : List Entry) → EnterEach ds es → are_proper es ≡ true
     → FileDeclares ds (map resource_in es)
 unfolding are_proper

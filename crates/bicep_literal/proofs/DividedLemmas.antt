@@ -6,10 +6,7 @@ use Rattle.std.proofs.lemmas.Str.{chars-append, chars-IsAscii, encodes-chars, en
 use Rattle.std.proofs.lemmas.Bool.Decides.{nat_tests}
 use lib.Utf8.{encode, encodes}
 use Rattle.bicep_literal.specs.Entries.{divided}
-
-one_ascii : (c : ℕ) → c < 128 → IsAscii (c ∷ [])
-one_ascii c h zero = h
-one_ascii c h (suc i) = lit< tt
+use Rattle.foundation.proofs.AsciiWords.{one_ascii}
 
 is_at : (c : ℕ) → (c == 64) ≡ true → c ≡ 64
 is_at c e = grind (arith, nat_tests)
@@ -17,15 +14,15 @@ is_at c e = grind (arith, nat_tests)
 abbrev Lacks : List ℕ → Type 0
 Lacks bs = (i : ℕ) → i < length bs → get_or bs i 0 ≢ 64
 
-behind_front : (xs ys : List ℕ) (i : ℕ) → get_or (xs ++ ys) (length xs + i) 0 ≡ get_or ys i 0
-behind_front [] ys i = ap (λ k. get_or ys k 0) (omega arith)
-behind_front (x ∷ xs) ys i = ap (λ k. get_or (x ∷ (xs ++ ys)) k 0) unary ∙ behind_front xs ys i
+after_front : (xs ys : List ℕ) (i : ℕ) → get_or (xs ++ ys) (length xs + i) 0 ≡ get_or ys i 0
+after_front [] ys i = ap (λ k. get_or ys k 0) (omega arith)
+after_front (x ∷ xs) ys i = ap (λ k. get_or (x ∷ (xs ++ ys)) k 0) unary ∙ after_front xs ys i
   where
     unary : suc (length xs) + i ≡ suc (length xs + i)
     unary = omega arith
 
 lacks_rest : (xs ys : List ℕ) → Lacks (xs ++ ys) → Lacks ys
-lacks_rest xs ys h = λ i l e. h (length xs + i) (omega (arith, length-append xs ys)) (behind_front xs ys i ∙ e)
+lacks_rest xs ys h = λ i l e. h (length xs + i) (omega (arith, length-append xs ys)) (after_front xs ys i ∙ e)
 
 first_is : (c : ℕ) (cs : List ℕ) → c ≡ 64 → encodes (c ∷ cs) ≡ 64 ∷ encodes cs
 first_is c cs e = ap (λ x. encodes (x ∷ cs)) e ∙ ap (λ x. x ++ encodes cs) (encode_ascii 64 (lit< tt))

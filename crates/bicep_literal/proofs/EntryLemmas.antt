@@ -17,11 +17,13 @@ use Rattle.bicep_literal.specs.Entries.{divided, is_name, parted, is_fit, is_pro
 use Rattle.bicep_literal.specs.Entries.{entry_of}
 use Rattle.bicep_literal.specs.declared.entry.Entry.{Entry}
 use Rattle.bicep_literal.proofs.Putting.{all_absent, length-put_each}
-use Rattle.bicep_literal.proofs.Ordered.{each, pairs-members, each-keys, pairs_nesting_stays}
+use Rattle.bicep_literal.proofs.Ordered.{each, each-keys, pairs_nesting_stays}
+use Rattle.arm_value.proofs.TreeLemmas.{pairs-members}
 use Rattle.bicep_literal.proofs.PartedLemmas.{without_yes, without_no, parting_sound, parting_complete, without_each}
 use Rattle.bicep_literal.proofs.PartedLemmas.{first_each, name_stays}
 use Rattle.bicep_literal.proofs.Entering.{FinePairs}
 use Rattle.bicep_literal.proofs.ValueLemmas.{distinct_is}
+use Rattle.foundation.proofs.TruthValues.{both as and_parts}
 
 -- ---- the type text
 
@@ -66,10 +68,6 @@ divided_sound (c ∷ cs) kind api h = by (c == 64) (divided cs) refl refl h (div
 pub or_parts : (a b : Bool) → (a || b) ≡ false → (a ≡ false) × (b ≡ false)
 or_parts true b e = absurd (true≢false e)
 or_parts false b e = (refl, e)
-
-pub and_parts : (a b : Bool) → (a && b) ≡ true → (a ≡ true) × (b ≡ true)
-and_parts true b e = (refl, e)
-and_parts false b e = absurd (true≢false (sym e))
 
 pub not_true : (a : Bool) → not a ≡ true → a ≡ false
 not_true true e = absurd (true≢false (sym e))

@@ -1,9 +1,8 @@
-pub mod WordLemmas
 pub mod DividedLemmas
 pub mod Putting
 pub mod Ordered
 pub mod ValueLemmas
-pub mod LoopLemmas
+pub mod PartLemmas
 pub mod Entering
 pub mod PartedLemmas
 pub mod EntryLemmas

@@ -10,7 +10,8 @@ use Rattle.literal_template.specs.declared.resource.Resource.{Resource}
 use Rattle.bicep_literal.specs.Literal.{Declaration}
 use Rattle.bicep_literal.specs.Source.{each_in_order, without_name, is_reserved, Declares, DeclareEach}
 use Rattle.bicep_literal.specs.Entries.{is_name}
-use Rattle.bicep_literal.proofs.Ordered.{each, pairs-members, keys-each, pair_plain, plain_pair, put_plain}
+use Rattle.bicep_literal.proofs.Ordered.{each, keys-each, pair_plain, plain_pair, put_plain}
+use Rattle.arm_value.proofs.TreeLemmas.{pairs-members}
 use Rattle.bicep_literal.proofs.Ordered.{put_without, put_shallow, are_members, pairs_nesting_stays, pairs_plain_stay}
 use Rattle.bicep_literal.proofs.EntryLemmas.{or_parts, nesting_without}
 use Rattle.bicep_literal.proofs.PartedLemmas.{without_each, without_yes, without_no}
@@ -28,7 +29,7 @@ unreserved_by name a b c h = (or_parts b c (or_parts a (b || c) h).1).1
 
 unreserved : (name : List ℕ) → is_reserved name ≡ false → (is_head name ≡ false) × (is_directive name ≡ false)
 unfolding is_reserved is_head is_directive
-unreserved name h = any_front (λ other. is_same_folded name other) heads directives (unreserved_by name _ _ _ h)
+unreserved name h = any_front (λ other. is_same_folded other name) heads directives (unreserved_by name _ _ _ h)
 
 none_reserved : (ks : List (List ℕ)) → list_any is_reserved ks ≡ false → (list_any is_head ks ≡ false)
     × (list_any is_directive ks ≡ false)

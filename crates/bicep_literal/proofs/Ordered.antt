@@ -12,16 +12,13 @@ use Rattle.literal_template.specs.Literals.{is_special, is_plain, row_is_plain, 
 use Rattle.bicep_literal.specs.Source.{in_order, row_in_order, each_in_order, Differ, NamesDiffer, NamesDifferInRow}
 use Rattle.bicep_literal.specs.Source.{NamesDifferInPairs}
 use Rattle.bicep_literal.proofs.Putting.{members_put_each, nesting-put_each, all_absent}
+use Rattle.arm_value.proofs.TreeLemmas.{pairs-members}
 
 -- ---- lists and rows
 
 pub row-items : (js : Row) → row (items js) ≡ js
 row-items no_items = refl
 row-items (item j js) = ap (item j) (row-items js)
-
-pub pairs-members : (ms : Pairs) → pairs (members ms) ≡ ms
-pairs-members no_pairs = refl
-pairs-members (pair k j ms) = ap (pair k j) (pairs-members ms)
 
 pub each-keys : (ms : Pairs) → pair_keys (each_in_order ms) ≡ pair_keys ms
 each-keys no_pairs = refl

@@ -10,6 +10,7 @@ use Rattle.bicep_literal.specs.Source.{in_order, each_in_order, Differ, without_
 use Rattle.bicep_literal.specs.Entries.{name_text, parted_by, is_name, parting}
 use Rattle.bicep_literal.proofs.ValueLemmas.{eq_word, word_eq}
 use Rattle.bicep_literal.proofs.Putting.{all_map}
+use Rattle.foundation.proofs.TruthValues.{both_ways}
 
 named_parts : (p q : List ℕ × List Member) → Some p ≡ Some q → (p.0 ≡ q.0) × (p.1 ≡ q.1)
 named_parts p q h =
@@ -19,15 +20,9 @@ named_parts p q h =
 eq_turned : (xs ys : List ℕ) → bytes_eq xs ys ≡ true → bytes_eq ys xs ≡ true
 eq_turned xs ys e = word_eq ys xs (sym (eq_word xs ys e))
 
-same_by : (a b : Bool) → (a ≡ true → b ≡ true) → (b ≡ true → a ≡ true) → a ≡ b
-same_by true true f g = refl
-same_by true false f g = sym (f refl)
-same_by false true f g = g refl
-same_by false false f g = refl
-
 name_first : (k : List ℕ) → is_name k ≡ bytes_eq (codes "name") k
 unfolding is_name
-name_first k = same_by _ _ (eq_turned k (codes "name")) (eq_turned (codes "name") k)
+name_first k = both_ways _ _ (eq_turned k (codes "name")) (eq_turned (codes "name") k)
 
 first_yes : (k : List ℕ) (j : Json) (ps : Pairs) → is_name k ≡ true
     → first_by (bytes_eq (codes "name")) (pair k j ps) ≡ Some j
@@ -57,17 +52,17 @@ without_all : (ps : Pairs) → Nameless ps → without_name ps ≡ ps
 without_all no_pairs h = refl
 without_all (pair k j ps) h = without_no k j ps h.0 ∙ ap (pair k j) (without_all ps h.1)
 
--- behind the name the others stand as they are
+-- after the name the others are unchanged
 record Behind (ps : Pairs) (s : List ℕ) (others : List Member) (n : List ℕ) (out : List Member) : Type 0 where
   same : s ≡ n
   all : others ++ members ps ≡ out
   nameless : Nameless ps
 
-behind_named : (ps : Pairs) (s : List ℕ) (others : List Member) (n : List ℕ) (out : List Member)
+after_named : (ps : Pairs) (s : List ℕ) (others : List Member) (n : List ℕ) (out : List Member)
     → parting (Some s) others (members ps) ≡ Some (n, out) → Behind ps s others n out
-behind_named no_pairs s others n out h = let both = named_parts (s, others) (n, out) h in
+after_named no_pairs s others n out h = let both = named_parts (s, others) (n, out) h in
     record { same = both.0; all = append-nil others ∙ both.1; nameless = tt }
-behind_named (pair k j ps) s others n out h = by (is_name k) refl h (behind_named ps s (others ++ (k, j) ∷ []) n out)
+after_named (pair k j ps) s others n out h = by (is_name k) refl h (after_named ps s (others ++ (k, j) ∷ []) n out)
   where
     by : (b : Bool) → is_name k ≡ b → goes_on ps (parted_by b (Some s) others (k, j)) ≡ Some (n, out)
         → (parting (Some s) (others ++ (k, j) ∷ []) (members ps) ≡ Some (n, out)
@@ -136,7 +131,7 @@ parting_sound (pair k j ps) others n out h = by (is_name k) j refl h (parting_so
     by : (b : Bool) (j : Json) → is_name k ≡ b → goes_on ps (parted_by b None others (k, j)) ≡ Some (n, out)
         → (parting None (others ++ (k, j) ∷ []) (members ps) ≡ Some (n, out)
         → Parted ps (others ++ (k, j) ∷ []) n out) → Parted (pair k j ps) others n out
-    by true (text s) e g r = parted_here k s ps others n out e (behind_named ps s others n out g)
+    by true (text s) e g r = parted_here k s ps others n out e (after_named ps s others n out g)
     by true null e g r = absurd cc
     by true (bool b) e g r = absurd cc
     by true (int z) e g r = absurd cc

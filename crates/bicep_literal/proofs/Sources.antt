@@ -14,7 +14,7 @@ use Rattle.bicep_parser.specs.declared.fault.ParseFault.{ParseFault}
 use Rattle.bicep_parser.specs.declared.fault.ParseFault.TheVariants as syntax
 use Rattle.literal_template.specs.declared.resource.Resource.{Resource}
 use Rattle.bicep_literal.specs.Source.{TreeDeclares, SourceDeclares, DeclareOneList}
-use Rattle.bicep_literal.specs.Refused.{DeclaresNone, IsRefused, told, told_syntax}
+use Rattle.bicep_literal.specs.Refused.{DeclaresNone, IsRefused, lexical_fault, syntax_fault}
 use Rattle.bicep_literal.specs.declared.fault.SourceFault.TheVariants.{Lexical}
 use Rattle.bicep_literal.proofs.Answering.{one_list}
 
@@ -47,26 +47,27 @@ refused_named : (source : List ℕ) (f : LexFault) → f ≢ lexical.OutOfMemory
     → (f ≢ lexical.OutOfMemory → (any : List Standing) → lexer.Spells source any → ⊥) → IsRefused source (Lexical f)
 refused_named source f ne h g = (h ne, ne, λ rs s. g ne s.0 s.2)
 
-pub refused_told : (source : List ℕ) (f : LexFault) → (f ≢ lexical.OutOfMemory → faults.Refuses source f)
-    → (f ≢ lexical.OutOfMemory → (any : List Standing) → lexer.Spells source any → ⊥) → IsRefused source (told f)
-refused_told source (lexical.BadCharacter n) h g = refused_named source (lexical.BadCharacter n) (λ e. cc) h g
-refused_told source (lexical.OpenText n) h g = refused_named source (lexical.OpenText n) (λ e. cc) h g
-refused_told source (lexical.BadEscape n) h g = refused_named source (lexical.BadEscape n) (λ e. cc) h g
-refused_told source (lexical.OpenComment n) h g = refused_named source (lexical.OpenComment n) (λ e. cc) h g
-refused_told source (lexical.BadNumber n) h g = refused_named source (lexical.BadNumber n) (λ e. cc) h g
-refused_told source lexical.OutOfMemory h g = tt
+pub refused_lexical : (source : List ℕ) (f : LexFault) → (f ≢ lexical.OutOfMemory → faults.Refuses source f)
+    → (f ≢ lexical.OutOfMemory → (any : List Standing) → lexer.Spells source any → ⊥)
+    → IsRefused source (lexical_fault f)
+refused_lexical source (lexical.BadCharacter n) h g = refused_named source (lexical.BadCharacter n) (λ e. cc) h g
+refused_lexical source (lexical.OpenText n) h g = refused_named source (lexical.OpenText n) (λ e. cc) h g
+refused_lexical source (lexical.BadEscape n) h g = refused_named source (lexical.BadEscape n) (λ e. cc) h g
+refused_lexical source (lexical.OpenComment n) h g = refused_named source (lexical.OpenComment n) (λ e. cc) h g
+refused_lexical source (lexical.BadNumber n) h g = refused_named source (lexical.BadNumber n) (λ e. cc) h g
+refused_lexical source lexical.OutOfMemory h g = tt
 
-pub no_file_told : SpellOneFile → (source : List ℕ) (ts : List Standing) (f : ParseFault) → lexer.Spells source ts
-    → parser.Refuses ts f → parser.TellsPlace ts f → IsRefused source (told_syntax f)
-no_file_told one source ts (syntax.NotAFile n) s h place =
+pub refused_syntax : SpellOneFile → (source : List ℕ) (ts : List Standing) (f : ParseFault) → lexer.Spells source ts
+    → parser.Refuses ts f → parser.TellsPlace ts f → IsRefused source (syntax_fault f)
+refused_syntax one source ts (syntax.NotAFile n) s h place =
     ((ts, s, h, place), (λ e. cc), λ rs d. h d.1 (subst (Spells d.1) (same_tokens source d.0 ts d.2 s) d.3))
-no_file_told one source ts (syntax.TooDeep n) s h place = (
+refused_syntax one source ts (syntax.TooDeep n) s h place = (
   (ts, s, h, place),
   (λ e. cc),
   λ rs d. let shallow = (of_one_file one source ts h.0 rs s h.1 d).0 in let deep =
       h.2 in absurd (omega arith),
 )
-no_file_told one source ts syntax.OutOfMemory s h place = tt
+refused_syntax one source ts syntax.OutOfMemory s h place = tt
 
 pub not_literal : SpellOneFile → (source : List ℕ) (ts : List Standing) (f : FileTree) → lexer.Spells source ts
     → Spells f ts → ((rs : List Resource) → ¬ TreeDeclares f rs) → DeclaresNone source

@@ -9,8 +9,9 @@ use Rattle.bicep_literal.specs.Source.{taken}
 use Rattle.bicep_literal.specs.Entries.{read}
 use Rattle.bicep_literal.specs.declared.entry.Entry.{Entry}
 
+-- whether no resource may have the symbol
 unfoldable pub is_taken : List ℕ → Bool
-is_taken symbol = list_any (λ word. is_same_folded symbol word) taken
+is_taken symbol = list_any (λ word. is_same_folded word symbol) taken
 
 -- whether both have one symbol, in letters of any case
 abbrev pub is_same_symbol : Entry → Entry → Bool
@@ -20,7 +21,7 @@ is_same_symbol a b = is_same_folded a.symbol b.symbol
 abbrev pub is_same_key : Entry → Entry → Bool
 is_same_key a b = is_same_folded a.resource.kind b.resource.kind && is_same_folded a.resource.name b.resource.name
 
--- whether one cannot stand beside the other
+-- whether two resources cannot be in one file
 abbrev pub clash : Entry → Entry → Bool
 clash a b = is_same_symbol a b || is_same_key a b
 

@@ -13,7 +13,7 @@ use Rattle.bicep_literal.specs.Literal.{only_body}
 use Rattle.bicep_literal.specs.Values.{distinct, members_of}
 use Rattle.bicep_literal.specs.declared.entry.Entry.{Entry}
 
--- what stands before the first `@` and behind it
+-- the text before the first `@`, and the text after it
 abbrev pub divided : List ℕ → Option (List ℕ × List ℕ)
 divided [] = None
 divided (c ∷ cs) = if c == 64 then Some ([], cs) else option_map (λ q. (c ∷ q.0, q.1)) (divided cs)

@@ -24,7 +24,7 @@ abbrev pub named : Label → List ℕ
 named (label.Name n) = n.text
 named (label.Quoted q) = q.text
 
--- the value that an expression is, where it is a literal; the members of its objects stand in the order of the file
+-- the value that an expression is, where it is a literal; the members of its objects are in the order of the file
 abbrev mutual
   pub literal : Tree → Option Json
   literal (tree.literal at v) = Some (constant v)

@@ -20,7 +20,7 @@ use Rattle.bicep_literal.specs.declared.fault.SourceFault.TheVariants.{Lexical, 
 abbrev pub DeclaresNone : List ℕ → Type 0
 DeclaresNone source = (rs : List Resource) → ¬ SourceDeclares source rs
 
--- the source spells tokens that the parser refuses so, and there
+-- the source spells tokens that the parser refuses with this fault, at its place
 abbrev pub IsNoFile : List ℕ → ParseFault → Type 0
 IsNoFile source f = (ts : List Standing) × lexer.Spells source ts × parser.Refuses ts f × parser.TellsPlace ts f
 
@@ -34,12 +34,12 @@ IsRefused source (Syntax f) = IsNoFile source f × (f ≢ syntax.OutOfMemory) ×
 IsRefused source NotLiteral = IsFile source × DeclaresNone source
 IsRefused source OutOfMemory = Unit {0}
 
--- what is told of a fault of the lexer
-abbrev pub told : LexFault → SourceFault
-told lexical.OutOfMemory = OutOfMemory
-told f = Lexical f
+-- the fault of a source that the lexer refuses
+abbrev pub lexical_fault : LexFault → SourceFault
+lexical_fault lexical.OutOfMemory = OutOfMemory
+lexical_fault f = Lexical f
 
--- what is told of a fault of the parser
-abbrev pub told_syntax : ParseFault → SourceFault
-told_syntax syntax.OutOfMemory = OutOfMemory
-told_syntax f = Syntax f
+-- the fault of a source whose tokens the parser refuses
+abbrev pub syntax_fault : ParseFault → SourceFault
+syntax_fault syntax.OutOfMemory = OutOfMemory
+syntax_fault f = Syntax f

@@ -1,23 +1,22 @@
 -- The values of literals with their members in order, by computation.
-use Rattle.std.specs.Prelude.{◌≡◌, ℕ, nat_le, nat_eq, List, [], ◌∷◌, length, Option, Some, None, option_map}
-use Rattle.std.specs.Prelude.{option_and_then, Result, Ok, Err, if◌then◌else◌}
+use Rattle.std.specs.Prelude.{ℕ, nat_le, nat_eq, List, [], ◌∷◌, length, Option, Some, None, option_map}
+use Rattle.std.specs.Prelude.{option_and_then, if◌then◌else◌}
 use Rattle.arm_value.specs.Json.{Json, array, object, Member, row, pairs, put_each, items_nesting, members_nesting}
 use Rattle.literal_template.specs.Literals.{is_special}
 use Rattle.bicep_tree.specs.declared.leaf.Label.{Label}
 use Rattle.bicep_tree.specs.Tree as tree
 use Rattle.bicep_tree.specs.Tree.{Tree, Trees, ObjectTree, MemberTree, MemberTrees, ValueTree}
-use Rattle.bicep_literal.specs.declared.stop.Stop.{Stop}
-use Rattle.bicep_literal.specs.declared.stop.Stop.TheVariants as stop
 use Rattle.bicep_literal.specs.Literal.{constant, named}
 
 -- the members in the order of their names, where these differ
 unfoldable pub distinct : List Member → Option (List Member)
 distinct ms = if nat_eq (length (put_each [] ms)) (length ms) then Some (put_each [] ms) else None
 
--- the array, where its items nest less than a value may
+-- the array of these items, where it nests at most 90
 unfoldable pub array_of : List Json → Option Json
 array_of js = if nat_le (items_nesting js) 89 then Some (array (row js)) else None
 
+-- the object of these members, where it nests at most 90
 unfoldable pub object_of : List Member → Option Json
 object_of ms = if nat_le (members_nesting ms) 89 then option_map (λ ns. object (pairs ns)) (distinct ms) else None
 
@@ -50,13 +49,3 @@ abbrev mutual
   pub given_of : ValueTree → Option Json
   given_of (tree.plain e) = value_of e
   given_of (tree.each l e) = None
-
--- why a part is not read: the definition has no answer o either, or memory ran out
-abbrev pub Stops : {A : Type 0} → Stop → Option A → Type 0
-Stops stop.NotLiteral o = o ≡ None
-Stops stop.OutOfMemory o = Unit {0}
-
--- what is answered is o, unless memory ran out
-abbrev pub Gives : {X A : Type 0} → (X → A) → Result X Stop → Option A → Type 0
-Gives view (Ok x) o = o ≡ Some (view x)
-Gives view (Err e) o = Stops e o

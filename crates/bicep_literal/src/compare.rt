@@ -1,26 +1,27 @@
-// What holds of the resources of a file together.
+// The rules that concern the resources of a file together.
 
-ghost use Rattle.std.specs.Prelude.{◌≡◌};
+ghost use Rattle.std.specs.Prelude.{◌≡◌, ◌&&◌};
 ghost use Rattle.std.specs.List.{list_any};
 ghost use Rattle.arm_value.specs.Look.{is_same_folded};
 ghost use Rattle.bicep_literal.specs.Checks.{is_taken, clash, are_apart, are_proper};
 
 use crate::entry::Entry;
-use crate::words::{is_among, is_same_word};
+use crate::words::is_among;
 use arm_value::Text;
+use foundation::limits::MAX_RESOURCES;
+use literal_template::Resource;
 
-/// The symbols that no resource has, in letters of any case.
+// The symbols that no resource may have, in letters of any case.
 const TAKEN: [&str; 5] = ["sys", "az", "true", "false", "null"];
 
-/// The most resources of a file.
-const MOST_RESOURCES: usize = 800;
-
+// Whether no resource may have the symbol.
 fn is_taken(symbol: &Text) -> bool
     ensures { result ≡ is_taken symbol.now }
 {
-    is_among(symbol.as_str(), &TAKEN)
+    is_among(symbol, &TAKEN)
 }
 
+// Whether one of the symbols is taken.
 fn has_taken(entries: &[Entry]) -> bool
     ensures { result ≡ list_any (λ e. is_taken e.symbol) entries.now }
 {
@@ -32,23 +33,27 @@ fn has_taken(entries: &[Entry]) -> bool
     false
 }
 
-fn is_same(one: &Text, other: &Text) -> bool
-    ensures { result ≡ is_same_folded one.now other.now }
+// Whether two resources have one key: type and name are equal but for the case of letters.
+fn is_same_key(one: &Resource, other: &Resource) -> bool
+    ensures { result
+        ≡ (is_same_folded one.now.kind other.now.kind && is_same_folded one.now.name other.now.name) }
 {
-    is_same_word(one.as_str(), other.as_str())
+    other.kind.equals_ignore_case(one.kind.as_str())
+        && other.name.equals_ignore_case(one.name.as_str())
 }
 
-// Whether one cannot stand beside the other: their symbols or their keys are one.
+// Whether two resources cannot be in one file: their symbols are equal but for the case of letters, or they have one
+// key.
 fn clash(one: &Entry, other: &Entry) -> bool
     ensures { result ≡ clash one.now other.now }
 {
-    if is_same(&one.symbol, &other.symbol) {
+    if other.symbol.equals_ignore_case(one.symbol.as_str()) {
         return true;
     }
-    is_same(&one.resource.kind, &other.resource.kind)
-        && is_same(&one.resource.name, &other.resource.name)
+    is_same_key(&one.resource, &other.resource)
 }
 
+// Whether one clashes with one of the others.
 fn clashes(one: &Entry, others: &[Entry]) -> bool
     ensures { result ≡ list_any (clash one.now) others.now }
 {
@@ -74,12 +79,12 @@ fn are_apart(entries: &[Entry]) -> bool
     true
 }
 
-/// Whether these may be the resources of one file.
+/// Whether these may be the resources of one file: at most 800, no symbol that is taken, and no two that clash.
 #[tactic(auto, unfolding(crate::specs::Checks::are_proper))]
 pub fn are_proper(entries: &[Entry]) -> bool
     ensures { result ≡ are_proper entries.now }
 {
-    if entries.len() > MOST_RESOURCES {
+    if entries.len() > MAX_RESOURCES {
         return false;
     }
     if has_taken(entries) {

@@ -2,46 +2,49 @@
 
 ghost use Rattle.std.specs.Prelude.{◌≡◌, map, chars};
 ghost use Rattle.arm_value.specs.View.{member, json};
-ghost use Rattle.bicep_literal.specs.Entries.{divided, is_name, name_text, part, parted, body_of, resource_of, entry_with, entry_of};
+ghost use Rattle.bicep_literal.specs.Entries.{divided, is_name, name_text, part, parted, body_of};
+ghost use Rattle.bicep_literal.specs.Entries.{resource_of, entry_with, entry_of};
 ghost use Rattle.bicep_literal.specs.Source.{is_reserved};
 ghost use Rattle.std.specs.List.{list_any};
 ghost use Rattle.arm_value.specs.Json.{keys};
-ghost use Rattle.bicep_literal.specs.Values.{Gives};
+ghost use Rattle.foundation.specs.Stopping.{Gives};
 
-use crate::object::{MOST_NESTING, distinct};
+use crate::object::distinct;
 use crate::proper::{is_proper, is_reserved};
-use crate::stop::{Stop, refuse, stopped};
+use crate::stop::{refuse, stopped};
 use arm_value::{Field, Fields, Text, Value, deepest_member};
-use bicep_tree::is_word;
+use foundation::Stop;
+use foundation::limits::MAX_LITERAL_NESTING;
 use literal_template::Resource;
 use std::alloc::Global;
 
 /// A resource, and the symbol that its statement gives it.
 #[derive(Drop)]
 pub struct Entry {
-    /// The name by which the file speaks of it.
+    /// The symbolic name in the file.
     pub symbol: Text,
+    /// The resource that the statement declares.
     pub resource: Resource,
 }
 
-// What stands before the first `@` of a text and behind it.
+// The text before the first `@`, and the text after it.
 fn divided(alloc: Global, path: &str) -> Result<(Text, Text), Stop>
     ensures { Gives (λ p. p) result (divided (chars path.now)) }
 {
     match path.split_once('@') {
-        None => Err(Stop::NotLiteral),
+        None => Err(Stop::Refused),
         Some((kind, api)) => Ok((Text::of(alloc, kind)?, Text::of(alloc, api)?)),
     }
 }
 
-#[tactic(auto, unfolding(crate::specs::Entries::is_name))]
+// Whether the member is the name of its resource.
 fn is_name(name: &Text) -> bool
     ensures { result ≡ is_name name.now }
 {
-    is_word(name.as_str(), "name")
+    name.equals("name")
 }
 
-// The text of a member called `name`, of which there is one at most.
+// The text of a member called `name`, where there is no such member yet.
 fn name_text(name: Option<Text>, value: Value) -> Result<Text, Stop>
     ensures { Gives (λ t. t) result (name_text name (json value)) }
 {
@@ -54,7 +57,7 @@ fn name_text(name: Option<Text>, value: Value) -> Result<Text, Stop>
     }
 }
 
-// A member more: it is the name, or one of the others.
+// Takes one member more: the name, or one of the others.
 #[tactic(auto, using(crate::proofs::ValueLemmas::views))]
 fn part(name: Option<Text>, others: &mut Vec<Field>, field: Field) -> Result<Option<Text>, Stop>
     ensures { Gives (λ n. (n, map member others.new.items)) result
@@ -100,18 +103,19 @@ fn has_reserved(fields: &[Field]) -> bool
     false
 }
 
-// The body of these members, where they may form one.
+// The body that these members form: none is reserved, their names differ, and they nest at most 90.
 #[tactic(auto, unfolding(crate::specs::Entries::body_of))]
 fn body(alloc: Global, others: Vec<Field>) -> Result<Fields, Stop>
     ensures { Gives (λ f. f) result (body_of (map member others.items)) }
 {
-    if deepest_member(others.as_slice()) > MOST_NESTING || has_reserved(others.as_slice()) {
+    if deepest_member(others.as_slice()) > MAX_LITERAL_NESTING || has_reserved(others.as_slice()) {
         refuse(others)
     } else {
         distinct(alloc, others)
     }
 }
 
+// The resource of these parts, where it may have them.
 #[tactic(auto, unfolding(crate::specs::Entries::resource_of))]
 fn resource(
     alloc: Global,

@@ -4,13 +4,13 @@ use bicep_lexer::LexFault;
 use bicep_parser::ParseFault;
 use thiserror::Error;
 
-/// Why the resources of a file are not told.
+/// Why a file declares no resources.
 #[derive(Clone, Copy, Debug, Error, PartialEq, Eq)]
 pub enum LiteralFault {
     /// The file is not in the literal form.
     #[error("not literal")]
     NotLiteral,
-    /// Memory was wanted; nothing is told of the file.
+    /// Out of memory; the file may be in the literal form or not.
     #[error("out of memory")]
     OutOfMemory,
 }
@@ -18,16 +18,16 @@ pub enum LiteralFault {
 /// Why a source declares no resources.
 #[derive(Clone, Copy, Debug, Error, PartialEq, Eq)]
 pub enum SourceFault {
-    /// What the lexer met, which is never its want of memory.
+    /// The lexer refused the source. The fault is never its `OutOfMemory`.
     #[error("{0}")]
     Lexical(LexFault),
-    /// What the parser met, which is never its want of memory.
+    /// The parser refused the tokens. The fault is never its `OutOfMemory`.
     #[error("{0}")]
     Syntax(ParseFault),
     /// The file is not in the literal form.
     #[error("not literal")]
     NotLiteral,
-    /// Memory was wanted; nothing is told of the file.
+    /// Out of memory; the file may be in the literal form or not.
     #[error("out of memory")]
     OutOfMemory,
 }

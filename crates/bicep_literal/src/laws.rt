@@ -1,4 +1,4 @@
-//! What holds of the literal form.
+//! Laws of the literal form.
 
 ghost use Rattle.bicep_literal.specs.Source.{DeclareOneList};
 

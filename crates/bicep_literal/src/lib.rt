@@ -1,8 +1,8 @@
 //! Bicep files in the literal form: resources whose members are literals.
 //!
-//! A caller may rely on it that the resources are those that a source declares, that no source declares two lists
-//! of resources, and that a source that is refused is in no literal form. The form is `specs/Literal.antt`, with
-//! what holds beside it in `specs/Source.antt`.
+//! A caller may rely on it that the resources are those that a source declares, that no source
+//! declares two lists of resources, and that a source that is refused is not in the literal form.
+//! The form is in `specs/Literal.antt`, and its rules for whole files in `specs/Source.antt`.
 #![tactic(auto)]
 
 mod compare;

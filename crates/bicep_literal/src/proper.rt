@@ -8,11 +8,11 @@ ghost use Rattle.literal_template.specs.Resources.{is_deployment};
 ghost use Rattle.bicep_literal.specs.Source.{is_reserved};
 ghost use Rattle.bicep_literal.specs.Entries.{is_fit, is_proper};
 
-use crate::words::{is_among, is_same_word};
+use crate::words::is_among;
 use arm_value::{OutOfMemory, Text};
 use std::alloc::Global;
 
-/// The names that no member of a resource has but `name` itself, in letters of any case.
+// The names that no member of a resource has but `name` itself, in letters of any case.
 const RESERVED: [&str; 14] = [
     "parent",
     "existing",
@@ -34,7 +34,7 @@ const RESERVED: [&str; 14] = [
 pub fn is_reserved(name: &Text) -> bool
     ensures { result ≡ is_reserved name.now }
 {
-    is_among(name.as_str(), &RESERVED)
+    is_among(name, &RESERVED)
 }
 
 // The parts of a text between its slashes.
@@ -44,6 +44,7 @@ fn segments(alloc: Global, text: &str) -> Result<Vec<&str>, OutOfMemory>
     text.split('/').collect(alloc)
 }
 
+// Whether the text is empty.
 fn is_blank(text: &str) -> bool
     ensures { result ≡ is_empty (chars text.now) }
 {
@@ -75,10 +76,11 @@ fn is_fit(alloc: Global, kind: &Text, name: &Text) -> Result<bool, OutOfMemory>
     Ok(names.len() < kinds.len() && kinds.len() - names.len() == 1)
 }
 
+// Whether the type is that of nested deployments.
 fn is_deployment(kind: &Text) -> bool
     ensures { result ≡ is_deployment kind.now }
 {
-    is_same_word(kind.as_str(), "Microsoft.Resources/deployments")
+    kind.equals_ignore_case("Microsoft.Resources/deployments")
 }
 
 /// Whether a resource may have this type, version and name.

@@ -7,15 +7,16 @@ ghost use Rattle.literal_template.specs.Resources.{IsLiteral};
 ghost use Rattle.literal_template.specs.declared.resource.Resource.{Resource};
 ghost use Rattle.bicep_literal.specs.Source.{TreeDeclares};
 ghost use Rattle.bicep_literal.specs.Checks.{declared};
-ghost use Rattle.bicep_literal.specs.Values.{Gives};
+ghost use Rattle.foundation.specs.Stopping.{Gives};
 
 use crate::compare::are_proper;
 use crate::entry::Entry;
 use crate::fault::LiteralFault;
 use crate::statement::read;
-use crate::stop::{Stop, refuse, with_last};
+use crate::stop::{refuse, with_last};
 use arm_value::OutOfMemory;
 use bicep_tree::Statement;
+use foundation::Stop;
 use literal_template::Resource;
 use std::alloc::Global;
 
@@ -37,6 +38,7 @@ fn resources_in(alloc: Global, entries: Vec<Entry>) -> Result<Vec<Resource>, Out
     Ok(resources)
 }
 
+// The resources that the file declares.
 fn declared(alloc: Global, file: &[Statement]) -> Result<Vec<Resource>, Stop>
     ensures { Gives (λ rs. rs.items) result (declared (file_of file.now)) }
 {
@@ -52,7 +54,7 @@ fn declared(alloc: Global, file: &[Statement]) -> Result<Vec<Resource>, Stop>
 ///
 /// # Errors
 ///
-/// `NotLiteral` where the file is not in that form; `OutOfMemory` where memory was wanted.
+/// `NotLiteral` where the file is not in that form; `OutOfMemory`.
 pub fn resources_of(alloc: Global, file: &[Statement]) -> Result<Vec<Resource>, LiteralFault>
     ensures declared { IfOk result (λ rs. TreeDeclares (file_of file.now) rs.items) }
     ensures literal { IfOk result (λ rs. AllByRecursion IsLiteral rs.items) }
@@ -61,7 +63,7 @@ pub fn resources_of(alloc: Global, file: &[Statement]) -> Result<Vec<Resource>, 
 {
     match declared(alloc, file) {
         Ok(resources) => Ok(resources),
-        Err(Stop::NotLiteral) => Err(LiteralFault::NotLiteral),
+        Err(Stop::Refused) => Err(LiteralFault::NotLiteral),
         Err(Stop::OutOfMemory) => Err(LiteralFault::OutOfMemory),
     }
 }

@@ -4,7 +4,7 @@ ghost use Rattle.std.specs.Prelude.{◌≡◌, IfOk, IfErr};
 ghost use Rattle.std.specs.List.{AllByRecursion};
 ghost use Rattle.literal_template.specs.Resources.{IsLiteral};
 ghost use Rattle.bicep_literal.specs.Source.{SourceDeclares};
-ghost use Rattle.bicep_literal.specs.Refused.{told, told_syntax, IsRefused};
+ghost use Rattle.bicep_literal.specs.Refused.{lexical_fault, syntax_fault, IsRefused};
 
 use crate::fault::{LiteralFault, SourceFault};
 use crate::reading::resources_of;
@@ -13,9 +13,9 @@ use bicep_parser::{ParseFault, parse, tokens_spell_one_file};
 use literal_template::Resource;
 use std::alloc::Global;
 
-// What is told of a fault of the lexer.
-fn told(fault: LexFault) -> SourceFault
-    ensures { result ≡ told fault }
+// The fault of a source that the lexer refuses.
+fn lexical_fault(fault: LexFault) -> SourceFault
+    ensures { result ≡ lexical_fault fault }
 {
     match fault {
         LexFault::OutOfMemory => SourceFault::OutOfMemory,
@@ -23,9 +23,9 @@ fn told(fault: LexFault) -> SourceFault
     }
 }
 
-// What is told of a fault of the parser.
-fn told_syntax(fault: ParseFault) -> SourceFault
-    ensures { result ≡ told_syntax fault }
+// The fault of a source whose tokens the parser refuses.
+fn syntax_fault(fault: ParseFault) -> SourceFault
+    ensures { result ≡ syntax_fault fault }
 {
     match fault {
         ParseFault::OutOfMemory => SourceFault::OutOfMemory,
@@ -35,14 +35,13 @@ fn told_syntax(fault: ParseFault) -> SourceFault
 
 /// The resources that a Bicep file declares, in its order.
 ///
-/// It recurses at most as deep as expressions may nest.
+/// It recurses at most 64 deep, the limit of expressions.
 ///
 /// # Errors
 ///
-/// `Lexical` tells what the lexer met and `Syntax` what the parser met, at its offset in bytes.
-/// `NotLiteral` is answered where the source is a file that is not in the literal form, of which
-/// the limits (800 resources) are part: `SourceDeclares` of `specs/Source`. `OutOfMemory` comes
-/// where memory was wanted.
+/// `Lexical` has the fault of the lexer and `Syntax` that of the parser, each with its place in
+/// bytes. `NotLiteral` comes where the source is a file that is not in the literal form, which
+/// includes its limits, as 800 resources (`SourceDeclares` of `specs/Source`). `OutOfMemory`.
 pub fn resources(alloc: Global, source: &str) -> Result<Vec<Resource>, SourceFault>
     ensures declared { IfOk result (λ rs. SourceDeclares source.now rs.items) }
     ensures literal { IfOk result (λ rs. AllByRecursion IsLiteral rs.items) }
@@ -50,12 +49,12 @@ pub fn resources(alloc: Global, source: &str) -> Result<Vec<Resource>, SourceFau
 {
     let found = match tokens(alloc, source) {
         Ok(found) => found,
-        Err(fault) => return Err(told(fault)),
+        Err(fault) => return Err(lexical_fault(fault)),
     };
     tokens_spell_one_file();
     let file = match parse(alloc, found.as_slice()) {
         Ok(file) => file,
-        Err(fault) => return Err(told_syntax(fault)),
+        Err(fault) => return Err(syntax_fault(fault)),
     };
     match resources_of(alloc, file.as_slice()) {
         Ok(resources) => Ok(resources),

@@ -4,13 +4,14 @@ ghost use Rattle.std.specs.Prelude.{◌≡◌, map};
 ghost use Rattle.arm_value.specs.View.{member};
 ghost use Rattle.bicep_tree.specs.View as view;
 ghost use Rattle.bicep_literal.specs.Entries.{entry_of, resource_entry, declared_entry, statement_entry, read};
-ghost use Rattle.bicep_literal.specs.Values.{Gives};
+ghost use Rattle.foundation.specs.Stopping.{Gives};
 
 use crate::entry::{Entry, entry_of};
-use crate::stop::{Stop, stopped, with_last};
+use crate::stop::{stopped, with_last};
 use crate::value::members;
 use arm_value::Field;
 use bicep_tree::{Body, Declaration, Resource, Statement};
+use foundation::Stop;
 use std::alloc::Global;
 
 // The entry of these members, with the symbol and the type text of the resource.
@@ -32,16 +33,16 @@ fn resource_entry(alloc: Global, resource: &Resource) -> Result<Entry, Stop>
     ensures { Gives (λ e. e) result (resource_entry (view.resource_of resource.now)) }
 {
     if resource.existing {
-        return Err(Stop::NotLiteral);
+        return Err(Stop::Refused);
     }
     match &resource.body {
         Body::Plain(object) => {
             let members = members(alloc, object)?;
             named_entry(alloc, resource, members)
         }
-        Body::If(_, _, _) => Err(Stop::NotLiteral),
-        Body::Each(_, _) => Err(Stop::NotLiteral),
-        Body::EachIf(_, _, _, _) => Err(Stop::NotLiteral),
+        Body::If(_, _, _) => Err(Stop::Refused),
+        Body::Each(_, _) => Err(Stop::Refused),
+        Body::EachIf(_, _, _, _) => Err(Stop::Refused),
     }
 }
 
@@ -50,7 +51,7 @@ fn declared_entry(alloc: Global, declaration: &Declaration) -> Result<Entry, Sto
 {
     match declaration {
         Declaration::Resource(resource) => resource_entry(alloc, resource),
-        _ => Err(Stop::NotLiteral),
+        _ => Err(Stop::Refused),
     }
 }
 
@@ -59,7 +60,7 @@ fn statement_entry(alloc: Global, statement: &Statement) -> Result<Entry, Stop>
 {
     match statement.decorators.as_slice() {
         [] => declared_entry(alloc, &statement.declaration),
-        [_, ..] => Err(Stop::NotLiteral),
+        [_, ..] => Err(Stop::Refused),
     }
 }
 

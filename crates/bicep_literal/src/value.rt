@@ -7,12 +7,14 @@ ghost use Rattle.bicep_tree.specs.Tree as tree;
 ghost use Rattle.bicep_tree.specs.View as view;
 ghost use Rattle.bicep_tree.specs.View.{tree_of};
 ghost use Rattle.bicep_literal.specs.Literal.{constant, named};
-ghost use Rattle.bicep_literal.specs.Values.{plain_name, value_of, values_of, members_of, each_of, member_of, given_of, Gives};
+ghost use Rattle.bicep_literal.specs.Values.{plain_name, value_of, values_of, members_of, each_of, member_of, given_of};
+ghost use Rattle.foundation.specs.Stopping.{Gives};
 
 use crate::object::{array, object};
-use crate::stop::{Stop, stopped, with_last};
+use crate::stop::{stopped, with_last};
 use arm_value::{Field, OutOfMemory, Text, Value};
 use bicep_tree::{Expr, Label, Literal, Member, Object};
+use foundation::Stop;
 use literal_template::is_special;
 use std::alloc::Global;
 
@@ -44,7 +46,7 @@ fn plain_name(alloc: Global, label: &Label) -> Result<Text, Stop>
 {
     let name = named(label);
     if is_special(name) {
-        return Err(Stop::NotLiteral);
+        return Err(Stop::Refused);
     }
     Ok(name.copy(alloc)?)
 }
@@ -59,16 +61,16 @@ pub fn value(alloc: Global, expr: &Expr) -> Result<Value, Stop>
         Expr::Literal(_, literal) => Ok(constant(alloc, literal)?),
         Expr::Array(_, items) => array(values(alloc, items.as_slice())?),
         Expr::Object(inner) => object(alloc, members(alloc, inner)?),
-        Expr::Name(_) => Err(Stop::NotLiteral),
-        Expr::Interpolated(_, _, _) => Err(Stop::NotLiteral),
-        Expr::Parentheses(_, _) => Err(Stop::NotLiteral),
-        Expr::Call(_, _) => Err(Stop::NotLiteral),
-        Expr::Access(_, _, _) => Err(Stop::NotLiteral),
-        Expr::Index(_, _, _) => Err(Stop::NotLiteral),
-        Expr::NotNull(_) => Err(Stop::NotLiteral),
-        Expr::Prefix(_, _, _) => Err(Stop::NotLiteral),
-        Expr::Binary(_, _, _) => Err(Stop::NotLiteral),
-        Expr::Conditional(_, _, _) => Err(Stop::NotLiteral),
+        Expr::Name(_) => Err(Stop::Refused),
+        Expr::Interpolated(_, _, _) => Err(Stop::Refused),
+        Expr::Parentheses(_, _) => Err(Stop::Refused),
+        Expr::Call(_, _) => Err(Stop::Refused),
+        Expr::Access(_, _, _) => Err(Stop::Refused),
+        Expr::Index(_, _, _) => Err(Stop::Refused),
+        Expr::NotNull(_) => Err(Stop::Refused),
+        Expr::Prefix(_, _, _) => Err(Stop::Refused),
+        Expr::Binary(_, _, _) => Err(Stop::Refused),
+        Expr::Conditional(_, _, _) => Err(Stop::Refused),
     }
 }
 
@@ -122,7 +124,7 @@ fn field(alloc: Global, inner: &Member) -> Result<Field, Stop>
                 Err(stop) => stopped(stop, name),
             }
         }
-        Member::Child(_, _) => Err(Stop::NotLiteral),
+        Member::Child(_, _) => Err(Stop::Refused),
     }
 }
 
@@ -133,6 +135,6 @@ fn given_value(alloc: Global, given: &bicep_tree::Value) -> Result<Value, Stop>
 {
     match given {
         bicep_tree::Value::Plain(expr) => value(alloc, expr),
-        bicep_tree::Value::Each(_, _) => Err(Stop::NotLiteral),
+        bicep_tree::Value::Each(_, _) => Err(Stop::Refused),
     }
 }

@@ -1,4 +1,4 @@
--- What is spelled is read, whatever follows it: expressions, and what stands in their objects.
+-- What is spelled is read, whatever follows it: expressions, and what is in their objects.
 use Rattle.std.proofs.Common.{◌≡◌, ℕ, ◌+◌, ◌&&◌, ◌≤◌, nat_lt, List, [], ◌∷◌, ◌++◌, Bool, true, false, true≢false}
 use Rattle.std.proofs.Common.{Some, None, option_and_then, cond, codes, refl, ap, sym, ◌∙◌, arith, subst, append-nil}
 use Rattle.std.proofs.Common.{append_assoc}
@@ -55,7 +55,7 @@ use Rattle.bicep_machine.specs.Closing.{closed, named_on, over_on, body_on, is_f
 use Rattle.bicep_machine.specs.Closing.{paren_on, bracket_on, comma_on, brace_on, colon_on, late_colon_on, middle_on}
 use Rattle.bicep_machine.specs.Closing.{right_on, newline_on}
 use Rattle.bicep_machine.specs.Machine.{is_in, is_if, is_sys, is_resource, is_existing, namespace_of, space_on}
-use Rattle.bicep_machine.specs.Machine.{child_on, with_operator, with_question, moved, run}
+use Rattle.bicep_machine.specs.Machine.{child_on, with_operator, with_question, transition, run}
 use Rattle.bicep_machine.proofs.Keeping.{trees-each, holes-each, members-each, each_tree, each_hole, each_member}
 use Rattle.bicep_machine.proofs.Keeping.{each_decorator, keep, keep_object, keep_list, keep_holes, keep_decorators}
 use Rattle.bicep_machine.proofs.Keeping.{keep_body, keep_member, keep_members}
@@ -65,7 +65,7 @@ use Rattle.bicep_machine.proofs.Building.{keep_each, keep_body_each, keep_body_e
 use Rattle.bicep_machine.proofs.Building.{members_put, decorators_put}
 use Rattle.bicep_machine.proofs.Running.{Fits, Fits-mono, level_bounds, last, Spined, spined, last-primary, spine}
 use Rattle.bicep_machine.proofs.Running.{spine-primary, stops, closes, Reads, Goes, moves, takes_at, takes, goes_at}
-use Rattle.bicep_machine.proofs.Running.{goes, Begins, begins, skips_behind, named_reads, ends, rejoins}
+use Rattle.bicep_machine.proofs.Running.{goes, Begins, begins, skips_after, named_reads, ends, rejoins}
 
 -- ---- words
 
@@ -98,7 +98,7 @@ unfolding namespace_of
 namespace_is z.Sys = refl
 namespace_is z.Az = refl
 
--- an array before its items: nothing was read behind its `[`, or perhaps separators
+-- an array before its items: nothing was read after its `[`, or perhaps separators
 abbrev pub array_frame : ℕ → Bool → ℕ → Bool → List Tree → Frame
 array_frame most true at i [] = opened at i
 array_frame most true at i (e ∷ es) = in_array at i (keep_list most (e ∷ es))
@@ -125,8 +125,8 @@ module _ (most : ℕ) (low : 1 ≤ most) (r : Kept FileTree) where
   late_lines k U ((at, y) ∷ passed) m all h = absurd (true≢false (sym all.0))
 
   late : (k : Kept Tree) (i : Bool) (U : List Frame) (y : Terminal) (ts m : List Placed) (n : Next)
-      → token true y ts m → is_newline y ≡ false → ((at : ℕ) → moved most (done k) i U at y ≡ n)
-      → ((at : ℕ) → i ≡ false → moved most (paused k) false U at y ≡ n) → Go n m → Read (done k) i U ts
+      → token true y ts m → is_newline y ≡ false → ((at : ℕ) → transition most (done k) i U at y ≡ n)
+      → ((at : ℕ) → i ≡ false → transition most (paused k) false U at y ≡ n) → Go n m → Read (done k) i U ts
   late k true U y ts m n tk ne e g h = takes most r (done k) true U y ts m n tk ne e h
   late k false U y ts m n tk ne e g h = ap (run most (done k) false U) tk.1.2 ∙ by tk.1.0 tk.1.1
     where
@@ -137,7 +137,7 @@ module _ (most : ℕ) (low : 1 ≤ most) (r : Kept FileTree) where
           ∙ moves most r (paused k) false U tk.2.0 y m n ne (g tk.2.0 refl) h)
       by ((at, u) ∷ passed) all = absurd (true≢false (sym all.0))
 
-  -- `?` behind a condition
+  -- `?` after a condition
   asks : (e : Tree) (i : Bool) (S : List Frame) (ts m : List Placed) → Spined e → 1 ≤ rank e → Fits S 1
       → token true t.Question ts m → Read (wanted true) i (asked (keep most e) ∷ S) m
       → Read (done (keep most (last e))) i (spine most e S) ts
@@ -148,7 +148,7 @@ module _ (most : ℕ) (low : 1 ≤ most) (r : Kept FileTree) where
       refl (λ at. ap (with_question most i) shut) (λ at f. ap (with_question most false) shut
       ∙ ap (λ b. Some (wanted true, b, asked (keep most e) ∷ S)) (sym f)) h
 
-  -- `:` behind the first branch
+  -- `:` after the first branch
   chooses : (e : Tree) (c : Kept Tree) (i : Bool) (S : List Frame) (ts m : List Placed) → Spined e
       → token true t.Colon ts m → Read (wanted true) i (chosen c (keep most e) ∷ S) m
       → Read (done (keep most (last e))) i (spine most e (asked c ∷ S)) ts
@@ -174,7 +174,7 @@ module _ (most : ℕ) (low : 1 ≤ most) (r : Kept FileTree) where
       → Read member false U ts
   parts_members U ts m k h = ap (run most member false U) k.2 ∙ member_parted U k.0 m k.1 h
 
-  -- behind a member
+  -- after a member
   past_parted : (d : Kept MemberTree) (U V : List Frame) (at : ℕ) (y : Terminal) (m : List Placed)
       → is_separator y ≡ true → member_put d U ≡ Some (member, false, V) → Read member false V m
       → Read (past_member d) false U ((at, y) ∷ m)
@@ -198,7 +198,7 @@ module _ (most : ℕ) (low : 1 ≤ most) (r : Kept FileTree) where
   parts_items o i es S ts m k h = ap (run most item false (in_array o i (keep_list most es) ∷ S)) k.2
       ∙ item_passed o i es S k.0 m k.1 h
 
-  -- behind the `[`
+  -- after the `[`
   parts_opened : (o : ℕ) (i : Bool) (S : List Frame) (ts m : List Placed) → separators ts m
       → ((b : Bool) → Read item false (array_frame most b o i [] ∷ S) m) → Read item false (opened o i ∷ S) ts
   parts_opened o i S ts m k h = ap (run most item false (opened o i ∷ S)) k.2 ∙ by k.0 k.1
@@ -210,7 +210,7 @@ module _ (most : ℕ) (low : 1 ≤ most) (r : Kept FileTree) where
       by ((at, t.Comma) ∷ passed) all = item_passed o i [] S passed m all.1 (h false)
       by ((at, y) ∷ passed) all = absurd (true≢false (sym all.0))
 
-  -- an item stands in its array
+  -- an item is in its array
   item_put : (b : Bool) (o : ℕ) (i : Bool) (es : List Tree) (e : Tree) (S : List Frame)
       → comma_on most (keep most e, array_frame most b o i es ∷ S)
       ≡ Some (item, false, in_array o i (keep_list most (es ++ e ∷ [])) ∷ S)
@@ -231,7 +231,7 @@ module _ (most : ℕ) (low : 1 ≤ most) (r : Kept FileTree) where
   shut_array true o i (y ∷ es) k S = refl
   shut_array false o i es k S = refl
 
-  -- a separator behind an item
+  -- a separator after an item
   part_item : (e : Tree) (b : Bool) (o : ℕ) (i : Bool) (es : List Tree) (S : List Frame) (at : ℕ) (y : Terminal)
       (m : List Placed) → Spined e → is_separator y ≡ true
       → Read item false (in_array o i (keep_list most (es ++ e ∷ [])) ∷ S) m
@@ -251,7 +251,7 @@ module _ (most : ℕ) (low : 1 ≤ most) (r : Kept FileTree) where
       ∙ shut_array b o i es (keep most e) S) ∙ item_line b o i es e S) h
   part_item e b o i es S at y m sp is h = absurd (true≢false (sym is))
 
-  -- `]` behind an item
+  -- `]` after an item
   close_item : (e : Tree) (b : Bool) (o : ℕ) (i : Bool) (es : List Tree) (S : List Frame) (ts ks : List Placed)
       → Spined e → sign t.CloseBracket ts ks → Read (done (keep most (array o (trees (es ++ e ∷ []))))) i S ks
       → Read (done (keep most (last e))) false (spine most e (array_frame most b o i es ∷ S)) ts
@@ -269,7 +269,7 @@ module _ (most : ℕ) (low : 1 ≤ most) (r : Kept FileTree) where
       by false es h = same_done _ _ i S ks (ap (of_items most o) (list_put most es e)
           ∙ keep_array most o (es ++ e ∷ [])) h
 
-  -- `]` behind separators
+  -- `]` after separators
   close_items : (b : Bool) (o : ℕ) (i : Bool) (es : List Tree) (S : List Frame) (ts ks : List Placed)
       → sign t.CloseBracket ts ks → Read (done (keep most (array o (trees es)))) i S ks
       → Read item false (array_frame most b o i es ∷ S) ts
@@ -328,7 +328,7 @@ module _ (most : ℕ) (low : 1 ≤ most) (r : Kept FileTree) where
       low_is : (n : ℕ) → 1 ≤ n → nat_lt 0 n ≡ true
       low_is n h = grind (arith, nat_tests)
 
-  -- the names behind `[for`, and `in`
+  -- the names after `[for`, and `in`
   pub loop_begins : (l : LoopNames) (o from : ℕ) (P : List Frame) (ts m : List Placed)
       → ((n : Name) → named_on o false n P ≡ Some (among o (ns.Item n), false, P))
       → (loop_names l ▹ word (codes "in")) ts m → Go (over_on o l P) m
@@ -371,7 +371,7 @@ module _ (most : ℕ) (low : 1 ≤ most) (r : Kept FileTree) where
       (λ at. ap (λ v. cond v (cond (is_for (codes "for")) (over_on o (ns.Both a b) P) None) None) in_is
       ∙ ap (λ v. cond v (over_on o (ns.Both a b) P) None) for_is) h))))))
 
-  -- the names behind `[for` of a body, and `in`
+  -- the names after `[for` of a body, and `in`
   pub body_begins : (ns : LoopNames) (o : ℕ) (P : List Frame) (ts m : List Placed)
       → (loop_names ns ▹ word (codes "in")) ts m → Go (over_on o ns P) m → Read (names_wanted o) false P ts
   body_begins (ns.Item n) o P ts m (k1, nm, wd) h =
@@ -415,7 +415,7 @@ module _ (most : ℕ) (low : 1 ≤ most) (r : Kept FileTree) where
   braces_same at was k ms S ks e h = go_same _ _ ks (ap (λ y. object_on most was (of_members most at y) S) e
       ∙ ap (λ o. object_on most was o S) (keep_braces most at ms)) h
 
-  -- separators and `}` behind a member
+  -- separators and `}` after a member
   end_member : (at : ℕ) (was : Bool) (ms : List MemberTree) (m : MemberTree) (S : List Frame) (ts ks : List Placed)
       → (separators ▹ sign t.CloseBrace) ts ks
       → Go (object_on most was (keep_object most (braces at (members (ms ++ m ∷ [])))) S) ks
@@ -453,7 +453,7 @@ module _ (most : ℕ) (low : 1 ≤ most) (r : Kept FileTree) where
       (ap (λ k. Some (member, false, in_object at was k ∷ S)) (members_put most ms m))
       (parts_members (in_object at was (keep_members most (ms ++ m ∷ [])) ∷ S) m1 ks seps h)
 
-  -- the end of the members behind one
+  -- the end of the members after one
   all_members : (before : List MemberTree) (m : MemberTree) (ms : MemberTrees)
       → (before ++ m ∷ []) ++ each_member ms ≡ before ++ m ∷ each_member ms
   all_members before m ms = append_assoc before (m ∷ []) (each_member ms)
@@ -470,7 +470,7 @@ module _ (most : ℕ) (low : 1 ≤ most) (r : Kept FileTree) where
       refl h
 
   label_colon : (n : Label) (U : List Frame) (at : ℕ)
-      → moved most (labelled n) false U at t.Colon ≡ Some (wanted false, false, valued n ∷ U)
+      → transition most (labelled n) false U at t.Colon ≡ Some (wanted false, false, valued n ∷ U)
   label_colon (label.Name n) U at = refl
   label_colon (label.Quoted q) U at = refl
 
@@ -642,17 +642,17 @@ module _ (most : ℕ) (low : 1 ≤ most) (r : Kept FileTree) where
         (Some (wanted true, i, left op (keep most a) ∷ S)) tk refl
         (λ at. ap (with_operator most i op) (closes most a (level op) S sp g.0
         ∙ stops most S (level op) (keep most a) (level_bounds op).0 (level_bounds op).1 fits))
-        (skips_behind most r i (left op (keep most a) ∷ S) m1 m2 sk
+        (skips_after most r i (left op (keep most a) ∷ S) m1 m2 sk
         (complete b2 (wanted true) i (left op (keep most a) ∷ S) m2 ks tt g.1 l2 goal)))
     complete (conditional c a b2) st i S ts ks b fits
         (g, (m, l1, (m1, qu, (m2, sk, (m3, l2, (m4, co, (m5, sl, l3))))))) goal =
         let fits1 = Fits-mono S 0 1 (omega arith) fits in
         complete c st i S ts m b (Fits-mono S 0 (rank c) (omega arith) fits) l1
         (asks c i S m m1 (spined c i ts m l1) g fits1 qu
-        (skips_behind most r i (asked (keep most c) ∷ S) m1 m2 sk
+        (skips_after most r i (asked (keep most c) ∷ S) m1 m2 sk
         (complete a (wanted true) i (asked (keep most c) ∷ S) m2 m3 tt tt l2
         (chooses a (keep most c) i S m3 m4 (spined a i m2 m3 l2) co
-        (skips_behind most r i (chosen (keep most c) (keep most a) ∷ S) m4 m5 sl
+        (skips_after most r i (chosen (keep most c) (keep most a) ∷ S) m4 m5 sl
         (complete b2 (wanted true) i (chosen (keep most c) (keep most a) ∷ S) m5 ks tt tt l3 goal))))))
 
     complete_holes : (hs : Holes) (at : ℕ) (u : List ℕ) (before : List (Tree × List ℕ)) (i : Bool) (S : List Frame)
@@ -662,23 +662,23 @@ module _ (most : ℕ) (low : 1 ≤ most) (r : Kept FileTree) where
     complete_holes no_hole at u before i S ts ks h goal = absurd h
     complete_holes (hole e v hs) at u before i S ts ks (m, inner, rest) goal =
         complete e (wanted false) i (in_text at u (keep_holes most before) ∷ S) ts m tt tt inner
-        (complete_behind hs e v at u before i S m ks (spined e i ts m inner) rest goal)
+        (complete_after hs e v at u before i S m ks (spined e i ts m inner) rest goal)
 
-    complete_behind : (hs : Holes) (e : Tree) (v : List ℕ) (at : ℕ) (u : List ℕ) (before : List (Tree × List ℕ))
+    complete_after : (hs : Holes) (e : Tree) (v : List ℕ) (at : ℕ) (u : List ℕ) (before : List (Tree × List ℕ))
         (i : Bool) (S : List Frame) (ts ks : List Placed) → Spined e → behind_hole i v hs ts ks
         → Read (done (keep most (interpolated at u (holes (before ++ (e, v) ∷ each_hole hs))))) i S ks
         → Read (done (keep most (last e))) i (spine most e (in_text at u (keep_holes most before) ∷ S)) ts
-    complete_behind no_hole e v at u before i S ts ks sp tk goal =
+    complete_after no_hole e v at u before i S ts ks sp tk goal =
         ends most r e i (in_text at u (keep_holes most before) ∷ S) (t.RightPiece v) ts ks (right_on most i v) sp tk
         refl (λ k U x. refl)
         (same_done _ _ i S ks (ap (of_holes most at u) (holes_put most before e v)
         ∙ keep_interpolated most at u (before ++ (e, v) ∷ [])) goal)
-    complete_behind (hole e2 v2 hs) e v at u before i S ts ks sp (m, tk, (m1, inner, rest)) goal =
+    complete_after (hole e2 v2 hs) e v at u before i S ts ks sp (m, tk, (m1, inner, rest)) goal =
         ends most r e i (in_text at u (keep_holes most before) ∷ S) (t.MiddlePiece v) ts m (middle_on most i v) sp tk
         refl (λ k U x. refl)
         (subst (λ k. Read (wanted false) i (in_text at u k ∷ S) m) (sym (holes_put most before e v))
         (complete e2 (wanted false) i (in_text at u (keep_holes most (before ++ (e, v) ∷ [])) ∷ S) m m1 tt tt inner
-        (complete_behind hs e2 v2 at u (before ++ (e, v) ∷ []) i S m1 ks (spined e2 i m m1 inner) rest
+        (complete_after hs e2 v2 at u (before ++ (e, v) ∷ []) i S m1 ks (spined e2 i m m1 inner) rest
         (subst (λ xs. Read (done (keep most (interpolated at u (holes xs)))) i S ks)
         (sym (append_assoc before ((e, v) ∷ []) ((e2, v2) ∷ each_hole hs))) goal))))
 

@@ -25,10 +25,10 @@ use Rattle.bicep_machine.specs.Stack as s
 use Rattle.bicep_machine.specs.Stack.{Decorators, header, nothing_before, Assigned, to_metadata, to_scope, to_param}
 use Rattle.bicep_machine.specs.Stack.{to_var, to_output, Frame, opened, assigned, over, looped, bodied, in_file}
 use Rattle.bicep_machine.specs.Stack.{State, wanted, done, item, at_sign, decorated, past_decorators, declaring}
-use Rattle.bicep_machine.specs.Stack.{declared, typed, headed, between, behind, Next, among}
+use Rattle.bicep_machine.specs.Stack.{declared, typed, headed, between, past_statement, Next, among}
 use Rattle.bicep_machine.specs.Closing.{of_statement, with_expression, named_on, over_on, each_on, bracket_on}
 use Rattle.bicep_machine.specs.Closing.{colon_on, newline_on}
-use Rattle.bicep_machine.specs.Machine.{word_of, type_of, word_on, type_on, ended_by, moved, run, parsed}
+use Rattle.bicep_machine.specs.Machine.{word_of, type_of, word_on, type_on, ended_by, transition, run, parsed}
 use Rattle.bicep_machine.proofs.Keeping.{each_tree, each_decorator, keep, keep_list, keep_value, keep_decorators}
 use Rattle.bicep_machine.proofs.Keeping.{keep_declaration, keep_statement, keep_file}
 use Rattle.bicep_machine.proofs.Building.{keep_each, decorators_put, statements_put}
@@ -84,7 +84,7 @@ module _ (most : ℕ) (low : 1 ≤ most) (r : Kept FileTree) where
 
   -- an expression in its place is a statement
   as_statement : (e : Tree) (ds : Decorators) (d : Assigned) (ss : Kept FileTree) (S : List Frame) (ts : List Placed)
-      → Spined e → Read (behind (of_statement ds (with_expression d (keep most e)))) false (in_file ss ∷ S) ts
+      → Spined e → Read (past_statement (of_statement ds (with_expression d (keep most e)))) false (in_file ss ∷ S) ts
       → Read (done (keep most (last e))) false (spine most e (assigned ds d ∷ in_file ss ∷ S)) ts
   as_statement e ds d ss S [] sp h =
       ap (ended_by most) (closes most e 0 (assigned ds d ∷ in_file ss ∷ S) sp (omega arith)) ∙ h
@@ -99,21 +99,22 @@ module _ (most : ℕ) (low : 1 ≤ most) (r : Kept FileTree) where
 
   -- a parameter without a default is one
   as_param : (ds : Decorators) (o : ℕ) (n : Name) (ty : TypeName) (S : List Frame) (ts : List Placed)
-      → Read (behind (of_statement ds (flat (param o n ty)))) false S ts → Read (typed ds o w.Param n ty) false S ts
+      → Read (past_statement (of_statement ds (flat (param o n ty)))) false S ts
+      → Read (typed ds o w.Param n ty) false S ts
   as_param ds o n ty S [] h = h
   as_param ds o n ty S ((at, t.Newline) ∷ ts) h = h
   as_param ds o n ty S ((at, y) ∷ ts) h = absurd cc
 
-  -- an expression behind `=`
+  -- an expression after `=`
   assigns : (e : Tree) (ds : Decorators) (d : Assigned) (ss : Kept FileTree) (S : List Frame) (ts ks : List Placed)
       → expression false e ts ks
-      → Read (behind (of_statement ds (with_expression d (keep most e)))) false (in_file ss ∷ S) ks
+      → Read (past_statement (of_statement ds (with_expression d (keep most e)))) false (in_file ss ∷ S) ks
       → Read (wanted false) false (assigned ds d ∷ in_file ss ∷ S) ts
   assigns e ds d ss S ts ks h goal =
       complete most low r e (wanted false) false (assigned ds d ∷ in_file ss ∷ S) ts ks tt tt h
       (as_statement e ds d ss S ks (spined e false ts ks h) goal)
 
-  -- a for-expression behind `=`
+  -- a for-expression after `=`
   assigns_each : (o : ℕ) (ns : _) (e1 e2 : Tree) (ds : Decorators) (d : Assigned) (U : List Frame) (n : Next)
       (ts ks : List Placed)
       → ((o : ℕ) (x : Name)
@@ -145,9 +146,9 @@ module _ (most : ℕ) (low : 1 ≤ most) (r : Kept FileTree) where
   -- a declaration, from where its word may stand
   complete_declaration : (d : DeclarationTree) (X : State) (K : Decorators) (ss : Kept FileTree) (S : List Frame)
       (ts ks : List Placed)
-      → ((at : ℕ) (u : List ℕ) → moved most X false (in_file ss ∷ S) at (t.Name u) ≡ word_on K at (word_of u)
+      → ((at : ℕ) (u : List ℕ) → transition most X false (in_file ss ∷ S) at (t.Name u) ≡ word_on K at (word_of u)
       (in_file ss ∷ S)) → declaration d ts ks
-      → Read (behind (of_statement K (keep_declaration most d))) false (in_file ss ∷ S) ks
+      → Read (past_statement (of_statement K (keep_declaration most d))) false (in_file ss ∷ S) ks
       → Read X false (in_file ss ∷ S) ts
   complete_declaration (metadata o n e) X K ss S ts ks from (m1, wd, (m2, nm, (m3, asg, inner))) goal =
       let U = in_file ss ∷ S in
@@ -202,7 +203,8 @@ module _ (most : ℕ) (low : 1 ≤ most) (r : Kept FileTree) where
       (goes most r (declared K o w.Var n) U t.Assign m2 m3 (Some (wanted false, false, assigned K (to_var o n) ∷ U))
       asg (λ y. refl)
       (assigns_each p ns e1 e2 K (to_var o n) U
-      (Some (behind (of_statement K (keep_declaration most (var o n (each (loop p ns e1) e2)))), false, U)) m3 ks
+      (Some (past_statement (of_statement K (keep_declaration most (var o n (each (loop p ns e1) e2)))), false, U)) m3
+      ks
       (λ a b. refl) (λ a b. refl) refl inner goal)))
   complete_declaration (output o n ty (plain e)) X K ss S ts ks from (m1, wd, (m2, nm, (m3, kind, (m4, asg, inner))))
       goal =
@@ -231,7 +233,11 @@ module _ (most : ℕ) (low : 1 ≤ most) (r : Kept FileTree) where
       (goes most r (typed K o w.Output n ty) U t.Assign m3 m4
       (Some (wanted false, false, assigned K (to_output o n ty) ∷ U)) asg (λ y. refl)
       (assigns_each p ns e1 e2 K (to_output o n ty) U
-      (Some (behind (of_statement K (keep_declaration most (output o n ty (each (loop p ns e1) e2)))), false, U))
+      (Some (
+        past_statement (of_statement K (keep_declaration most (output o n ty (each (loop p ns e1) e2)))),
+        false,
+        U,
+      ))
       m4 ks (λ a b. refl) (λ a b. refl) refl inner goal))))
   complete_declaration (tree.a_resource (resource o n q x b)) X K ss S ts ks from (
     m1,
@@ -258,7 +264,7 @@ module _ (most : ℕ) (low : 1 ≤ most) (r : Kept FileTree) where
       (complete_body most low r b (header K o owner.Module n q) U m4 ks bd goal))))
 
   complete_statement : (st : StatementTree) (ss : Kept FileTree) (S : List Frame) (ts ks : List Placed)
-      → a_statement st ts ks → Read (behind (keep_statement most st)) false (in_file ss ∷ S) ks
+      → a_statement st ts ks → Read (past_statement (keep_statement most st)) false (in_file ss ∷ S) ks
       → Read between false (in_file ss ∷ S) ts
   complete_statement (statement no_decorator d) ss S ts ks (m, nothing, dec) goal =
       ap (run most between false (in_file ss ∷ S)) nothing
@@ -288,31 +294,32 @@ module _ (most : ℕ) (low : 1 ≤ most) (r : Kept FileTree) where
       → Read between false U ts
   skips_lines U ts m k h = ap (run most between false U) k.2 ∙ lines_passed U k.0 m k.1 h
 
-  -- a newline behind a statement
-  behind_line : (k : Kept StatementTree) (ss : Kept FileTree) (S : List Frame) (at : ℕ) (y : Terminal)
+  -- a newline after a statement
+  after_line : (k : Kept StatementTree) (ss : Kept FileTree) (S : List Frame) (at : ℕ) (y : Terminal)
       (m : List Placed) → is_newline y ≡ true → Read between false (in_file (put ss k) ∷ S) m
-      → Read (behind k) false (in_file ss ∷ S) ((at, y) ∷ m)
-  behind_line k ss S at t.Newline m is h = h
-  behind_line k ss S at y m is h = absurd (true≢false (sym is))
+      → Read (past_statement k) false (in_file ss ∷ S) ((at, y) ∷ m)
+  after_line k ss S at t.Newline m is h = h
+  after_line k ss S at y m is h = absurd (true≢false (sym is))
 
   complete_further : (fs : FileTree) (st : StatementTree) (before : FileTree) (ts : List Placed)
       → further_statements fs ts [] → keep_file most (before ++ st ∷ fs) ≡ r
-      → Read (behind (keep_statement most st)) false (in_file (keep_file most before) ∷ []) ts
+      → Read (past_statement (keep_statement most st)) false (in_file (keep_file most before) ∷ []) ts
   complete_further [] st before ts (passed, all, is) e =
-      ap (run most (behind (keep_statement most st)) false (in_file (keep_file most before) ∷ [])) is ∙ by passed all
+      ap (run most (past_statement (keep_statement most st)) false (in_file (keep_file most before) ∷ [])) is
+      ∙ by passed all
     where
       filed : ◌≡◌ {A = Option (Kept FileTree)} (Some (put (keep_file most before) (keep_statement most st))) (Some r)
       filed = ap Some (statements_put most before st ∙ e)
 
       by : (passed : List Placed) → AllByRecursion (λ t. is_newline t.1 ≡ true) passed
-          → Read (behind (keep_statement most st)) false (in_file (keep_file most before) ∷ []) (passed ++ [])
+          → Read (past_statement (keep_statement most st)) false (in_file (keep_file most before) ∷ []) (passed ++ [])
       by [] all = filed
-      by ((at, y) ∷ passed) all = behind_line (keep_statement most st) (keep_file most before) [] at y (passed ++ [])
+      by ((at, y) ∷ passed) all = after_line (keep_statement most st) (keep_file most before) [] at y (passed ++ [])
           all.0 (lines_passed (in_file (put (keep_file most before) (keep_statement most st)) ∷ []) passed [] all.1
           filed)
   complete_further (s2 ∷ fs) st before ts (m1, (at, y, is, line), (m2, lines, (m3, one_more, rest))) e =
-      ap (run most (behind (keep_statement most st)) false (in_file (keep_file most before) ∷ [])) is
-      ∙ behind_line (keep_statement most st) (keep_file most before) [] at y m1 line
+      ap (run most (past_statement (keep_statement most st)) false (in_file (keep_file most before) ∷ [])) is
+      ∙ after_line (keep_statement most st) (keep_file most before) [] at y m1 line
       (subst (λ k. Read between false (in_file k ∷ []) m1) (sym (statements_put most before st))
       (skips_lines (in_file (keep_file most (before ++ st ∷ [])) ∷ []) m1 m2 lines
       (complete_statement s2 (keep_file most (before ++ st ∷ [])) [] m2 m3 one_more

@@ -132,7 +132,7 @@ module _ (most : ℕ) where
 
   -- ---- what is kept of trees
 
-  -- what stands in the place of an expression that nests too deep
+  -- what replaces an expression that nests too deep
   abbrev pub lost_of : Tree → Tree
   lost_of (object o) = object object_gap
   lost_of e = gap

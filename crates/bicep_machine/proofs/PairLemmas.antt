@@ -7,9 +7,9 @@ use Rattle.bicep_tree.specs.declared.expr.Expr.{Expr}
 use Rattle.bicep_tree.specs.Tree.{name, call, Trees, none, more, trees}
 use Rattle.bicep_tree.specs.View.{tree_of}
 use Rattle.bicep_machine.specs.Closing.{pair_of}
-use Rattle.bicep_machine.specs.Folding.{behind_word, two_names}
+use Rattle.bicep_machine.specs.Folding.{word_before, two_names}
 
-pub pair_of-call : (w : Name) (es : Trees) → pair_of (call (f.Plain w) es) ≡ behind_word w (two_names es)
+pub pair_of-call : (w : Name) (es : Trees) → pair_of (call (f.Plain w) es) ≡ word_before w (two_names es)
 pair_of-call w none = refl
 pair_of-call w (more (name n) none) = refl
 pair_of-call w (more a none) = refl

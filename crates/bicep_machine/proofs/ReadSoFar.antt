@@ -30,7 +30,7 @@ use Rattle.bicep_machine.specs.Stack.{qualified, dotted, done, paused, item, for
 use Rattle.bicep_machine.specs.Stack.{one_named, other_wanted, both_named, member, labelled, past_member, among}
 use Rattle.bicep_machine.specs.Stack.{looped_body, condition, guarded, body_end, at_sign, decorator_named}
 use Rattle.bicep_machine.specs.Stack.{decorator_spaced, decorator_ready, decorated, past_decorators, declaring}
-use Rattle.bicep_machine.specs.Stack.{declared, typed, headed, existed, between, behind, Next}
+use Rattle.bicep_machine.specs.Stack.{declared, typed, headed, existed, between, past_statement, Next}
 use Rattle.bicep_machine.proofs.Keeping.{keep, keep_list, keep_holes, keep_loop, keep_decorators, keep_body}
 use Rattle.bicep_machine.proofs.Keeping.{keep_member, keep_members, keep_statement, keep_file}
 use Rattle.bicep_machine.proofs.Reading.{ItemsRead, MembersRead, StatementsRead, ArgumentsRead, HolesRead}
@@ -85,7 +85,7 @@ IsOperator (asked c ∷ S) = Unit {0}
 IsOperator (chosen c e ∷ S) = Unit {0}
 IsOperator S = ⊥
 
--- a nested resource stands in an object
+-- a nested resource is in an object
 abbrev pub InPlace : Owner → List Frame → Type 0
 InPlace (owner.Child x) S = IsObject S
 InPlace p S = Unit {0}
@@ -126,7 +126,7 @@ assigned_form (to_var at n) = word_at at (codes "var") ▹ named false n ▹ sig
 assigned_form (to_output at n ty) = word_at at (codes "output") ▹ named false n ▹ word (type_word ty) ▹ sign t.Assign
 
 module _ (most : ℕ) where
-  -- behind this come decorators
+  -- after this come decorators
   abbrev pub Decorated : List Frame → (List Placed → Type 0) → Decorators → List Placed → Type 0
   Decorated S P ds m = (flag S ≡ false) × (dts : List DecoratorTree) × (m1 : List Placed)
       × (ds ≡ keep_decorators most dts) × P m1 × grammar.decorated (decorators dts) m1 m
@@ -258,9 +258,10 @@ module _ (most : ℕ) where
   At (headed h) S all m = IsNew h × Headed S (Open S all) h nothing m
   At (existed h) S all m = Headed S (Open S all) h nothing m
   At between S all m = IsFile S × Open S all m
-  At (behind j) S all m = (st : StatementTree) × (j ≡ keep_statement most st) × Then (Open S all) (a_statement st) m
+  At (past_statement j) S all m = (st : StatementTree) × (j ≡ keep_statement most st)
+      × Then (Open S all) (a_statement st) m
 
-  -- behind a step
+  -- after a step
   abbrev pub Holds : Next → List Placed → List Placed → Type 0
   Holds None all ts = Unit {0}
   Holds (Some q) all ts = (q.1 ≡ flag q.2) × At q.0 q.2 all ts

@@ -50,7 +50,7 @@ plain_token at y a b h = not_skipped a h.0 h.1 ∙ h.2
 -- ---- parts with separators between them, as they are read and as they are spelled
 
 module _ {X : Type 0} (test : Terminal → Bool) (F : X → Form) where
-  -- parts, and a separator behind each
+  -- parts, and a separator after each
   abbrev pub Tail : List X → Form
   Tail [] = one test ▹ any test
   Tail (x ∷ xs) = (one test ▹ any test) ▹ F x ▹ Tail xs
@@ -146,7 +146,7 @@ pub whole_statements : (ss : FileTree) (a b : List Placed) → Whole is_newline 
 whole_statements [] a b (m, s, e) = subst (any is_newline a) e s
 whole_statements (x ∷ ss) a b (m, s, (n, f, h)) = (m, s, (n, f, more_statements ss n b h))
 
--- ---- arguments, and a comma behind each
+-- ---- arguments, and a comma after each
 
 abbrev pub ArgumentsRead : List Tree → Form
 ArgumentsRead [] = nothing
@@ -168,7 +168,7 @@ pub arguments_last : (es : List Tree) (e : Tree) (a b c d : List Placed) → Arg
 arguments_last [] e a b c d h f s = subst (λ z. arguments (more e none) z d) (sym h) (c, f, s)
 arguments_last (x ∷ es) e a b c d (m, g, h) f s = (m, g, arguments_further es e m b c d h f s)
 
--- ---- holes, and a middle piece behind each
+-- ---- holes, and a middle piece after each
 
 abbrev pub HolesRead : Bool → List (Tree × List ℕ) → Form
 HolesRead i [] = nothing

@@ -20,15 +20,11 @@ use Rattle.bicep_machine.specs.Stack.{Frame, opened, in_array, in_object, prefix
 use Rattle.bicep_machine.specs.Stack.{bodied, in_file, State, wanted, first, named, qualifying, qualified, dotted}
 use Rattle.bicep_machine.specs.Stack.{done, paused, item, member, between, Next}
 use Rattle.bicep_machine.specs.Closing.{Closed, of_statement, with_expression, closed, pair_on, newline_on}
-use Rattle.bicep_machine.specs.Machine.{namespace_of, is_in, space_on, ended_by, begun, rejoined, moved, finished, run}
+use Rattle.bicep_machine.specs.Machine.{namespace_of, is_in, space_on, ended_by, begun, rejoined, transition}
+use Rattle.bicep_machine.specs.Machine.{finished, run}
 use Rattle.bicep_machine.proofs.Keeping.{keep}
 use Rattle.bicep_machine.proofs.Building.{keep_binary, keep_conditional, keep_prefixed}
-
-pub le_true : (m n : ℕ) → m ≤ n → nat_le m n ≡ true
-le_true m n h = grind (arith, nat_tests)
-
-pub le_false : (m n : ℕ) → n < m → nat_le m n ≡ false
-le_false m n h = grind (arith, nat_tests)
+use Rattle.foundation.proofs.Comparisons.{le_false, le_true}
 
 -- ---- what may stand on the stack
 
@@ -67,7 +63,7 @@ level_bounds o.Remainder = (omega arith, omega arith)
 
 -- ---- the end of an expression
 
--- what stands at the end of an expression
+-- what is at the end of an expression
 abbrev pub last : Tree → Tree
 last (prefixed at p e) = last e
 last (binary op a b) = last b
@@ -143,7 +139,7 @@ module _ (most : ℕ) where
     abbrev pub Reads : State → Bool → List Frame → List Placed → Type 0
     Reads s i S ts = run most s i S ts ≡ Some r
 
-    -- behind a step
+    -- after a step
     abbrev pub Goes : Next → List Placed → Type 0
     Goes n ts = option_and_then (λ q. run most q.0 q.1 q.2 ts) n ≡ Some r
 
@@ -152,10 +148,10 @@ module _ (most : ℕ) where
 
     -- a token that is no newline
     pub moves : (s : State) (i : Bool) (S : List Frame) (at : ℕ) (x : Terminal) (m : List Placed) (n : Next)
-        → is_newline x ≡ false → moved most s i S at x ≡ n → Goes n m → Reads s i S ((at, x) ∷ m)
+        → is_newline x ≡ false → transition most s i S at x ≡ n → Goes n m → Reads s i S ((at, x) ∷ m)
     moves s true S at x m n ne e h =
         ap (λ b. option_and_then (λ q. run most q.0 q.1 q.2 m)
-        (cond b (Some (s, true, S)) (moved most s true S at x))) ne
+        (cond b (Some (s, true, S)) (transition most s true S at x))) ne
         ∙ ap (λ p. option_and_then (λ q. run most q.0 q.1 q.2 m) p) e ∙ h
     moves s false S at x m n ne e h = ap (λ p. option_and_then (λ q. run most q.0 q.1 q.2 m) p) e ∙ h
 
@@ -165,30 +161,31 @@ module _ (most : ℕ) where
     passed_over s i S [] m all h = h
     passed_over s i S (t ∷ passed) m all h =
         ap (λ b. option_and_then (λ q. run most q.0 q.1 q.2 (passed ++ m))
-        (cond b (Some (s, i, S)) (moved most s i S t.0 t.1))) all.0 ∙ passed_over s i S passed m all.1 h
+        (cond b (Some (s, i, S)) (transition most s i S t.0 t.1))) all.0 ∙ passed_over s i S passed m all.1 h
 
     pub skips : (s : State) (i : Bool) (S : List Frame) (ts m : List Placed) → skipped i ts m → Reads s i S m
         → Reads s i S ts
     skips s i S ts m k h = ap (run most s i S) k.2 ∙ passed_over s i S k.0 m k.1 h
 
-    -- a token behind skipped newlines
+    -- a token after skipped newlines
     pub takes_at : (s : State) (i : Bool) (S : List Frame) (at : ℕ) (x : Terminal) (ts m : List Placed) (n : Next)
-        → token_at i at x ts m → is_newline x ≡ false → moved most s i S at x ≡ n → Goes n m → Reads s i S ts
+        → token_at i at x ts m → is_newline x ≡ false → transition most s i S at x ≡ n → Goes n m → Reads s i S ts
     takes_at s i S at x ts m n k ne e h = skips s i S ts k.0 k.1 (ap (run most s i S) k.2 ∙ moves s i S at x m n ne e h)
 
     pub takes : (s : State) (i : Bool) (S : List Frame) (x : Terminal) (ts m : List Placed) (n : Next)
-        → token i x ts m → is_newline x ≡ false → ((at : ℕ) → moved most s i S at x ≡ n) → Goes n m → Reads s i S ts
+        → token i x ts m → is_newline x ≡ false → ((at : ℕ) → transition most s i S at x ≡ n) → Goes n m
+        → Reads s i S ts
     takes s i S x ts m n k ne e h =
         skips s i S ts k.0 k.1 (ap (run most s i S) k.2.1 ∙ moves s i S k.2.0 x m n ne (e k.2.0) h)
 
     -- a token where nothing is skipped
     pub goes_at : (s : State) (S : List Frame) (at : ℕ) (x : Terminal) (ts m : List Placed) (n : Next)
-        → sign_at at x ts m → moved most s false S at x ≡ n → Goes n m → Reads s false S ts
+        → sign_at at x ts m → transition most s false S at x ≡ n → Goes n m → Reads s false S ts
     goes_at s S at x ts m n k e h = ap (run most s false S) k
         ∙ ap (λ p. option_and_then (λ q. run most q.0 q.1 q.2 m) p) e ∙ h
 
     pub goes : (s : State) (S : List Frame) (x : Terminal) (ts m : List Placed) (n : Next) → sign x ts m
-        → ((at : ℕ) → moved most s false S at x ≡ n) → Goes n m → Reads s false S ts
+        → ((at : ℕ) → transition most s false S at x ≡ n) → Goes n m → Reads s false S ts
     goes s S x ts m n k e h = goes_at s S k.0 x ts m n k.1 (e k.0) h
 
     -- ---- where an expression may begin
@@ -200,7 +197,7 @@ module _ (most : ℕ) where
     Begins s i = ⊥
 
     starts : (s : State) (i : Bool) (S : List Frame) (at : ℕ) (x : Terminal) (q : State × Bool × List Frame)
-        → Begins s i → is_newline x ≡ false → begun i S at x ≡ Some q → moved most s i S at x ≡ Some q
+        → Begins s i → is_newline x ≡ false → begun i S at x ≡ Some q → transition most s i S at x ≡ Some q
     starts (wanted true) i S at t.Newline q b ne e = absurd (true≢false ne)
     starts (wanted true) i S at x q b ne e = e
     starts (wanted false) i S at x q b ne e = e
@@ -218,7 +215,7 @@ module _ (most : ℕ) where
         → Goes (Some q) m → Reads s i S ts
     begins s i S at x ts m q b k ne e h = takes_at s i S at x ts m (Some q) k ne (starts s i S at x q b ne e) h
 
-    -- newlines behind an operator
+    -- newlines after an operator
     lines_passed : (i : Bool) (S : List Frame) (passed m : List Placed)
         → AllByRecursion (λ t. (true && is_newline t.1) ≡ true) passed → Reads (wanted true) i S m
         → Reads (wanted true) i S (passed ++ m)
@@ -227,9 +224,9 @@ module _ (most : ℕ) where
     lines_passed false S ((at, t.Newline) ∷ passed) m all h = lines_passed false S passed m all.1 h
     lines_passed false S ((at, x) ∷ passed) m all h = absurd (true≢false (sym all.0))
 
-    pub skips_behind : (i : Bool) (S : List Frame) (ts m : List Placed) → skipped true ts m
+    pub skips_after : (i : Bool) (S : List Frame) (ts m : List Placed) → skipped true ts m
         → Reads (wanted true) i S m → Reads (wanted true) i S ts
-    skips_behind i S ts m k h = ap (run most (wanted true) i S) k.2 ∙ lines_passed i S k.0 m k.1 h
+    skips_after i S ts m k h = ap (run most (wanted true) i S) k.2 ∙ lines_passed i S k.0 m k.1 h
 
     -- ---- a name is an expression, unless something makes more of it
 
@@ -277,12 +274,12 @@ module _ (most : ℕ) where
     named_reads n true S ((at, x) ∷ ts) h = h
     named_reads n false S ((at, x) ∷ ts) h = h
 
-    -- ---- behind an expression
+    -- ---- after an expression
 
     -- a token to which all operators are closed
     pub ends : (e : Tree) (i : Bool) (S : List Frame) (x : Terminal) (ts m : List Placed) (g : Closed → Next)
         → Spined e → token i x ts m → is_newline x ≡ false
-        → ((k : Kept Tree) (U : List Frame) (at : ℕ) → moved most (done k) i U at x ≡ g (closed most 0 k U))
+        → ((k : Kept Tree) (U : List Frame) (at : ℕ) → transition most (done k) i U at x ≡ g (closed most 0 k U))
         → Goes (g (closed most 0 (keep most e) S)) m
         → Reads (done (keep most (last e))) i (spine e S) ts
     ends e i S x ts m g sp k ne is h =
@@ -341,7 +338,7 @@ module _ (most : ℕ) where
     rejoin_end k U (between, false, S) j e h = filed_end (closed most 0 k U) S e h
     rejoin_end k U q j e h = absurd j
 
-    -- behind the newline comes what may come there, since `?` and `:` may not
+    -- after the newline comes what may come there, since `?` and `:` may not
     pub rejoins : (k : Kept Tree) (U : List Frame) (q : State × Bool × List Frame) (ts : List Placed) → Rejoins q
         → newline_on most (closed most 0 k U) ≡ Some q → Reads q.0 q.1 q.2 ts → Reads (paused k) false U ts
     rejoins k U q [] j e h = rejoin_end k U q j e h

@@ -43,14 +43,16 @@ use Rattle.bicep_machine.specs.Stack.{in_file, State, wanted, qualifying, qualif
 use Rattle.bicep_machine.specs.Stack.{for_wanted, names_wanted, one_wanted, one_named, other_wanted, both_named}
 use Rattle.bicep_machine.specs.Stack.{member, labelled, past_member, among, looped_body, condition, guarded, body_end}
 use Rattle.bicep_machine.specs.Stack.{at_sign, decorator_named, decorator_spaced, decorator_ready, decorated}
-use Rattle.bicep_machine.specs.Stack.{past_decorators, declaring, declared, typed, headed, existed, between, behind}
+use Rattle.bicep_machine.specs.Stack.{past_decorators, declaring, declared, typed, headed, existed, between}
+use Rattle.bicep_machine.specs.Stack.{past_statement}
 use Rattle.bicep_machine.specs.Stack.{Next}
 use Rattle.bicep_machine.specs.Closing.{Closed, of_statement, with_expression, over_on, is_for, pair_of, pair_on}
 use Rattle.bicep_machine.specs.Closing.{holds_loops, named_on, item_on, item_parted, closed, newline_on}
 use Rattle.bicep_machine.specs.Machine.{is_in, is_if, is_sys, is_resource, is_existing, namespace_of, type_of}
 use Rattle.bicep_machine.specs.Machine.{word_of, begun, wanted_step, word_on, child_on, decorated_word, type_on}
 use Rattle.bicep_machine.specs.Machine.{made_existing, existing_on, with_operator, with_question, gone_on, space_on}
-use Rattle.bicep_machine.specs.Machine.{named_step, rejoined, moved, step, ended, ended_by, ended_between, finished}
+use Rattle.bicep_machine.specs.Machine.{named_step, rejoined, transition, step, ended, ended_by, ended_between}
+use Rattle.bicep_machine.specs.Machine.{finished}
 use Rattle.bicep_machine.specs.Machine.{run, parsed}
 use Rattle.bicep_machine.proofs.Keeping.{fits, keep, lost_of, keep_file}
 use Rattle.bicep_machine.proofs.Building.{keep_leaf, keep_not_null, keep_access, statements_put}
@@ -67,6 +69,7 @@ use Rattle.bicep_machine.proofs.SoundClosing.{comma_stands, brace_stands, colon_
 use Rattle.bicep_machine.proofs.SoundClosing.{middle_stands, right_stands, statement_filed, Declared, declared_with}
 use Rattle.bicep_machine.proofs.SoundClosing.{newline_stands, over_stands}
 use Rattle.bicep_machine.proofs.SoundClosing as closing
+use Rattle.foundation.proofs.Choices.{if_else}
 
 -- ---- words
 
@@ -94,11 +97,6 @@ existing_text : (u : List ℕ) → is_existing u ≡ true → u ≡ codes "exist
 unfolding is_existing
 existing_text u e = eq_word u (codes "existing") e
 
--- one of two
-choose : {A : Type 0} (P : A → Type 0) (b : Bool) (x y : A) → (b ≡ true → P x) → (b ≡ false → P y) → P (cond b x y)
-choose P true x y g h = g refl
-choose P false x y g h = h refl
-
 -- which name space a word is
 abbrev IsSpace : List ℕ → Option Namespace → Type 0
 IsSpace u None = Unit {0}
@@ -107,9 +105,9 @@ IsSpace u (Some y) = u ≡ namespace_word y
 space_text : (u : List ℕ) → IsSpace u (namespace_of u)
 unfolding namespace_of
 space_text u =
-    choose (IsSpace u) (bytes_eq u (codes "sys")) (Some z.Sys) (cond (bytes_eq u (codes "az")) (Some z.Az) None)
+    if_else (IsSpace u) (bytes_eq u (codes "sys")) (Some z.Sys) (cond (bytes_eq u (codes "az")) (Some z.Az) None)
     (λ e. eq_word u (codes "sys") e)
-    (λ ne. choose (IsSpace u) (bytes_eq u (codes "az")) (Some z.Az) None (λ e. eq_word u (codes "az") e) (λ e. tt))
+    (λ ne. if_else (IsSpace u) (bytes_eq u (codes "az")) (Some z.Az) None (λ e. eq_word u (codes "az") e) (λ e. tt))
 
 abbrev IsTypeName : List ℕ → Option TypeName → Type 0
 IsTypeName u None = Unit {0}
@@ -118,11 +116,11 @@ IsTypeName u (Some ty) = u ≡ type_word ty
 type_text : (u : List ℕ) → IsTypeName u (type_of u)
 unfolding type_of
 type_text u =
-    choose (IsTypeName u) (bytes_eq u (codes "string")) _ _ (λ e. eq_word u (codes "string") e)
-    (λ n1. choose (IsTypeName u) (bytes_eq u (codes "int")) _ _ (λ e. eq_word u (codes "int") e)
-    (λ n2. choose (IsTypeName u) (bytes_eq u (codes "bool")) _ _ (λ e. eq_word u (codes "bool") e)
-    (λ n3. choose (IsTypeName u) (bytes_eq u (codes "object")) _ _ (λ e. eq_word u (codes "object") e)
-    (λ n4. choose (IsTypeName u) (bytes_eq u (codes "array")) _ _ (λ e. eq_word u (codes "array") e) (λ n5. tt)))))
+    if_else (IsTypeName u) (bytes_eq u (codes "string")) _ _ (λ e. eq_word u (codes "string") e)
+    (λ n1. if_else (IsTypeName u) (bytes_eq u (codes "int")) _ _ (λ e. eq_word u (codes "int") e)
+    (λ n2. if_else (IsTypeName u) (bytes_eq u (codes "bool")) _ _ (λ e. eq_word u (codes "bool") e)
+    (λ n3. if_else (IsTypeName u) (bytes_eq u (codes "object")) _ _ (λ e. eq_word u (codes "object") e)
+    (λ n4. if_else (IsTypeName u) (bytes_eq u (codes "array")) _ _ (λ e. eq_word u (codes "array") e) (λ n5. tt)))))
 
 -- what a word begins, and that it is none of an object
 abbrev IsBeginning : List ℕ → Option Word → Type 0
@@ -132,14 +130,14 @@ IsBeginning u (Some v) = (u ≡ word_text v) × ((S : List Frame) → Beginning 
 beginning_text : (u : List ℕ) → IsBeginning u (word_of u)
 unfolding word_of
 beginning_text u =
-    choose (IsBeginning u) (bytes_eq u (codes "metadata")) _ _ (λ e. (eq_word u (codes "metadata") e, λ S. tt))
-    (λ n1. choose (IsBeginning u) (bytes_eq u (codes "targetScope")) _ _
+    if_else (IsBeginning u) (bytes_eq u (codes "metadata")) _ _ (λ e. (eq_word u (codes "metadata") e, λ S. tt))
+    (λ n1. if_else (IsBeginning u) (bytes_eq u (codes "targetScope")) _ _
     (λ e. (eq_word u (codes "targetScope") e, λ S. tt))
-    (λ n2. choose (IsBeginning u) (bytes_eq u (codes "param")) _ _ (λ e. (eq_word u (codes "param") e, λ S. tt))
-    (λ n3. choose (IsBeginning u) (bytes_eq u (codes "var")) _ _ (λ e. (eq_word u (codes "var") e, λ S. tt))
-    (λ n4. choose (IsBeginning u) (bytes_eq u (codes "output")) _ _ (λ e. (eq_word u (codes "output") e, λ S. tt))
-    (λ n5. choose (IsBeginning u) (bytes_eq u (codes "resource")) _ _ (λ e. (eq_word u (codes "resource") e, λ S. tt))
-    (λ n6. choose (IsBeginning u) (bytes_eq u (codes "module")) _ _ (λ e. (eq_word u (codes "module") e, λ S. tt))
+    (λ n2. if_else (IsBeginning u) (bytes_eq u (codes "param")) _ _ (λ e. (eq_word u (codes "param") e, λ S. tt))
+    (λ n3. if_else (IsBeginning u) (bytes_eq u (codes "var")) _ _ (λ e. (eq_word u (codes "var") e, λ S. tt))
+    (λ n4. if_else (IsBeginning u) (bytes_eq u (codes "output")) _ _ (λ e. (eq_word u (codes "output") e, λ S. tt))
+    (λ n5. if_else (IsBeginning u) (bytes_eq u (codes "resource")) _ _ (λ e. (eq_word u (codes "resource") e, λ S. tt))
+    (λ n6. if_else (IsBeginning u) (bytes_eq u (codes "module")) _ _ (λ e. (eq_word u (codes "module") e, λ S. tt))
     (λ n7. tt)))))))
 
 -- ---- tokens
@@ -205,7 +203,7 @@ module _ (most : ℕ) where
   begun_stands S at (t.Operator o.Subtract) all m ts op tok = (refl, (m, op, tok))
   begun_stands S at y all m ts op tok = tt
 
-  -- a newline behind an operator
+  -- a newline after an operator
   operator_line : (S : List Frame) (at : ℕ) (all ts : List Placed) → IsOperator S
       → Open most S all ((at, t.Newline) ∷ ts) → Open most S all ts
   operator_line [] at all ts h op = absurd h
@@ -250,7 +248,7 @@ module _ (most : ℕ) where
   )
   operator_line (F ∷ S) at all ts h op = absurd h
 
-  -- ---- behind an expression
+  -- ---- after an expression
 
   operator_stands : (p : Closed) (i : Bool) (q : Operator) (all m ts : List Placed) → Ended most (level q) i all m p
       → token i (t.Operator q) m ts → Holds most (with_operator most i q p) all ts
@@ -286,7 +284,7 @@ module _ (most : ℕ) where
   pair_stands (Some p) e (opened at was ∷ S) all m1 m ts h (same, (m0, op, tok)) ex within =
       let (m2, fo, (m3, pr, (m4, na, (m5, co, (m6, nb, cl))))) =
       subst (λ x. expression false x m1 m) (pair_kept e p h) ex in
-      choose (λ n. Holds most n all ts) (is_for p.0.text) (over_on at (ns.Both p.1 p.2) S) None
+      if_else (λ n. Holds most n all ts) (is_for p.0.text) (over_on at (ns.Both p.1 p.2) S) None
       (λ y. over_stands most at (ns.Both p.1 p.2) S all m0 m ts op (
         m1,
         tok,
@@ -382,7 +380,7 @@ module _ (most : ℕ) where
         ),
       )
   gone_stands k S at (t.Name u) all m ts ne (e, is, pr, (m1, op, ex)) tok =
-      choose (λ n. Holds most n all ts) (is_in u) (pair_on (pair_of k.0) S) None (λ y. in_stands S op ex tok y)
+      if_else (λ n. Holds most n all ts) (is_in u) (pair_on (pair_of k.0) S) None (λ y. in_stands S op ex tok y)
       (λ y. tt)
     where
       in_stands : (S : List Frame) → Open most S all m1 → expression (flag S) e m1 m
@@ -412,7 +410,7 @@ module _ (most : ℕ) where
   wanted_stands false S at y all m ts ne op tok = begun_stands S at y all m ts op tok
 
   first_stands : (S : List Frame) (at : ℕ) (y : Terminal) (all m ts : List Placed) → At most s.first S all m
-      → token_at (flag S) at y m ts → Holds most (moved most s.first (flag S) S at y) all ts
+      → token_at (flag S) at y m ts → Holds most (transition most s.first (flag S) S at y) all ts
   first_stands S at t.CloseParen all m ts (fi, op) tok =
       no_argument most S all m ts fi op (first_token S fi (to_token (flag S) at t.CloseParen m ts tok))
     where
@@ -442,14 +440,14 @@ module _ (most : ℕ) where
       → At most (among at (ns.Item x)) S all ts → Holds most (named_on at was x S) all ts
   placed_stands at was x [] all ts same h = tt
   placed_stands at was x (F ∷ S) all ts same h =
-      choose (λ q. Holds most q all ts) (holds_loops F) (Some (among at (ns.Item x), was, F ∷ S)) None
+      if_else (λ q. Holds most q all ts) (holds_loops F) (Some (among at (ns.Item x), was, F ∷ S)) None
       (λ y. (same, h)) (λ y. tt)
 
   item_name_stands : (n x : Name) (S : List Frame) (all m1 m ts : List Placed) → Open most S all m1
       → named (flag S) n m1 m → named (flag S) x m ts → Holds most (item_on n x S) all ts
   item_name_stands n x [] all m1 m ts op nm tok = tt
   item_name_stands n x (opened at was ∷ S) all m1 m ts (same, (m0, op, opn)) nm tok =
-      choose (λ q. Holds most q all ts) (is_for n.text) (named_on at was x S) None
+      if_else (λ q. Holds most q all ts) (is_for n.text) (named_on at was x S) None
       (λ y. placed_stands at was x S all ts same (
         m0,
         op,
@@ -485,7 +483,7 @@ module _ (most : ℕ) where
 
   qualifying_stands : (q : Namespace) (n : Name) (S : List Frame) (at : ℕ) (y : Terminal) (all m ts : List Placed)
       → At most (qualifying q n) S all m → token_at (flag S) at y m ts
-      → Holds most (moved most (qualifying q n) (flag S) S at y) all ts
+      → Holds most (transition most (qualifying q n) (flag S) S at y) all ts
   qualifying_stands q n S at (t.Name u) all m ts (is, (m1, op, (m2, nm, dot))) tok =
       (refl, (is, (m1, op, (m2, nm, (m, dot, tok)))))
   qualifying_stands q n S at y all m ts h tok = tt
@@ -502,7 +500,7 @@ module _ (most : ℕ) where
 
   qualified_stands : (q : Namespace) (n x : Name) (S : List Frame) (at : ℕ) (y : Terminal) (all m ts : List Placed)
       → (flag S && is_newline y) ≡ false → At most (qualified q n x) S all m → token_at (flag S) at y m ts
-      → Holds most (moved most (qualified q n x) (flag S) S at y) all ts
+      → Holds most (transition most (qualified q n x) (flag S) S at y) all ts
   qualified_stands q n x S at t.OpenParen all m ts ne (is, (m1, op, (m2, nm, (m3, dot, nx)))) tok = (
     refl,
     (
@@ -532,7 +530,7 @@ module _ (most : ℕ) where
 
   dotted_stands : (c : Access) (k : Kept Tree) (S : List Frame) (at : ℕ) (y : Terminal) (all m ts : List Placed)
       → At most (dotted c k) S all m → token_at (flag S) at y m ts
-      → Holds most (moved most (dotted c k) (flag S) S at y) all ts
+      → Holds most (transition most (dotted c k) (flag S) S at y) all ts
   dotted_stands c k S at (t.Name u) all m ts (e, is, pr, (m1, op, (m2, ex, dot))) tok =
       let x : Name = record { at = at; text = u } in (
         refl,
@@ -612,7 +610,7 @@ module _ (most : ℕ) where
       subst (λ b. Holds most (begun b S at y) all ts) (sym e) (begun_stands S at y all m ts op tok)
 
   item_stands : (S : List Frame) (at : ℕ) (y : Terminal) (all m ts : List Placed) → At most item S all m
-      → token_at (flag S) at y m ts → Holds most (moved most item (flag S) S at y) all ts
+      → token_at (flag S) at y m ts → Holds most (transition most item (flag S) S at y) all ts
   item_stands S at t.Newline all m ts (ia, op) tok = items_parted S at t.Newline all m ts refl ia op tok
   item_stands S at t.Comma all m ts (ia, op) tok = items_parted S at t.Comma all m ts refl ia op tok
   item_stands S at t.CloseBracket all m ts (ia, op) tok =
@@ -628,7 +626,7 @@ module _ (most : ℕ) where
   members_parted (F ∷ S) at y all ts is ob op = absurd ob
 
   member_stands_at : (S : List Frame) (at : ℕ) (y : Terminal) (all m ts : List Placed) → At most member S all m
-      → token_at (flag S) at y m ts → Holds most (moved most member (flag S) S at y) all ts
+      → token_at (flag S) at y m ts → Holds most (transition most member (flag S) S at y) all ts
   member_stands_at S at t.Newline all m ts (ob, op) tok = (
     object_flag most S ob,
     (
@@ -661,13 +659,13 @@ module _ (most : ℕ) where
 
   labelled_stands : (n : Label) (S : List Frame) (at : ℕ) (y : Terminal) (all m ts : List Placed)
       → At most (labelled n) S all m → token_at (flag S) at y m ts
-      → Holds most (moved most (labelled n) (flag S) S at y) all ts
+      → Holds most (transition most (labelled n) (flag S) S at y) all ts
   labelled_stands (label.Name n) S at t.Colon all m ts (ob, (m1, op, lab)) tok =
       (refl, (ob, (m1, op, (m, lab, (at, plain_at S at t.Colon m ts (object_flag most S ob) tok)))))
   labelled_stands (label.Quoted q) S at t.Colon all m ts (ob, (m1, op, lab)) tok =
       (refl, (ob, (m1, op, (m, lab, (at, plain_at S at t.Colon m ts (object_flag most S ob) tok)))))
   labelled_stands (label.Name n) S at (t.Name u) all m ts (ob, (m1, op, lab)) tok =
-      choose (λ q. Holds most q all ts) (is_resource n.text) _ None
+      if_else (λ q. Holds most q all ts) (is_resource n.text) _ None
       (λ y. (
         object_flag most S ob,
         (
@@ -677,7 +675,8 @@ module _ (most : ℕ) where
             (sym (object_flag most S ob), [], m1, refl, op, refl),
             (
               m,
-              subst (λ v. m1 ≡ (n.at, t.Name v) ∷ m) (resource_text n.text y) (plain_token n.at (t.Name n.text) m1 m lab),
+              subst (λ v. m1 ≡ (n.at, t.Name v) ∷ m) (resource_text n.text y)
+                  (plain_token n.at (t.Name n.text) m1 m lab),
               subst (λ b. token_at b at (t.Name u) m ts) (sym (object_flag most S ob)) tok,
             ),
           ),
@@ -688,7 +687,7 @@ module _ (most : ℕ) where
 
   past_member_stands : (j : Kept MemberTree) (S : List Frame) (at : ℕ) (y : Terminal) (all m ts : List Placed)
       → At most (past_member j) S all m → token_at (flag S) at y m ts
-      → Holds most (moved most (past_member j) (flag S) S at y) all ts
+      → Holds most (transition most (past_member j) (flag S) S at y) all ts
   past_member_stands j S at t.Newline all m ts (ob, d, is, (m1, op, mem)) tok =
       member_stands most j d S all m1 m ts is op mem
       (subst (λ q. (one is_separator ▹ any is_separator) q ts)
@@ -704,9 +703,9 @@ module _ (most : ℕ) where
 
   among_stands : (from : ℕ) (ns : LoopNames) (S : List Frame) (at : ℕ) (y : Terminal) (all m ts : List Placed)
       → At most (among from ns) S all m → token_at (flag S) at y m ts
-      → Holds most (moved most (among from ns) (flag S) S at y) all ts
+      → Holds most (transition most (among from ns) (flag S) S at y) all ts
   among_stands from ns S at (t.Name u) all m ts (m1, op, rd) tok =
-      choose (λ n. Holds most n all ts) (is_in u) (over_on from ns S) None (λ y. by S op rd tok y) (λ y. tt)
+      if_else (λ n. Holds most n all ts) (is_in u) (over_on from ns S) None (λ y. by S op rd tok y) (λ y. tt)
     where
       by : (S : List Frame) → Open most S all m1
           → (token_at (flag S) from t.OpenBracket ▹ word (codes "for") ▹ grammar.loop_names ns) m1 m
@@ -739,7 +738,7 @@ module _ (most : ℕ) where
   if_stands : (S : List Frame) (at : ℕ) (u : List ℕ) (all m ts : List Placed) → IsBody S → Open most S all m
       → token_at (flag S) at (t.Name u) m ts → Holds most (cond (is_if u) (Some (condition at, false, S)) None) all ts
   if_stands S at u all m ts ib op tok =
-      choose (λ n. Holds most n all ts) (is_if u) (Some (condition at, false, S)) None
+      if_else (λ n. Holds most n all ts) (is_if u) (Some (condition at, false, S)) None
       (λ y. (
         body_flag S ib,
         (
@@ -754,14 +753,14 @@ module _ (most : ℕ) where
       (λ y. tt)
 
   body_stands_at : (S : List Frame) (at : ℕ) (y : Terminal) (all m ts : List Placed) → At most s.body S all m
-      → token_at (flag S) at y m ts → Holds most (moved most s.body (flag S) S at y) all ts
+      → token_at (flag S) at y m ts → Holds most (transition most s.body (flag S) S at y) all ts
   body_stands_at S at t.OpenBrace all m ts (ib, op) tok = braces_stand S at all m ts ib op tok
   body_stands_at S at t.OpenBracket all m ts (ib, op) tok = (body_flag S ib, (ib, (m, op, tok)))
   body_stands_at S at (t.Name u) all m ts (ib, op) tok = if_stands S at u all m ts ib op tok
   body_stands_at S at y all m ts h tok = tt
 
   looped_body_stands : (S : List Frame) (at : ℕ) (y : Terminal) (all m ts : List Placed) → At most looped_body S all m
-      → token_at (flag S) at y m ts → Holds most (moved most looped_body (flag S) S at y) all ts
+      → token_at (flag S) at y m ts → Holds most (transition most looped_body (flag S) S at y) all ts
   looped_body_stands S at t.OpenBrace all m ts (ib, op) tok = braces_stand S at all m ts ib op tok
   looped_body_stands S at (t.Name u) all m ts (ib, op) tok = if_stands S at u all m ts ib op tok
   looped_body_stands S at y all m ts h tok = tt
@@ -770,9 +769,9 @@ module _ (most : ℕ) where
 
   for_wanted_stands : (from : ℕ) (S : List Frame) (at : ℕ) (y : Terminal) (all m ts : List Placed)
       → At most (for_wanted from) S all m → token_at (flag S) at y m ts
-      → Holds most (moved most (for_wanted from) (flag S) S at y) all ts
+      → Holds most (transition most (for_wanted from) (flag S) S at y) all ts
   for_wanted_stands from S at (t.Name u) all m ts (ib, (m1, op, opn)) tok =
-      choose (λ n. Holds most n all ts) (is_for u) (Some (names_wanted from, false, S)) None
+      if_else (λ n. Holds most n all ts) (is_for u) (Some (names_wanted from, false, S)) None
       (λ y. (
         body_flag S ib,
         (
@@ -796,7 +795,7 @@ module _ (most : ℕ) where
 
   names_wanted_stands : (from : ℕ) (S : List Frame) (at : ℕ) (y : Terminal) (all m ts : List Placed)
       → At most (names_wanted from) S all m → token_at (flag S) at y m ts
-      → Holds most (moved most (names_wanted from) (flag S) S at y) all ts
+      → Holds most (transition most (names_wanted from) (flag S) S at y) all ts
   names_wanted_stands from S at (t.Name u) all m ts (ib, (m1, op, (m2, opn, fo))) tok = (
     body_flag S ib,
     (m1, op, (m2, opn, (m, fo, subst (λ b. token_at b at (t.Name u) m ts) (sym (body_flag S ib)) tok))),
@@ -815,28 +814,28 @@ module _ (most : ℕ) where
   name_within S at y m ts is tok = subst (λ b. token_at b at y m ts) (sym (names_flag S is)) tok
 
   one_wanted_stands : (S : List Frame) (at : ℕ) (y : Terminal) (all m ts : List Placed) → At most one_wanted S all m
-      → token_at (flag S) at y m ts → Holds most (moved most one_wanted (flag S) S at y) all ts
+      → token_at (flag S) at y m ts → Holds most (transition most one_wanted (flag S) S at y) all ts
   one_wanted_stands S at (t.Name u) all m ts (is, op) tok =
       (names_flag S is, (is, (m, op, name_within S at (t.Name u) m ts is tok)))
   one_wanted_stands S at y all m ts h tok = tt
 
   one_named_stands : (n : Name) (S : List Frame) (at : ℕ) (y : Terminal) (all m ts : List Placed)
       → At most (one_named n) S all m → token_at (flag S) at y m ts
-      → Holds most (moved most (one_named n) (flag S) S at y) all ts
+      → Holds most (transition most (one_named n) (flag S) S at y) all ts
   one_named_stands n S at t.Comma all m ts (is, (m1, op, nm)) tok =
       (names_flag S is, (is, (m1, op, (m, nm, to_token true at t.Comma m ts (name_within S at t.Comma m ts is tok)))))
   one_named_stands n S at y all m ts h tok = tt
 
   other_wanted_stands : (n : Name) (S : List Frame) (at : ℕ) (y : Terminal) (all m ts : List Placed)
       → At most (other_wanted n) S all m → token_at (flag S) at y m ts
-      → Holds most (moved most (other_wanted n) (flag S) S at y) all ts
+      → Holds most (transition most (other_wanted n) (flag S) S at y) all ts
   other_wanted_stands n S at (t.Name u) all m ts (is, (m1, op, (m2, nm, co))) tok =
       (names_flag S is, (is, (m1, op, (m2, nm, (m, co, name_within S at (t.Name u) m ts is tok)))))
   other_wanted_stands n S at y all m ts h tok = tt
 
   both_named_stands : (n i : Name) (S : List Frame) (at : ℕ) (y : Terminal) (all m ts : List Placed)
       → At most (both_named n i) S all m → token_at (flag S) at y m ts
-      → Holds most (moved most (both_named n i) (flag S) S at y) all ts
+      → Holds most (transition most (both_named n i) (flag S) S at y) all ts
   both_named_stands n i [] at y all m ts (is, h) tok = absurd is
   both_named_stands n i (in_names from ∷ S) at t.CloseParen all m ts
       (is, (m1, (ib, (m0, op, (x1, opn, (x2, fo, pr)))), (m2, nm, (m3, co, ni)))) tok = (
@@ -854,7 +853,7 @@ module _ (most : ℕ) where
 
   condition_stands : (from : ℕ) (S : List Frame) (at : ℕ) (y : Terminal) (all m ts : List Placed)
       → At most (condition from) S all m → token_at (flag S) at y m ts
-      → Holds most (moved most (condition from) (flag S) S at y) all ts
+      → Holds most (transition most (condition from) (flag S) S at y) all ts
   condition_stands from [] at y all m ts (ib, h) tok = absurd ib
   condition_stands from (bodied h g ∷ S) at t.OpenParen all m ts (ib, (m1, (m0, hd, fr), iff)) tok =
       (refl, (m0, hd, (m1, fr, (m, iff, (at, plain_token at t.OpenParen m ts tok)))))
@@ -862,7 +861,7 @@ module _ (most : ℕ) where
   condition_stands from (F ∷ S) at y all m ts (ib, h) tok = absurd ib
 
   guarded_stands : (S : List Frame) (at : ℕ) (y : Terminal) (all m ts : List Placed) → At most guarded S all m
-      → token_at (flag S) at y m ts → Holds most (moved most guarded (flag S) S at y) all ts
+      → token_at (flag S) at y m ts → Holds most (transition most guarded (flag S) S at y) all ts
   guarded_stands S at t.OpenBrace all m ts (ib, op) tok = braces_stand S at all m ts ib op tok
   guarded_stands S at y all m ts h tok = tt
 
@@ -874,7 +873,7 @@ module _ (most : ℕ) where
 
   body_end_stands : (h : Header) (j : Kept BodyTree) (S : List Frame) (at : ℕ) (y : Terminal) (all m ts : List Placed)
       → At most (body_end h j) S all m → token_at (flag S) at y m ts
-      → Holds most (moved most (body_end h j) (flag S) S at y) all ts
+      → Holds most (transition most (body_end h j) (flag S) S at y) all ts
   body_end_stands h j S at t.CloseBracket all m ts (b, is, (m0, hd, ob)) tok =
       closing.body_stands most h S j b all m0 ts is hd
       (close_body b at m0 m ts ob
@@ -886,14 +885,14 @@ module _ (most : ℕ) where
 
   at_sign_stands : (ds : Decorators) (from : ℕ) (S : List Frame) (at : ℕ) (y : Terminal) (all m ts : List Placed)
       → At most (at_sign ds from) S all m → token_at (flag S) at y m ts
-      → Holds most (moved most (at_sign ds from) (flag S) S at y) all ts
+      → Holds most (transition most (at_sign ds from) (flag S) S at y) all ts
   at_sign_stands ds from S at (t.Name u) all m ts (m1, dec, sg) tok =
       (sym dec.0, (m1, dec, (m, sg, subst (λ b. token_at b at (t.Name u) m ts) dec.0 tok)))
   at_sign_stands ds from S at y all m ts h tok = tt
 
   decorator_named_stands : (ds : Decorators) (from : ℕ) (n : Name) (S : List Frame) (at : ℕ) (y : Terminal)
       (all m ts : List Placed) → At most (decorator_named ds from n) S all m → token_at (flag S) at y m ts
-      → Holds most (moved most (decorator_named ds from n) (flag S) S at y) all ts
+      → Holds most (transition most (decorator_named ds from n) (flag S) S at y) all ts
   decorator_named_stands ds from n S at t.OpenParen all m ts (m1, dec, (m2, sg, nm)) tok = (
     refl,
     (
@@ -907,7 +906,7 @@ module _ (most : ℕ) where
     ),
   )
   decorator_named_stands ds from n S at (t.Access a.Member) all m ts (m1, dec, (m2, sg, nm)) tok =
-      choose (λ q. Holds most q all ts) (is_sys n.text) (Some (decorator_spaced ds from n.at, false, S)) None
+      if_else (λ q. Holds most q all ts) (is_sys n.text) (Some (decorator_spaced ds from n.at, false, S)) None
       (λ y. (
         sym dec.0,
         (
@@ -928,14 +927,14 @@ module _ (most : ℕ) where
 
   decorator_spaced_stands : (ds : Decorators) (sg_at from : ℕ) (S : List Frame) (at : ℕ) (y : Terminal)
       (all m ts : List Placed) → At most (decorator_spaced ds sg_at from) S all m → token_at (flag S) at y m ts
-      → Holds most (moved most (decorator_spaced ds sg_at from) (flag S) S at y) all ts
+      → Holds most (transition most (decorator_spaced ds sg_at from) (flag S) S at y) all ts
   decorator_spaced_stands ds sg_at from S at (t.Name u) all m ts (m1, dec, (m2, sg, (m3, sp, dot))) tok =
       (sym dec.0, (m1, dec, (m2, sg, (m3, sp, (m, dot, subst (λ b. token_at b at (t.Name u) m ts) dec.0 tok)))))
   decorator_spaced_stands ds sg_at from S at y all m ts h tok = tt
 
   decorator_ready_stands : (ds : Decorators) (from : ℕ) (g : Function) (S : List Frame) (at : ℕ) (y : Terminal)
       (all m ts : List Placed) → At most (decorator_ready ds from g) S all m → token_at (flag S) at y m ts
-      → Holds most (moved most (decorator_ready ds from g) (flag S) S at y) all ts
+      → Holds most (transition most (decorator_ready ds from g) (flag S) S at y) all ts
   decorator_ready_stands ds from g S at t.OpenParen all m ts (m1, dec, (m2, sg, fn)) tok = (
     refl,
     (
@@ -952,7 +951,7 @@ module _ (most : ℕ) where
 
   decorated_stands : (ds : Decorators) (S : List Frame) (at : ℕ) (y : Terminal) (all m ts : List Placed)
       → At most (decorated ds) S all m → token_at (flag S) at y m ts
-      → Holds most (moved most (decorated ds) (flag S) S at y) all ts
+      → Holds most (transition most (decorated ds) (flag S) S at y) all ts
   decorated_stands ds S at t.Newline all m ts (fl, dts, d, m1, is, op, (m2, decs, dec)) tok = (
     sym fl,
     (
@@ -988,7 +987,7 @@ module _ (most : ℕ) where
 
   past_decorators_stands : (ds : Decorators) (S : List Frame) (at : ℕ) (y : Terminal) (all m ts : List Placed)
       → At most (past_decorators ds) S all m → token_at (flag S) at y m ts
-      → Holds most (moved most (past_decorators ds) (flag S) S at y) all ts
+      → Holds most (transition most (past_decorators ds) (flag S) S at y) all ts
   past_decorators_stands ds S at t.At all m ts dec tok = (sym dec.0, (m, dec, plain_at S at t.At m ts (sym dec.0) tok))
   past_decorators_stands ds S at (t.Name u) all m ts dec tok =
       decorated_word_stands ds at u S all m ts dec (plain_at S at (t.Name u) m ts (sym dec.0) tok)
@@ -1004,7 +1003,7 @@ module _ (most : ℕ) where
 
   declaring_stands : (ds : Decorators) (from : ℕ) (v : Word) (S : List Frame) (at : ℕ) (y : Terminal)
       (all m ts : List Placed) → At most (declaring ds from v) S all m → token_at (flag S) at y m ts
-      → Holds most (moved most (declaring ds from v) (flag S) S at y) all ts
+      → Holds most (transition most (declaring ds from v) (flag S) S at y) all ts
   declaring_stands ds from w.TargetScope S at t.Assign all m ts (bg, (m1, dec, wd)) tok =
       (refl, (m1, dec, (m, wd, (at, plain_at S at t.Assign m ts (sym dec.0) tok))))
   declaring_stands ds from w.TargetScope S at y all m ts h tok = tt
@@ -1043,7 +1042,7 @@ module _ (most : ℕ) where
 
   declared_stands : (ds : Decorators) (from : ℕ) (v : Word) (n : Name) (S : List Frame) (at : ℕ) (y : Terminal)
       (all m ts : List Placed) → At most (declared ds from v n) S all m → token_at (flag S) at y m ts
-      → Holds most (moved most (declared ds from v n) (flag S) S at y) all ts
+      → Holds most (transition most (declared ds from v n) (flag S) S at y) all ts
   declared_stands ds from w.Metadata n S at t.Assign all m ts (bg, (m1, dec, (m2, wd, nm))) tok =
       (refl, (m1, dec, (m2, wd, (m, nm, (at, plain_at S at t.Assign m ts (sym dec.0) tok)))))
   declared_stands ds from w.Var n S at t.Assign all m ts (bg, (m1, dec, (m2, wd, nm))) tok =
@@ -1102,7 +1101,7 @@ module _ (most : ℕ) where
 
   typed_stands : (ds : Decorators) (from : ℕ) (v : Word) (n : Name) (ty : TypeName) (S : List Frame) (at : ℕ)
       (y : Terminal) (all m ts : List Placed) → At most (typed ds from v n ty) S all m → token_at (flag S) at y m ts
-      → Holds most (moved most (typed ds from v n ty) (flag S) S at y) all ts
+      → Holds most (transition most (typed ds from v n ty) (flag S) S at y) all ts
   typed_stands ds from w.Param n ty S at t.Assign all m ts (bg, (m1, dec, (m2, wd, (m3, nm, kd)))) tok =
       (refl, (m1, dec, (m2, wd, (m3, nm, (m, kd, (at, plain_at S at t.Assign m ts (sym dec.0) tok))))))
   typed_stands ds from w.Param n ty S at t.Newline all m ts (bg, (m1, dec, fm)) tok =
@@ -1115,7 +1114,7 @@ module _ (most : ℕ) where
       (refl, (m1, dec, (m2, wd, (m3, nm, (m, kd, (at, plain_at S at t.Assign m ts (sym dec.0) tok))))))
   typed_stands ds from v n ty S at y all m ts h tok = tt
 
-  -- `=` behind a header
+  -- `=` after a header
   header_assigned : (h : Header) (S : List Frame) (P : List Placed → Type 0) (at : ℕ) (m ts : List Placed)
       → Headed most S P h nothing m → m ≡ (at, t.Assign) ∷ ts → Headed most S P h (sign t.Assign) ts
   header_assigned (header ds o (owner.Resource x) n q) S P at m ts
@@ -1182,10 +1181,10 @@ module _ (most : ℕ) where
 
   headed_stands : (h : Header) (S : List Frame) (at : ℕ) (y : Terminal) (all m ts : List Placed)
       → At most (headed h) S all m → token_at (flag S) at y m ts
-      → Holds most (moved most (headed h) (flag S) S at y) all ts
+      → Holds most (transition most (headed h) (flag S) S at y) all ts
   headed_stands h S at t.Assign all m ts (new, hd) tok = body_opens h S at all m ts hd tok
   headed_stands h S at (t.Name u) all m ts (new, hd) tok =
-      choose (λ n. Holds most n all ts) (is_existing u) (existing_on (made_existing h) S) None
+      if_else (λ n. Holds most n all ts) (is_existing u) (existing_on (made_existing h) S) None
       (λ y. existing_stands h S at all m ts new hd
       (subst (λ v. m ≡ (at, t.Name v) ∷ ts) (existing_text u y)
       (plain_at S at (t.Name u) m ts (closing.headed_flag most S (Open most S all) h nothing m hd) tok)))
@@ -1194,7 +1193,7 @@ module _ (most : ℕ) where
 
   existed_stands : (h : Header) (S : List Frame) (at : ℕ) (y : Terminal) (all m ts : List Placed)
       → At most (existed h) S all m → token_at (flag S) at y m ts
-      → Holds most (moved most (existed h) (flag S) S at y) all ts
+      → Holds most (transition most (existed h) (flag S) S at y) all ts
   existed_stands h S at t.Assign all m ts hd tok = body_opens h S at all m ts hd tok
   existed_stands h S at y all m ts g tok = tt
 
@@ -1214,7 +1213,7 @@ module _ (most : ℕ) where
   statements_parted (F ∷ S) at all ts h op = absurd h
 
   between_stands : (S : List Frame) (at : ℕ) (y : Terminal) (all m ts : List Placed) → At most between S all m
-      → token_at (flag S) at y m ts → Holds most (moved most between (flag S) S at y) all ts
+      → token_at (flag S) at y m ts → Holds most (transition most between (flag S) S at y) all ts
   between_stands S at t.Newline all m ts (fi, op) tok = (
     file_flag S fi,
     (
@@ -1232,17 +1231,17 @@ module _ (most : ℕ) where
       (plain_at S at (t.Name u) m ts (file_flag S fi) tok)
   between_stands S at y all m ts h tok = tt
 
-  behind_stands : (j : Kept StatementTree) (S : List Frame) (at : ℕ) (y : Terminal) (all m ts : List Placed)
-      → (flag S && is_newline y) ≡ false → At most (behind j) S all m → token_at (flag S) at y m ts
-      → Holds most (moved most (behind j) (flag S) S at y) all ts
-  behind_stands j S at t.Newline all m ts ne (st, is, (m1, op, sm)) tok =
+  past_statement_stands : (j : Kept StatementTree) (S : List Frame) (at : ℕ) (y : Terminal) (all m ts : List Placed)
+      → (flag S && is_newline y) ≡ false → At most (past_statement j) S all m → token_at (flag S) at y m ts
+      → Holds most (transition most (past_statement j) (flag S) S at y) all ts
+  past_statement_stands j S at t.Newline all m ts ne (st, is, (m1, op, sm)) tok =
       statement_filed most j st S all m1 m ts is op sm
       (subst (λ q. (one is_newline ▹ any is_newline) q ts)
       (sym (plain_at S at t.Newline m ts (sym (no_newline (flag S) ne)) tok))
       (some_one is_newline (at, t.Newline) ts refl))
-  behind_stands j S at y all m ts ne h tok = tt
+  past_statement_stands j S at y all m ts ne h tok = tt
 
-  -- ---- behind a newline that ended an expression
+  -- ---- after a newline that ended an expression
 
   rejoin_stands : (n : Next) (at : ℕ) (y : Terminal) (all m ts : List Placed) → Holds most n all m → m ≡ (at, y) ∷ ts
       → Holds most (option_and_then (λ q. rejoined most q at y) n) all ts
@@ -1261,7 +1260,7 @@ module _ (most : ℕ) where
 
   paused_stands : (k : Kept Tree) (S : List Frame) (at : ℕ) (y : Terminal) (all m ts : List Placed)
       → At most (paused k) S all m → token_at (flag S) at y m ts
-      → Holds most (moved most (paused k) (flag S) S at y) all ts
+      → Holds most (transition most (paused k) (flag S) S at y) all ts
   paused_stands k S at t.Newline all m ts (e, is, pr, fl, (m1, op, (m2, ex, ln))) tok = (
     sym fl,
     (
@@ -1296,7 +1295,7 @@ module _ (most : ℕ) where
 
   moved_stands : (st : State) (S : List Frame) (at : ℕ) (y : Terminal) (all m ts : List Placed)
       → (flag S && is_newline y) ≡ false → At most st S all m → token_at (flag S) at y m ts
-      → Holds most (moved most st (flag S) S at y) all ts
+      → Holds most (transition most st (flag S) S at y) all ts
   moved_stands (wanted b) S at y all m ts ne h tok = wanted_stands b S at y all m ts ne h tok
   moved_stands s.first S at y all m ts ne h tok = first_stands S at y all m ts h tok
   moved_stands (s.named n) S at y all m ts ne h tok = named_stands n S at y all m ts ne h tok
@@ -1333,9 +1332,9 @@ module _ (most : ℕ) where
   moved_stands (headed hd) S at y all m ts ne h tok = headed_stands hd S at y all m ts h tok
   moved_stands (existed hd) S at y all m ts ne h tok = existed_stands hd S at y all m ts h tok
   moved_stands between S at y all m ts ne h tok = between_stands S at y all m ts h tok
-  moved_stands (behind j) S at y all m ts ne h tok = behind_stands j S at y all m ts ne h tok
+  moved_stands (past_statement j) S at y all m ts ne h tok = past_statement_stands j S at y all m ts ne h tok
 
-  -- where a reading is, behind newlines that are skipped
+  -- where a reading is, after newlines that are skipped
   record Where (st : State) (i : Bool) (S : List Frame) (all ts : List Placed) : Type 0 where
     flag_is : i ≡ flag S
     left_at : List Placed
@@ -1353,7 +1352,7 @@ module _ (most : ℕ) where
   step_stands : (st : State) (i : Bool) (S : List Frame) (at : ℕ) (y : Terminal) (all ts : List Placed)
       → Where st i S all ((at, y) ∷ ts) → OnNext (step most st i S (at, y)) all ts
   step_stands st i S at y all ts h =
-      choose (λ n. OnNext n all ts) (i && is_newline y) (Some (st, i, S)) (moved most st i S at y)
+      if_else (λ n. OnNext n all ts) (i && is_newline y) (Some (st, i, S)) (transition most st i S at y)
       (λ e. record {
         flag_is = h.flag_is;
         left_at = h.left_at;
@@ -1361,8 +1360,8 @@ module _ (most : ℕ) where
         skips =
             any_put (λ s. i && is_newline s) h.left_at (at, y) ts e h.skips;
       })
-      (λ e. here (moved most st i S at y) all ts
-      (subst (λ b. Holds most (moved most st b S at y) all ts) (sym h.flag_is)
+      (λ e. here (transition most st i S at y) all ts
+      (subst (λ b. Holds most (transition most st b S at y) all ts) (sym h.flag_is)
       (moved_stands st S at y all h.left_at ts (subst (λ b. (b && is_newline y) ≡ false) h.flag_is e) h.stands
       ((at, y) ∷ ts, subst (λ b. skipped b h.left_at ((at, y) ∷ ts)) h.flag_is h.skips, refl))))
 
@@ -1449,23 +1448,23 @@ module _ (most : ℕ) where
   between_spelled (in_file k ∷ (F ∷ S)) i all m same h sk = tt
   between_spelled (F ∷ S) i all m same h sk = tt
 
-  behind_spelled : (j : Kept StatementTree) (S : List Frame) (i : Bool) (all m : List Placed) → i ≡ flag S
+  past_statement_spelled : (j : Kept StatementTree) (S : List Frame) (i : Bool) (all m : List Placed) → i ≡ flag S
       → Declared most j S all m → skipped i m [] → OnEnd (ended most j S) all
-  behind_spelled j [] i all m same d sk = tt
-  behind_spelled j (in_file k ∷ []) i all m same d sk =
+  past_statement_spelled j [] i all m same d sk = tt
+  past_statement_spelled j (in_file k ∷ []) i all m same d sk =
       last_spelled j (in_file k ∷ []) all m d (not_skipped m [] (subst (λ b. skipped b m []) same sk))
-  behind_spelled j (in_file k ∷ (F ∷ S)) i all m same d sk = tt
-  behind_spelled j (F ∷ S) i all m same d sk = tt
+  past_statement_spelled j (in_file k ∷ (F ∷ S)) i all m same d sk = tt
+  past_statement_spelled j (F ∷ S) i all m same d sk = tt
 
   finished_spelled : (st : State) (i : Bool) (S : List Frame) (all : List Placed) → Where st i S all []
       → OnEnd (finished most st S) all
   finished_spelled between i S all h = between_spelled S i all h.left_at h.flag_is h.stands h.skips
-  finished_spelled (behind j) i S all h =
+  finished_spelled (past_statement j) i S all h =
       let (st, is, (m1, op, sm)) = h.stands in
-      behind_spelled j S i all h.left_at h.flag_is
+      past_statement_spelled j S i all h.left_at h.flag_is
       (record { made_of = st; kept_is = is; begins_at = m1; opens = op; spelled = sm }) h.skips
   finished_spelled (typed ds q w.Param n ty) i S all h =
-      behind_spelled (of_statement ds (flat (param q n ty))) S i all h.left_at h.flag_is
+      past_statement_spelled (of_statement ds (flat (param q n ty))) S i all h.left_at h.flag_is
       (param_declared ds q n ty S all h.left_at h.stands) h.skips
   finished_spelled (s.named n) i S all h =
       done_spelled (flat (name n)) S i all h.left_at h.flag_is (named_at n S all h.left_at h.stands) h.skips

@@ -1,4 +1,4 @@
--- Where an expression ends, what was read stands in what is open.
+-- Where an expression ends, what was read goes into what is open.
 use Rattle.std.proofs.Common.{◌≡◌, ℕ, ◌<◌, ◌≤◌, max, nat_le, List, [], ◌∷◌, ◌++◌, Bool, true, false, true≢false, Some}
 use Rattle.std.proofs.Common.{cond, codes, bytes_eq, refl, ap, sym, ◌∙◌, arith, subst}
 use Rattle.std.specs.List.{AllByRecursion}
@@ -35,7 +35,7 @@ use Rattle.bicep_machine.specs.Stack.{to_output, Frame, grouping, calling, index
 use Rattle.bicep_machine.specs.Stack.{in_text, prefixing, left, asked, chosen, valued, assigned, over, body_over}
 use Rattle.bicep_machine.specs.Stack.{in_names, looped, in_condition, bodied, in_file, State, wanted, done, item}
 use Rattle.bicep_machine.specs.Stack.{member, past_member, among, looped_body, guarded, body_end, decorated, between}
-use Rattle.bicep_machine.specs.Stack.{behind, Next}
+use Rattle.bicep_machine.specs.Stack.{past_statement, Next}
 use Rattle.bicep_machine.specs.Closing.{Closed, of_statement, with_expression, filed, member_put, body_on, each_on}
 use Rattle.bicep_machine.specs.Closing.{over_on, with_condition, guarded_by, closed, fronted, object_on}
 use Rattle.bicep_machine.specs.Closing.{members_closed, member_closed, items_closed, called, call_closed, paren_on}
@@ -54,12 +54,7 @@ use Rattle.bicep_machine.proofs.Reading.{parts_last, parts_end, whole_items, who
 use Rattle.bicep_machine.proofs.Reading.{arguments_last, holes_more, holes_last}
 use Rattle.bicep_machine.proofs.ReadSoFar.{flag, Takes, IsObject, assigned_form, Decorated, front_form, Headed, Open}
 use Rattle.bicep_machine.proofs.ReadSoFar.{IsFirst, Holds}
-
-le_of_true : (m n : ℕ) → nat_le m n ≡ true → m ≤ n
-le_of_true m n h = grind (arith, nat_tests)
-
-lt_of_false : (m n : ℕ) → nat_le m n ≡ false → n < m
-lt_of_false m n h = grind (arith, nat_tests)
+use Rattle.foundation.proofs.Comparisons.{lt_of_false, le_of_true}
 
 pub eq_word : (xs ys : List ℕ) → bytes_eq xs ys ≡ true → xs ≡ ys
 eq_word xs ys e = (bytes_eq-Decides xs ys).0 e
@@ -181,7 +176,7 @@ module _ (most : ℕ) where
   ended (in_file ss ∷ S) n k e i all m1 m high is same le tk op ex =
       plain_end (in_file ss ∷ S) n k e i all m1 m is same le tt op ex
 
-  -- ---- what ends stands in its place
+  -- ---- what ends goes into its place
 
   pub object_flag : (S : List Frame) → IsObject S → false ≡ flag S
   object_flag [] h = absurd h
@@ -195,7 +190,7 @@ module _ (most : ℕ) where
   statement_kept ds dts j d e g = ap (λ x. of_statement x j) e ∙ ap (of_statement (keep_decorators most dts)) g
       ∙ ap (λ x. of_statement (keep_decorators most x) (keep_declaration most d)) (sym (each-decorators most dts))
 
-  -- a body stands in its declaration
+  -- a body is in its declaration
   pub body_stands : (h : Header) (S : List Frame) (j : Kept BodyTree) (b : BodyTree) (all m0 m : List Placed)
       → j ≡ keep_body most b → Headed most S (Open most S all) h (sign t.Assign) m0 → grammar.body b m0 m
       → Holds most (body_on h j S) all m
@@ -369,7 +364,7 @@ module _ (most : ℕ) where
   lines_separate a b (m, (at, y, is, e), (ps, h, ps_is)) =
       (m, (at, y, is, line_is y e), (ps, lines_passed ps a b h, ps_is))
 
-  -- ---- behind a call
+  -- ---- after a call
 
   -- a call with all its arguments
   function_stands : (g : Function) (was : Bool) (k : Kept (List Tree)) (S : List Frame) (es : List Tree)
@@ -435,7 +430,7 @@ module _ (most : ℕ) where
       (subst (λ y. token true t.CloseParen y m) (sym (subst (λ xs. ArgumentsRead xs mb m1) none_is rd)) cl)
   no_argument (F ∷ S) all m1 m fi op cl = tt
 
-  -- ---- behind an expression whose operators are closed
+  -- ---- after an expression whose operators are closed
 
   pub paren_stands : (p : Closed) (i : Bool) (all m1 m : List Placed) → Ended most 0 i all m1 p
       → token i t.CloseParen m1 m → Holds most (paren_on most p) all m
@@ -597,7 +592,7 @@ module _ (most : ℕ) where
       )
   bracket_stands (k, F ∷ S) i all m1 m h cl = tt
 
-  -- a separator behind an item
+  -- a separator after an item
   item_stands : (at : ℕ) (was : Bool) (S : List Frame) (j : Kept (List Tree)) (es : List Tree) (k : Kept Tree)
       (e : Tree) (all m0 mb m1 m2 m : List Placed) → j ≡ keep_list most es → k ≡ keep most e → was ≡ flag S
       → Open most S all m0 → token_at (flag S) at t.OpenBracket m0 mb → ItemsRead es mb m1 → expression false e m1 m2
@@ -679,7 +674,7 @@ module _ (most : ℕ) where
       (plain_sign t.CloseBrace m1 m (subst (λ b. token b t.CloseBrace m1 m) h.same cl))
   brace_stands (k, F ∷ S) i all m1 m h cl = tt
 
-  -- `:` behind the first branch of a conditional
+  -- `:` after the first branch of a conditional
   asked_stands : (k j : Kept Tree) (S : List Frame) (b : Bool) (all m1 m : List Placed)
       (h : Ended most 0 b all m1 (k, asked j ∷ S)) → token true t.Colon m1 m
       → Holds most (Some (wanted true, b, chosen j k ∷ S)) all m
@@ -749,7 +744,11 @@ module _ (most : ℕ) where
                   (
                     x3,
                     names,
-                    (h.from, within, (m1, h.text, plain_sign t.Colon m1 m (subst (λ b. token b t.Colon m1 m) h.same cl))),
+                    (
+                      h.from,
+                      within,
+                      (m1, h.text, plain_sign t.Colon m1 m (subst (λ b. token b t.Colon m1 m) h.same cl)),
+                    ),
                   ),
                 ),
               ),

@@ -21,7 +21,7 @@ use Rattle.bicep_machine.specs.Stack.{to_param, to_var, to_output, Frame, groupi
 use Rattle.bicep_machine.specs.Stack.{in_array, in_object, in_text, prefixing, left, asked, chosen, valued, assigned}
 use Rattle.bicep_machine.specs.Stack.{over, body_over, looped, in_condition, bodied, in_file, wanted, done, item}
 use Rattle.bicep_machine.specs.Stack.{member, past_member, among, looped_body, guarded, body_end, decorated, between}
-use Rattle.bicep_machine.specs.Stack.{behind, Next}
+use Rattle.bicep_machine.specs.Stack.{past_statement, Next}
 
 -- an expression, and what is open around it
 abbrev pub Closed : Type 0
@@ -46,12 +46,12 @@ with_each (to_var at n) v = Some (var at n v.0, v.1)
 with_each (to_output at n ty) v = Some (output at n ty v.0, v.1)
 with_each d v = None
 
--- a statement stands in the file
+-- a statement is in the file
 abbrev pub filed : Kept StatementTree → List Frame → Next
 filed s (in_file ss ∷ S) = Some (between, false, in_file (put ss s) ∷ S)
 filed s S = None
 
--- a member stands in its object
+-- a member is in its object
 abbrev pub member_put : Kept MemberTree → List Frame → Next
 member_put m (in_object at was ms ∷ S) = Some (member, false, in_object at was (put ms m) ∷ S)
 member_put m S = None
@@ -59,22 +59,23 @@ member_put m S = None
 -- what a resource or a module is
 abbrev pub body_on : Header → Kept BodyTree → List Frame → Next
 body_on (header ds at (owner.Resource x) n p) b S =
-    Some (behind (of_statement ds (a_resource (resource at n p x b.0), b.1)), false, S)
+    Some (past_statement (of_statement ds (a_resource (resource at n p x b.0), b.1)), false, S)
 body_on (header ds at (owner.Child x) n p) b S =
     Some (past_member (child (decorators ds.0) (resource at n p x b.0), max ds.1 b.1), false, S)
-body_on (header ds at owner.Module n p) b S = Some (behind (of_statement ds (a_module at n p b.0, b.1)), false, S)
+body_on (header ds at owner.Module n p) b S =
+    Some (past_statement (of_statement ds (a_module at n p b.0, b.1)), false, S)
 
--- a for-expression stands in its place
+-- a for-expression is in its place
 abbrev pub each_declared : Decorators → Option (Kept DeclarationTree) → List Frame → Next
 each_declared ds None S = None
-each_declared ds (Some d) S = Some (behind (of_statement ds d), false, S)
+each_declared ds (Some d) S = Some (past_statement (of_statement ds d), false, S)
 
 abbrev pub each_on : Kept ValueTree → List Frame → Next
 each_on v (valued l ∷ S) = Some (past_member (of_property l v), false, S)
 each_on v (assigned ds d ∷ S) = each_declared ds (with_each d v) S
 each_on v S = None
 
--- `[for x in` stands in its place
+-- `[for x in` is in its place
 abbrev pub over_on : ℕ → LoopNames → List Frame → Next
 over_on at ns (valued l ∷ S) = Some (wanted false, false, over at ns ∷ valued l ∷ S)
 over_on at ns (assigned ds (to_var w n) ∷ S) = Some (wanted false, false, over at ns ∷ assigned ds (to_var w n) ∷ S)
@@ -95,7 +96,7 @@ abbrev pub pair_on : Option (Name × Name × Name) → List Frame → Next
 pair_on (Some p) (opened at was ∷ S) = if is_for p.0.text then over_on at (ns.Both p.1 p.2) S else None
 pair_on o S = None
 
--- whether a declaration may have a for-expression behind its `=`
+-- whether a declaration may have a for-expression after its `=`
 abbrev pub takes_loops : Assigned → Bool
 takes_loops (to_var at n) = true
 takes_loops (to_output at n ty) = true
@@ -142,7 +143,7 @@ module _ (most : ℕ) where
   closed n e (chosen c a ∷ S) = if nat_le n 0 then closed n (of_conditional most c a e) S else (e, chosen c a ∷ S)
   closed n e (F ∷ S) = (e, F ∷ S)
 
-  -- an object before what it stands in
+  -- an object, by what it is in
   abbrev pub fronted : Header → Front → Kept ObjectTree → List Frame → Next
   fronted h nothing_before o S = body_on h (of_body_plain o) S
   fronted h (a_condition at c) o S = body_on h (of_body_if at c o) S
@@ -176,7 +177,7 @@ module _ (most : ℕ) where
   call_closed (calling c was es ∷ S) = called c was es S
   call_closed S = None
 
-  -- ---- behind an expression, whose operators are closed
+  -- ---- after an expression, whose operators are closed
 
   abbrev pub paren_on : Closed → Next
   paren_on (e, grouping at was ∷ S) = Some (done (of_parentheses most at e), was, S)
@@ -208,7 +209,7 @@ module _ (most : ℕ) where
   colon_on i (e, body_over at ns h ∷ S) = Some (looped_body, false, bodied h (a_loop (of_loop at ns e)) ∷ S)
   colon_on i (e, S) = None
 
-  -- `:` behind a newline
+  -- `:` after a newline
   abbrev pub late_colon_on : Closed → Next
   late_colon_on (e, asked c ∷ S) = Some (wanted true, false, chosen c e ∷ S)
   late_colon_on (e, S) = None

@@ -40,18 +40,18 @@ two_names (more a (more b none)) = both_of (name_in a) (name_in b)
 two_names es = None
 
 -- the word before two names
-abbrev pub behind_word : Name → Option (Name × Name) → Option (Name × Name × Name)
-behind_word w None = None
-behind_word w (Some p) = Some (w, p.0, p.1)
+abbrev pub word_before : Name → Option (Name × Name) → Option (Name × Name × Name)
+word_before w None = None
+word_before w (Some p) = Some (w, p.0, p.1)
 
 -- ---- what several declarations share
 
--- the type behind the name of a declaration
+-- the type after the name of a declaration
 abbrev pub typing_step : Decorators → ℕ → Word → Name → List Frame → Terminal → Next
 typing_step ds from word n S (t.Name s) = type_on ds from word n (type_of s) S
 typing_step ds from word n S s = None
 
--- the type text or the path behind the name of a declaration
+-- the type text or the path after the name of a declaration
 abbrev pub heading_step : Decorators → ℕ → Owner → Name → List Frame → ℕ → Terminal → Next
 heading_step ds from o n S at (t.Literal (l.Text s)) = Some (headed (header ds from o n (quoted_at at s)), false, S)
 heading_step ds from o n S at s = None
@@ -67,6 +67,6 @@ assigned_to ds d S = Some (wanted false, false, assigned ds d ∷ S)
 abbrev pub headed_by : Decorators → ℕ → Owner → Name → Quoted → List Frame → Next
 headed_by ds from o n q S = Some (headed (header ds from o n q), false, S)
 
--- a word behind an expression
+-- a word after an expression
 abbrev pub in_on : List ℕ → Kept Tree → List Frame → Next
 in_on w e S = if is_in w then pair_on (pair_of e.0) S else None

@@ -30,7 +30,7 @@ put xs x = (xs.0 ++ x.0 ∷ [], max xs.1 x.1)
 abbrev pub empty : {X : Type 0} → Kept (List X)
 empty = ([], 0)
 
--- what stands in the place of what nests too deep
+-- what replaces what nests too deep
 abbrev pub gap : Tree
 gap = literal 0 l.Null
 
@@ -112,6 +112,6 @@ of_body_plain o = (body_plain o.0, o.1)
 abbrev pub of_body_if : ℕ → Kept Tree → Kept ObjectTree → Kept BodyTree
 of_body_if at c o = (body_if at c.0 o.0, max c.1 o.1)
 
--- a hole, and the characters behind it
+-- a hole, and the characters after it
 abbrev pub of_hole : Kept Tree → List ℕ → Kept (Tree × List ℕ)
 of_hole e s = ((e.0, s), e.1)

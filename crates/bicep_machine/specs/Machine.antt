@@ -38,7 +38,7 @@ use Rattle.bicep_machine.specs.Stack.{qualified, dotted, done, paused, item, for
 use Rattle.bicep_machine.specs.Stack.{one_named, other_wanted, both_named, member, labelled, past_member, among, body}
 use Rattle.bicep_machine.specs.Stack.{looped_body, condition, guarded, body_end, at_sign, decorator_named}
 use Rattle.bicep_machine.specs.Stack.{decorator_spaced, decorator_ready, decorated, past_decorators, declaring}
-use Rattle.bicep_machine.specs.Stack.{declared, typed, headed, existed, between, behind, Next}
+use Rattle.bicep_machine.specs.Stack.{declared, typed, headed, existed, between, past_statement, Next}
 use Rattle.bicep_machine.specs.Closing.{Closed, of_statement, with_expression, filed, member_put, body_on, over_on}
 use Rattle.bicep_machine.specs.Closing.{is_for, pair_of, pair_on, item_on, item_parted, closed, members_closed}
 use Rattle.bicep_machine.specs.Closing.{member_closed, items_closed, call_closed, paren_on, bracket_on, comma_on}
@@ -113,7 +113,7 @@ abbrev pub wanted_step : Bool → Bool → List Frame → ℕ → Terminal → N
 wanted_step true i S at t.Newline = Some (wanted true, i, S)
 wanted_step w i S at s = begun i S at s
 
--- what a word begins, behind decorators
+-- what a word begins, after decorators
 abbrev pub word_on : Decorators → ℕ → Option Word → List Frame → Next
 word_on ds at None S = None
 word_on ds at (Some w) S = Some (declaring ds at w, false, S)
@@ -122,7 +122,7 @@ abbrev pub child_on : Decorators → ℕ → Bool → List Frame → Next
 child_on ds at false S = None
 child_on ds at true S = Some (declaring ds at w.Child, false, S)
 
--- a word behind decorators, in an object or in a file
+-- a word after decorators, in an object or in a file
 abbrev pub decorated_word : Decorators → ℕ → List ℕ → List Frame → Next
 decorated_word ds at s (in_object o was ms ∷ S) = child_on ds at (is_resource s) (in_object o was ms ∷ S)
 decorated_word ds at s (in_file ss ∷ S) = word_on ds at (word_of s) (in_file ss ∷ S)
@@ -134,9 +134,9 @@ between_step S at t.At = Some (at_sign empty at, false, S)
 between_step S at (t.Name s) = word_on empty at (word_of s) S
 between_step S at s = None
 
-abbrev pub behind_step : Kept StatementTree → List Frame → Terminal → Next
-behind_step s S t.Newline = filed s S
-behind_step s S x = None
+abbrev pub past_statement_step : Kept StatementTree → List Frame → Terminal → Next
+past_statement_step s S t.Newline = filed s S
+past_statement_step s S x = None
 
 abbrev pub at_sign_step : Decorators → ℕ → List Frame → ℕ → Terminal → Next
 at_sign_step ds sign S at (t.Name s) = Some (decorator_named ds sign (name_at at s), false, S)
@@ -275,7 +275,7 @@ labelled_step (label.Name n) S at (t.Name s) = if is_resource n.text
 labelled_step n S at s = None
 
 module _ (most : ℕ) where
-  -- ---- steps behind an expression
+  -- ---- steps after an expression
 
   abbrev pub with_operator : Bool → Operator → Closed → Next
   with_operator i o (e, S) = Some (wanted true, i, left o e ∷ S)
@@ -302,7 +302,7 @@ module _ (most : ℕ) where
   gone_on e i S (t.Name s) = if is_in s then pair_on (pair_of e.0) S else None
   gone_on e i S s = None
 
-  -- `.` behind a name
+  -- `.` after a name
   abbrev pub space_on : Option Namespace → Name → Bool → List Frame → Next
   space_on None n i S = Some (dotted a.Member (flat (name n)), i, S)
   space_on (Some space) n i S = Some (qualifying space n, i, S)
@@ -351,7 +351,7 @@ module _ (most : ℕ) where
   past_member_step m S t.CloseBrace = member_closed most m S
   past_member_step m S s = None
 
-  -- a token behind a newline that ended an expression
+  -- a token after a newline that ended an expression
   abbrev pub rejoined : State × Bool × List Frame → ℕ → Terminal → Next
   rejoined (item, i, S) at s = item_step S at s
   rejoined (member, i, S) at s = member_step S at s
@@ -365,48 +365,48 @@ module _ (most : ℕ) where
   paused_step e S at s = option_and_then (λ q. rejoined q at s) (newline_on most (closed most 0 e S))
 
   -- a token that is no skipped newline
-  abbrev pub moved : State → Bool → List Frame → ℕ → Terminal → Next
-  moved (wanted w) i S at s = wanted_step w i S at s
-  moved first i S at s = first_step i S at s
-  moved (named n) i S at s = named_step n i S at s
-  moved (qualifying space n) i S at s = qualifying_step space n i S at s
-  moved (qualified space n m) i S at s = qualified_step space n m i S s
-  moved (dotted k e) i S at s = dotted_step k e i S at s
-  moved (done e) i S at s = gone_on e i S s
-  moved (paused e) i S at s = paused_step e S at s
-  moved item i S at s = item_step S at s
-  moved (for_wanted from) i S at s = for_wanted_step from S s
-  moved (names_wanted from) i S at s = names_wanted_step from S at s
-  moved one_wanted i S at s = one_wanted_step S at s
-  moved (one_named n) i S at s = one_named_step n S s
-  moved (other_wanted n) i S at s = other_wanted_step n S at s
-  moved (both_named n m) i S at s = both_named_step n m S s
-  moved member i S at s = member_step S at s
-  moved (labelled n) i S at s = labelled_step n S at s
-  moved (past_member m) i S at s = past_member_step m S s
-  moved (among from ns) i S at s = among_step from ns S s
-  moved body i S at s = body_step S at s
-  moved looped_body i S at s = looped_body_step S at s
-  moved (condition from) i S at s = condition_step from S s
-  moved guarded i S at s = guarded_step S at s
-  moved (body_end h b) i S at s = body_end_step h b S s
-  moved (at_sign ds from) i S at s = at_sign_step ds from S at s
-  moved (decorator_named ds from n) i S at s = decorator_named_step ds from n S s
-  moved (decorator_spaced ds from n) i S at s = decorator_spaced_step ds from n S at s
-  moved (decorator_ready ds from g) i S at s = decorator_ready_step ds from g S s
-  moved (decorated ds) i S at s = decorated_step ds S s
-  moved (past_decorators ds) i S at s = past_decorators_step ds S at s
-  moved (declaring ds from word) i S at s = declaring_step ds from word S at s
-  moved (declared ds from word n) i S at s = declared_step ds from word n S at s
-  moved (typed ds from word n ty) i S at s = typed_step ds from word n ty S s
-  moved (headed h) i S at s = headed_step h S s
-  moved (existed h) i S at s = existed_step h S s
-  moved between i S at s = between_step S at s
-  moved (behind st) i S at s = behind_step st S s
+  abbrev pub transition : State → Bool → List Frame → ℕ → Terminal → Next
+  transition (wanted w) i S at s = wanted_step w i S at s
+  transition first i S at s = first_step i S at s
+  transition (named n) i S at s = named_step n i S at s
+  transition (qualifying space n) i S at s = qualifying_step space n i S at s
+  transition (qualified space n m) i S at s = qualified_step space n m i S s
+  transition (dotted k e) i S at s = dotted_step k e i S at s
+  transition (done e) i S at s = gone_on e i S s
+  transition (paused e) i S at s = paused_step e S at s
+  transition item i S at s = item_step S at s
+  transition (for_wanted from) i S at s = for_wanted_step from S s
+  transition (names_wanted from) i S at s = names_wanted_step from S at s
+  transition one_wanted i S at s = one_wanted_step S at s
+  transition (one_named n) i S at s = one_named_step n S s
+  transition (other_wanted n) i S at s = other_wanted_step n S at s
+  transition (both_named n m) i S at s = both_named_step n m S s
+  transition member i S at s = member_step S at s
+  transition (labelled n) i S at s = labelled_step n S at s
+  transition (past_member m) i S at s = past_member_step m S s
+  transition (among from ns) i S at s = among_step from ns S s
+  transition body i S at s = body_step S at s
+  transition looped_body i S at s = looped_body_step S at s
+  transition (condition from) i S at s = condition_step from S s
+  transition guarded i S at s = guarded_step S at s
+  transition (body_end h b) i S at s = body_end_step h b S s
+  transition (at_sign ds from) i S at s = at_sign_step ds from S at s
+  transition (decorator_named ds from n) i S at s = decorator_named_step ds from n S s
+  transition (decorator_spaced ds from n) i S at s = decorator_spaced_step ds from n S at s
+  transition (decorator_ready ds from g) i S at s = decorator_ready_step ds from g S s
+  transition (decorated ds) i S at s = decorated_step ds S s
+  transition (past_decorators ds) i S at s = past_decorators_step ds S at s
+  transition (declaring ds from word) i S at s = declaring_step ds from word S at s
+  transition (declared ds from word n) i S at s = declared_step ds from word n S at s
+  transition (typed ds from word n ty) i S at s = typed_step ds from word n ty S s
+  transition (headed h) i S at s = headed_step h S s
+  transition (existed h) i S at s = existed_step h S s
+  transition between i S at s = between_step S at s
+  transition (past_statement st) i S at s = past_statement_step st S s
 
   -- one token
   abbrev pub step : State → Bool → List Frame → Placed → Next
-  step s i S t = if i && is_newline t.1 then Some (s, i, S) else moved s i S t.0 t.1
+  step s i S t = if i && is_newline t.1 then Some (s, i, S) else transition s i S t.0 t.1
 
   -- ---- the end
 
@@ -425,7 +425,7 @@ module _ (most : ℕ) where
 
   abbrev pub finished : State → List Frame → Option (Kept (List StatementTree))
   finished between S = ended_between S
-  finished (behind st) S = ended st S
+  finished (past_statement st) S = ended st S
   finished (typed ds from w.Param n ty) S = ended (of_statement ds (flat (param from n ty))) S
   finished (named n) S = ended_by (closed most 0 (flat (name n)) S)
   finished (qualified space n m) S = ended_by (closed most 0 (of_access most (flat (name n)) a.Member m) S)

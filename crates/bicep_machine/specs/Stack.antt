@@ -19,24 +19,24 @@ use Rattle.bicep_machine.specs.Kept.{Kept}
 abbrev pub Decorators : Type 0
 Decorators = Kept (List DecoratorTree)
 
--- what `(` was opened behind
+-- what the `(` of a call follows
 pub data Callee : Type 0 where
   function : Function → Callee
-  -- a decorator's function, behind other decorators and the `@`
+  -- a decorator's function, after other decorators and the `@`
   decorating : Decorators → ℕ → Function → Callee
 
--- what stands before the body of a resource or a module
+-- what comes before the body of a resource or a module
 pub data Header : Type 0 where
   header : Decorators → ℕ → Owner → Name → Quoted → Header
 
--- what stands before the object of a body
+-- what comes before the object of a body
 pub data Front : Type 0 where
   nothing_before : Front
   a_condition : ℕ → Kept Tree → Front
   a_loop : Kept LoopTree → Front
   loop_and_condition : Kept LoopTree → ℕ → Kept Tree → Front
 
--- what stands before the expression of a declaration
+-- what comes before the expression of a declaration
 pub data Assigned : Type 0 where
   to_metadata : ℕ → Name → Assigned
   to_scope : ℕ → Assigned
@@ -50,9 +50,9 @@ pub data Frame : Type 0 where
   grouping : ℕ → Bool → Frame
   -- a call and its arguments so far
   calling : Callee → Bool → Kept (List Tree) → Frame
-  -- an index behind a value
+  -- an index after a value
   indexing : Kept Tree → Indexing → Frame
-  -- `[` with nothing behind it
+  -- `[` with nothing after it
   opened : ℕ → Bool → Frame
   -- an array, its items so far, and separators
   in_array : ℕ → Bool → Kept (List Tree) → Frame
@@ -88,7 +88,7 @@ pub data Frame : Type 0 where
 
 -- What was read last.
 pub data State : Type 0 where
-  -- something behind which an expression comes; newlines before it are skipped where this says so
+  -- something after which an expression comes; newlines before it are skipped where this says so
   wanted : Bool → State
   -- `(` of a call
   first : State
@@ -104,13 +104,13 @@ pub data State : Type 0 where
   done : Kept Tree → State
   -- and a newline that is not skipped
   paused : Kept Tree → State
-  -- `[`, or separators behind it or an item
+  -- `[`, or separators after it or an item
   item : State
-  -- `[` where a body stands
+  -- `[` in the place of a body
   for_wanted : ℕ → State
-  -- `[for` where a body stands
+  -- `[for` in the place of a body
   names_wanted : ℕ → State
-  -- `[for (` where a body stands
+  -- `[for (` in the place of a body
   one_wanted : State
   -- and a name
   one_named : Name → State
@@ -118,7 +118,7 @@ pub data State : Type 0 where
   other_wanted : Name → State
   -- and another name
   both_named : Name → Name → State
-  -- `{`, or separators behind it or a member
+  -- `{`, or separators after it or a member
   member : State
   -- the name of a member
   labelled : Label → State
@@ -144,7 +144,7 @@ pub data State : Type 0 where
   decorator_spaced : Decorators → ℕ → ℕ → State
   -- `@sys.f`
   decorator_ready : Decorators → ℕ → Function → State
-  -- decorators, behind which a newline comes
+  -- decorators, after which a newline comes
   decorated : Decorators → State
   -- and the newline
   past_decorators : Decorators → State
@@ -161,7 +161,7 @@ pub data State : Type 0 where
   -- newlines, or nothing yet, in a file
   between : State
   -- a statement
-  behind : Kept StatementTree → State
+  past_statement : Kept StatementTree → State
 
 -- a state, whether newlines are skipped, and what is open
 abbrev pub Next : Type 0

@@ -1,5 +1,5 @@
 -- What the values of the code stand for.
-use Rattle.std.specs.Prelude.{◌≡◌, Bool, List, [], ◌∷◌, map, Option, Some, None, Result, Ok, Err}
+use Rattle.std.specs.Prelude.{Bool, List, [], ◌∷◌, map}
 use Rattle.std.specs.declared.vec.Vec.{Vec}
 use Rattle.std.specs.declared.boxed.Box.{Box}
 use Rattle.std.specs.declared.alloc.Global.{Global}
@@ -30,8 +30,6 @@ use Rattle.bicep_machine.specs.declared.frame.Frame.TheVariants as frame
 use Rattle.bicep_machine.specs.declared.state.State as states
 use Rattle.bicep_machine.specs.declared.state.State.TheVariants as state
 use Rattle.bicep_machine.specs.declared.state.Next as nexts
-use Rattle.bicep_machine.specs.declared.stop.Stop.{Stop}
-use Rattle.bicep_machine.specs.declared.stop.Stop.TheVariants as stop
 use Rattle.bicep_machine.specs.Kept.{Kept}
 use Rattle.bicep_machine.specs.Stack.{Decorators, Callee, function, decorating, Header, header, Front, nothing_before}
 use Rattle.bicep_machine.specs.Stack.{a_condition, a_loop, loop_and_condition, Assigned, to_metadata, to_scope}
@@ -42,7 +40,7 @@ use Rattle.bicep_machine.specs.Stack.{first, named, qualifying, qualified, dotte
 use Rattle.bicep_machine.specs.Stack.{names_wanted, one_wanted, one_named, other_wanted, both_named, member, labelled}
 use Rattle.bicep_machine.specs.Stack.{past_member, among, body, looped_body, condition, guarded, body_end, at_sign}
 use Rattle.bicep_machine.specs.Stack.{decorator_named, decorator_spaced, decorator_ready, decorated, past_decorators}
-use Rattle.bicep_machine.specs.Stack.{declaring, declared, typed, headed, existed, between, behind}
+use Rattle.bicep_machine.specs.Stack.{declaring, declared, typed, headed, existed, between, past_statement}
 
 -- ---- what is kept
 
@@ -181,20 +179,8 @@ state_of (state.Typed ds at w n ty) = typed (kept_decorators ds) at w n ty
 state_of (state.Headed h) = headed (header_of h.value)
 state_of (state.Existed h) = existed (header_of h.value)
 state_of state.Between = between
-state_of (state.Behind s) = behind (kept_statement s)
+state_of (state.PastStatement s) = past_statement (kept_statement s)
 
 -- where a token leads, and what is open there
 abbrev pub next_of : nexts.Next → List frames.Frame → State × Bool × List Frame
 next_of n S = (state_of n.state, n.inside, frames_of S)
-
--- ---- what is answered
-
--- why reading stops: the machine stops too, or memory ran out
-abbrev pub Stops : {A : Type 0} → Stop → Option A → Type 0
-Stops stop.NotAFile o = o ≡ None
-Stops stop.OutOfMemory o = Unit {0}
-
--- what is answered is what the machine gives, unless memory ran out
-abbrev pub Gives : {X A : Type 0} → (X → A) → Result X Stop → Option A → Type 0
-Gives view (Ok x) o = o ≡ Some (view x)
-Gives view (Err e) o = Stops e o

@@ -1,12 +1,14 @@
-// Composites of what is kept: a leaf in the place of what nests too deep.
+// Composites of parts that were kept; a leaf replaces a composite that nests too deep.
 #![tactic(auto, using(bicep_tree::proofs::ViewLemmas::enums, bicep_tree::proofs::ViewLemmas::structs, crate::proofs::StackLemmas::stacks))]
 
 ghost use Rattle.std.specs.Prelude.{◌≡◌, max, map, IfOk};
 ghost use Rattle.bicep_tree.specs.Tree.{name, literal};
 ghost use Rattle.bicep_tree.specs.View.{tree_of, hole_of};
-ghost use Rattle.bicep_machine.specs.Kept.{made, gap, put, of_holes, of_items, of_parentheses, of_call, of_access, of_index, of_not_null, of_prefix, of_binary, of_conditional, of_hole};
+ghost use Rattle.bicep_machine.specs.Kept.{made, gap, put, of_holes, of_items, of_parentheses, of_call, of_access};
+ghost use Rattle.bicep_machine.specs.Kept.{of_index, of_not_null, of_prefix, of_binary, of_conditional, of_hole};
 ghost use Rattle.bicep_machine.specs.Views.{kept, kept_items, kept_holes};
 
+use crate::discard::Discard;
 use crate::kept::{Kept, MOST_NESTING, deeper, flat, put};
 use arm_value::{OutOfMemory, Text};
 use bicep_tree::{Access, Expr, Function, Hole, Indexing, Literal, Name, Operator, Prefix};
@@ -22,15 +24,16 @@ fn boxed(alloc: Global, e: Expr, depth: usize) -> Result<Kept<Box<Expr>>, OutOfM
     })
 }
 
-// A leaf in the place of a part that nests too deep; the part is let go.
+// A leaf that replaces a part that nests too deep; drops the part.
 #[tactic(auto, using(bicep_tree::proofs::ViewLemmas::enums), unfolding(crate::specs::Kept::made))]
-fn gap_for<T: Drop>(alloc: Global, _part: T) -> Result<Kept<Box<Expr>>, OutOfMemory>
+fn gap_for(alloc: Global, part: Expr) -> Result<Kept<Box<Expr>>, OutOfMemory>
     ensures { IfOk result (λ k. kept k ≡ (gap, 65)) }
 {
+    part.discard();
     boxed(alloc, Expr::Literal(0, Literal::Null), MOST_NESTING + 1)
 }
 
-// The composite of parts that nest so deep.
+// The composite of parts that nest at most so deep.
 #[tactic(auto, using(bicep_tree::proofs::ViewLemmas::enums), unfolding(crate::specs::Kept::made))]
 fn made(alloc: Global, composite: Expr, below: usize) -> Result<Kept<Box<Expr>>, OutOfMemory>
     ensures { IfOk result (λ k. kept k ≡ made 64 gap (tree_of composite) below) }
@@ -69,7 +72,7 @@ pub fn with_item(items: Kept<Vec<Expr>>, e: Kept<Box<Expr>>) -> Result<Kept<Vec<
     )
 }
 
-/// The holes of a text with one more, and the characters behind it.
+/// The holes of a text with one more, and the characters after it.
 pub fn with_hole(
     holes: Kept<Vec<Hole>>,
     e: Kept<Box<Expr>>,
@@ -139,7 +142,7 @@ pub fn call_of(
     made(alloc, Expr::Call(function, arguments.part), arguments.depth)
 }
 
-/// A value and the name behind `.`, `.?` or `::`.
+/// A value and the name after `.`, `.?` or `::`.
 pub fn access_of(
     alloc: Global,
     e: Kept<Box<Expr>>,
@@ -151,7 +154,7 @@ pub fn access_of(
     made(alloc, Expr::Access(e.part, access, name), e.depth)
 }
 
-/// A value and an index behind it.
+/// A value and an index after it.
 pub fn index_of(
     alloc: Global,
     e: Kept<Box<Expr>>,
@@ -196,7 +199,7 @@ pub fn binary_of(
     made(alloc, Expr::Binary(operator, left.part, right.part), below)
 }
 
-/// A conditional: what is asked, and its two branches.
+/// A conditional: its condition, and its two branches.
 pub fn conditional_of(
     alloc: Global,
     condition: Kept<Box<Expr>>,

@@ -1,4 +1,4 @@
-// Operators are closed as far as the next token asks.
+// Closes operators as far as the next token demands.
 
 ghost use Rattle.std.specs.Prelude.{◌≡◌, ◌∷◌, IfOk};
 ghost use Rattle.bicep_machine.specs.Closing.{closed};
@@ -13,16 +13,16 @@ use arm_value::OutOfMemory;
 use bicep_tree::Expr;
 use std::alloc::Global;
 
-/// An operand that meets what is open before it.
+/// An operand and what is open before it.
 #[derive(Drop)]
 pub enum Folded {
     /// The operator took it.
     Into(Kept<Box<Expr>>),
-    /// What is open stays so.
+    /// What is open stays open.
     Beside(Frame, Kept<Box<Expr>>),
 }
 
-// What is open takes the operand, where it is an operator that binds at least so tightly.
+// What is open takes the operand, if it is an operator that binds at least as tightly as that level.
 fn taken(
     alloc: Global,
     level: usize,
@@ -52,7 +52,7 @@ fn taken(
     }
 }
 
-/// The expression with the operators before it that bind at least so tightly; 0 closes them all.
+/// The expression with the operators before it that bind at least as tightly as that level; 0 closes all.
 pub fn closed(
     alloc: Global,
     level: usize,

@@ -1,56 +1,68 @@
-// What is open around what is read, on a stack, so that no nesting of a file makes the reader recurse.
+// What is open around what is read, on a stack: so the reader does not recurse, however deep a file nests.
 
-ghost use Rattle.std.specs.Prelude.{◌≡◌, ◌+◌, [], ◌∷◌, vec_len, OnOk, MatchOption};
-ghost use Rattle.bicep_machine.specs.Views.{frame_of, frames_of};
+ghost use Rattle.std.specs.Prelude.{◌≡◌, ◌+◌, [], ◌∷◌, vec_len, IfOk, OnOk, MatchOption};
+ghost use Rattle.bicep_machine.specs.Stack.{header, in_file};
+ghost use Rattle.bicep_machine.specs.Views.{kept_decorators, header_of, frame_of, frames_of};
 
-use crate::kept::Kept;
+use crate::kept::{Kept, empty};
 use crate::word::Owner;
 use arm_value::{OutOfMemory, Text};
 use bicep_tree::{
     Decorator, Expr, Function, Hole, Indexing, Label, Loop, LoopNames, Member, Name, Operator,
     Prefix, Quoted, Statement, TypeName,
 };
+use std::alloc::Global;
 
-/// What `(` was opened behind.
+/// What the `(` of a call follows.
 #[derive(Drop)]
 pub enum Callee {
     /// A function of an expression.
     Function(Function),
-    /// A decorator's function, behind other decorators and the `@`.
+    /// A function of a decorator: the decorators before it, the offset of `@`, and the function.
     Decorator(Kept<Vec<Decorator>>, usize, Function),
 }
 
-/// What stands before the body of a resource or a module.
+/// What comes before the body of a resource or a module.
 #[derive(Drop)]
 pub struct Header {
+    /// The decorators before it.
     pub decorators: Kept<Vec<Decorator>>,
+    /// The offset of `resource` or `module`, in bytes.
     pub at: usize,
+    /// What the body belongs to.
     pub owner: Owner,
+    /// Its name in the file.
     pub name: Name,
+    /// The type text of a resource, or the path of a module.
     pub path: Quoted,
 }
 
-/// What stands before the object of a body.
+/// What comes before the object of a body.
 #[derive(Drop)]
 pub enum Front {
-    /// Nothing: the object stands alone.
+    /// Nothing: the object comes first.
     Nothing,
     /// `if`, its offset, and the condition.
     Condition(usize, Kept<Box<Expr>>),
-    /// `[for x in xs:`
+    /// `[for x in xs:`.
     Loop(Kept<Box<Loop>>),
-    /// And a condition.
+    /// `[for x in xs:`, then `if`, its offset, and the condition.
     LoopAndCondition(Kept<Box<Loop>>, usize, Kept<Box<Expr>>),
 }
 
-/// What stands before the expression of a declaration: the offset of its word, its name and its type,
+/// What comes before the expression of a declaration: the offset of its word, its name and its type,
 /// as far as it has them.
 #[derive(Drop)]
 pub enum Assigned {
+    /// `metadata`
     Metadata(usize, Name),
+    /// `targetScope`
     Scope(usize),
+    /// `param`
     Param(usize, Name, TypeName),
+    /// `var`
     Var(usize, Name),
+    /// `output`
     Output(usize, Name, TypeName),
 }
 
@@ -61,9 +73,9 @@ pub enum Frame {
     Grouping(usize, bool),
     /// A call and its arguments so far.
     Calling(Callee, bool, Kept<Vec<Expr>>),
-    /// An index behind a value.
+    /// An index after a value.
     Indexing(Kept<Box<Expr>>, Indexing),
-    /// `[` with nothing behind it.
+    /// `[` with nothing after it.
     Opened(usize, bool),
     /// An array, its items so far, and separators.
     InArray(usize, bool, Kept<Vec<Expr>>),
@@ -99,6 +111,37 @@ pub enum Frame {
     InFile(Kept<Vec<Statement>>),
 }
 
+/// What comes before a body, in a box.
+pub fn header_of(
+    alloc: Global,
+    decorators: Kept<Vec<Decorator>>,
+    at: usize,
+    owner: Owner,
+    name: Name,
+    path: Quoted,
+) -> Result<Box<Header>, OutOfMemory>
+    ensures { IfOk result
+        (λ h. header_of h.value ≡ header (kept_decorators decorators) at owner name path) }
+{
+    let header = Header {
+        decorators,
+        at,
+        owner,
+        name,
+        path,
+    };
+    Ok(Box::new(alloc, header)?)
+}
+
+/// A stack on which nothing but a file without statements is open.
+pub fn empty_file(alloc: Global) -> Result<Vec<Frame>, OutOfMemory>
+    ensures { IfOk result (λ s. frames_of s.items ≡ in_file ([], 0) ∷ []) }
+{
+    let mut stack = Vec::new(alloc);
+    open(&mut stack, Frame::InFile(empty(alloc)))?;
+    Ok(stack)
+}
+
 /// Puts the frame on top.
 #[tactic(auto, using(crate::proofs::StackLemmas::stacks))]
 pub fn open(stack: &mut Vec<Frame>, frame: Frame) -> Result<(), OutOfMemory>
@@ -109,7 +152,7 @@ pub fn open(stack: &mut Vec<Frame>, frame: Frame) -> Result<(), OutOfMemory>
     Ok(())
 }
 
-/// Takes the frame on top, where something is open.
+/// Takes the frame on top; `None` where nothing is open.
 pub fn close(stack: &mut Vec<Frame>) -> Option<Frame>
     ensures frames { MatchOption result
         ((frames_of stack.old.items ≡ []) × (frames_of stack.new.items ≡ []))

@@ -1,18 +1,22 @@
-// What is kept of what was read: the part, and how deep it nests.
+// What is kept of a part that was read: the part, and how deep it nests.
 
 ghost use Rattle.std.specs.Prelude.{◌≡◌, None, [], ◌∷◌, ◌++◌, max, IfOk};
 
+use crate::discard::Discard;
 use arm_value::OutOfMemory;
+use foundation::limits::MAX_EXPRESSION_NESTING;
 use std::alloc::Global;
 
-/// How deep expressions may nest.
-pub const MOST_NESTING: usize = 64;
+/// How deep expressions may nest, as a depth of `Kept`.
+pub const MOST_NESTING: usize = MAX_EXPRESSION_NESTING as usize;
 
-/// A part of a file, and how deep it nests. In the place of a part that nests above the limit a leaf
-/// is kept, and one more than the limit for its depth; so no deep tree is ever built or dropped.
+/// A part of a file, and how deep it nests. A leaf replaces a part that nests above `MOST_NESTING`, and its
+/// depth is one more than that; so no deep tree is ever built or dropped.
 #[derive(Drop)]
 pub struct Kept<T> {
+    /// The part, or a leaf.
     pub part: T,
+    /// How deep the part nests; a leaf nests 0.
     pub depth: usize,
 }
 
@@ -24,7 +28,7 @@ pub fn deeper(one: usize, other: usize) -> usize
 }
 
 /// A part of no depth.
-pub fn flat<T: Drop>(part: T) -> Kept<T>
+pub fn flat<T>(part: T) -> Kept<T>
     ensures part { result.part ≡ part }
     ensures depth { result.depth ≡ 0 }
 {
@@ -32,15 +36,15 @@ pub fn flat<T: Drop>(part: T) -> Kept<T>
 }
 
 /// A list with nothing in it.
-pub fn empty<T: Drop>(alloc: Global) -> Kept<Vec<T>>
+pub fn empty<T>(alloc: Global) -> Kept<Vec<T>>
     ensures items { result.part.items ≡ [] }
     ensures depth { result.depth ≡ 0 }
 {
     flat(Vec::new(alloc))
 }
 
-/// The list with one more at its end.
-pub fn put<T: Drop>(list: Kept<Vec<T>>, item: Kept<T>) -> Result<Kept<Vec<T>>, OutOfMemory>
+// The list with one more at its end.
+pub(crate) fn put<T: Drop>(list: Kept<Vec<T>>, item: Kept<T>) -> Result<Kept<Vec<T>>, OutOfMemory>
     ensures items { IfOk result (λ k. k.part.items ≡ list.part.items ++ item.part ∷ []) }
     ensures depth { IfOk result (λ k. k.depth ≡ max list.depth item.depth) }
 {
@@ -50,9 +54,10 @@ pub fn put<T: Drop>(list: Kept<Vec<T>>, item: Kept<T>) -> Result<Kept<Vec<T>>, O
     Ok(Kept { part, depth })
 }
 
-/// Nothing; the part is let go.
-pub fn nothing<T: Drop, R: Drop>(_part: T) -> Option<R>
+// `None`; drops the part.
+pub(crate) fn nothing<T: Discard, R>(part: T) -> Option<R>
     ensures { result ≡ None }
 {
+    part.discard();
     None
 }

@@ -8,6 +8,7 @@
 
 mod build;
 mod closing;
+mod discard;
 mod filing;
 mod frame;
 mod kept;
@@ -15,7 +16,6 @@ mod laws;
 mod pairs;
 mod parts;
 mod state;
-mod stop;
 mod word;
 mod words;
 
@@ -24,17 +24,18 @@ pub use build::{
     text_of, with_hole, with_item,
 };
 pub use closing::closed;
+pub use discard::Discard;
 pub use filing::file;
-pub use frame::{Assigned, Callee, Frame, Front, Header, close, open};
-pub use kept::{Kept, MOST_NESTING, deeper, empty, flat, put};
+pub use frame::{Assigned, Callee, Frame, Front, Header, close, empty_file, header_of, open};
+pub use kept::{Kept, MOST_NESTING, deeper, empty, flat};
 pub use laws::{what_is_read_is_spelled, what_is_spelled_is_read};
 pub use pairs::pair_of;
 pub use parts::{
     body_each, body_each_if, body_if, body_plain, braced, decorator_of, each_of, loop_of,
-    no_decorators, object_of, plain_of, property_of, statement_of, with_each, with_expression,
+    no_decorators, object_of, plain_of, property_of, statement_of, with_decorator, with_each,
+    with_expression, with_member, with_statement,
 };
-pub use state::{Next, State, refuse, run_out};
-pub use stop::Stop;
+pub use state::{Next, State, enter, refuse, run_out};
 pub use word::{Owner, Word};
 pub use words::{
     is_existing, is_for, is_if, is_in, is_resource, is_sys, level_of, namespace_of, type_of,

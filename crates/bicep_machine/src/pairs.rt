@@ -1,10 +1,10 @@
-// Two names between parentheses, which are read as the arguments of a call.
+// `for (x, i)`: two names between parentheses, which were read as the arguments of a call.
 
 ghost use Rattle.std.specs.Prelude.{◌≡◌, None, map, option_map};
 ghost use Rattle.bicep_tree.specs.Tree.{call, trees};
 ghost use Rattle.bicep_tree.specs.View.{tree_of};
 ghost use Rattle.bicep_machine.specs.Closing.{pair_of};
-ghost use Rattle.bicep_machine.specs.Folding.{name_within, behind_word, both_of, two_names};
+ghost use Rattle.bicep_machine.specs.Folding.{name_within, word_before, both_of, two_names};
 
 use crate::kept::nothing;
 use bicep_tree::{Expr, Function, Name};
@@ -44,8 +44,8 @@ fn both_of(first: Option<Name>, second: Option<Name>) -> Option<(Name, Name)>
 }
 
 // The word with the two names, where there are two.
-fn behind_word(word: Name, names: Option<(Name, Name)>) -> Option<(Name, Name, Name)>
-    ensures { result ≡ behind_word word names }
+fn word_before(word: Name, names: Option<(Name, Name)>) -> Option<(Name, Name, Name)>
+    ensures { result ≡ word_before word names }
 {
     match names {
         None => nothing(word),
@@ -53,18 +53,18 @@ fn behind_word(word: Name, names: Option<(Name, Name)>) -> Option<(Name, Name, N
     }
 }
 
-// The word of a call and the two names behind it.
+// The word of a call and the two names after it.
 #[tactic(auto, using(bicep_tree::proofs::ViewLemmas::enums, crate::proofs::PairLemmas::pairs))]
 fn pair_in(function: Function, arguments: Vec<Expr>) -> Option<(Name, Name, Name)>
     ensures { result ≡ pair_of (call function (trees (map tree_of arguments.items))) }
 {
     match function {
-        Function::Plain(word) => behind_word(word, two_names(arguments)),
+        Function::Plain(word) => word_before(word, two_names(arguments)),
         other => nothing((other, arguments)),
     }
 }
 
-/// The word and the two names behind it, where the expression is such a call.
+/// The word and the two names, where the expression is a call of a word with two names.
 #[tactic(auto, using(bicep_tree::proofs::ViewLemmas::enums, crate::proofs::PairLemmas::pairs))]
 pub fn pair_of(e: Expr) -> Option<(Name, Name, Name)>
     ensures { result ≡ pair_of (tree_of e) }

@@ -1,14 +1,18 @@
-// Objects, bodies and statements of what is kept.
+// Objects, bodies and statements of parts that were kept.
 #![tactic(auto, using(bicep_tree::proofs::ViewLemmas::enums, bicep_tree::proofs::ViewLemmas::structs, crate::proofs::StackLemmas::stacks), unfolding(crate::specs::Kept::made))]
 
 ghost use Rattle.std.specs.Prelude.{◌≡◌, max, map, IfOk, option_map};
 ghost use Rattle.bicep_tree.specs.View.{body_of, object_of};
-ghost use Rattle.bicep_machine.specs.Kept.{empty, object_gap, body_gap, of_members, of_object, of_plain, of_each, of_property, of_loop, of_decorator, of_body_plain, of_body_if, of_body_each, of_body_each_if};
+ghost use Rattle.bicep_machine.specs.Kept.{put, empty, object_gap, body_gap, of_members, of_object, of_plain, of_each};
+ghost use Rattle.bicep_machine.specs.Kept.{of_property, of_loop, of_decorator, of_body_plain, of_body_if};
+ghost use Rattle.bicep_machine.specs.Kept.{of_body_each, of_body_each_if};
 ghost use Rattle.bicep_machine.specs.Closing.{of_statement, with_expression, with_each};
-ghost use Rattle.bicep_machine.specs.Views.{kept, kept_items, kept_members, kept_object, kept_member, kept_value, kept_loop, kept_body, kept_decorators, kept_decorator, kept_declaration, kept_statement, assigned_of};
+ghost use Rattle.bicep_machine.specs.Views.{kept, kept_items, kept_members, kept_object, kept_member, kept_value};
+ghost use Rattle.bicep_machine.specs.Views.{kept_loop, kept_body, kept_decorators, kept_decorator, kept_declaration};
+ghost use Rattle.bicep_machine.specs.Views.{kept_statement, kept_statements, assigned_of};
 
 use crate::frame::Assigned;
-use crate::kept::{Kept, MOST_NESTING, deeper, empty, nothing};
+use crate::kept::{Kept, MOST_NESTING, deeper, empty, nothing, put};
 use arm_value::OutOfMemory;
 use bicep_tree::{
     Body, Declaration, Decorator, Expr, Function, Label, Literal, Loop, LoopNames, Member, Object,
@@ -16,7 +20,39 @@ use bicep_tree::{
 };
 use std::alloc::Global;
 
-/// The object whose `{` stands at that offset.
+/// The members of an object with one more.
+pub fn with_member(
+    members: Kept<Vec<Member>>,
+    member: Kept<Member>,
+) -> Result<Kept<Vec<Member>>, OutOfMemory>
+    ensures { IfOk result (λ k. kept_members k ≡ put (kept_members members) (kept_member member)) }
+{
+    put(members, member)
+}
+
+/// Decorators with one more.
+pub fn with_decorator(
+    decorators: Kept<Vec<Decorator>>,
+    decorator: Kept<Decorator>,
+) -> Result<Kept<Vec<Decorator>>, OutOfMemory>
+    ensures { IfOk result
+        (λ k. kept_decorators k ≡ put (kept_decorators decorators) (kept_decorator decorator)) }
+{
+    put(decorators, decorator)
+}
+
+/// The statements of a file with one more.
+pub fn with_statement(
+    statements: Kept<Vec<Statement>>,
+    statement: Kept<Statement>,
+) -> Result<Kept<Vec<Statement>>, OutOfMemory>
+    ensures { IfOk result
+        (λ k. kept_statements k ≡ put (kept_statements statements) (kept_statement statement)) }
+{
+    put(statements, statement)
+}
+
+/// The object whose `{` is at that offset.
 pub fn object_of(alloc: Global, at: usize, members: Kept<Vec<Member>>) -> Kept<Object>
     ensures { kept_object result ≡ of_members 64 at (kept_members members) }
 {
@@ -56,7 +92,7 @@ pub fn plain_of(e: Kept<Box<Expr>>) -> Kept<Value>
     }
 }
 
-/// A for-expression: what runs over what, and the value of each.
+/// A for-expression: the loop, and the value for each of its items.
 pub fn each_of(names: Kept<Box<Loop>>, e: Kept<Box<Expr>>) -> Kept<Value>
     ensures { kept_value result ≡ of_each 64 (kept_loop names) (kept e) }
 {
@@ -86,7 +122,7 @@ pub fn property_of(label: Label, value: Kept<Value>) -> Kept<Member>
     }
 }
 
-/// `for` with its names, and what they run over.
+/// `for` with its names, and the list that they go over.
 pub fn loop_of(
     alloc: Global,
     at: usize,
@@ -113,7 +149,7 @@ pub fn no_decorators(alloc: Global) -> Kept<Vec<Decorator>>
     empty(alloc)
 }
 
-/// The decorator whose `@` stands at that offset.
+/// The decorator whose `@` is at that offset.
 pub fn decorator_of(at: usize, function: Function, arguments: Kept<Vec<Expr>>) -> Kept<Decorator>
     ensures { kept_decorator result ≡ of_decorator at function (kept_items arguments) }
 {
@@ -137,7 +173,7 @@ pub fn body_plain(object: Kept<Object>) -> Kept<Body>
     }
 }
 
-/// A body behind a condition, whose `if` stands at that offset.
+/// A body after a condition, whose `if` is at that offset.
 pub fn body_if(at: usize, condition: Kept<Box<Expr>>, object: Kept<Object>) -> Kept<Body>
     ensures { kept_body result ≡ of_body_if at (kept condition) (kept_object object) }
 {
@@ -148,7 +184,7 @@ pub fn body_if(at: usize, condition: Kept<Box<Expr>>, object: Kept<Object>) -> K
     }
 }
 
-// What stands in the place of an object that nests too deep.
+// What replaces an object that nests too deep.
 fn object_gap(alloc: Global) -> Object
     ensures { object_of result ≡ object_gap }
 {
@@ -158,7 +194,7 @@ fn object_gap(alloc: Global) -> Object
     }
 }
 
-// What stands in the place of a body that nests too deep.
+// What replaces a body that nests too deep.
 fn body_gap(alloc: Global) -> Kept<Body>
     ensures body { body_of result.part ≡ body_gap }
     ensures depth { result.depth ≡ 65 }
@@ -169,7 +205,7 @@ fn body_gap(alloc: Global) -> Kept<Body>
     }
 }
 
-/// A body for each of what a loop runs over.
+/// A body for each item of a loop.
 pub fn body_each(alloc: Global, names: Kept<Box<Loop>>, object: Kept<Object>) -> Kept<Body>
     ensures { kept_body result ≡ of_body_each 64 (kept_loop names) (kept_object object) }
 {
@@ -185,7 +221,7 @@ pub fn body_each(alloc: Global, names: Kept<Box<Loop>>, object: Kept<Object>) ->
     }
 }
 
-/// A body behind a condition, for each of what a loop runs over.
+/// A body after a condition, for each item of a loop.
 pub fn body_each_if(
     alloc: Global,
     names: Kept<Box<Loop>>,
@@ -209,7 +245,7 @@ pub fn body_each_if(
     }
 }
 
-/// The declaration behind its decorators.
+/// The declaration after its decorators.
 pub fn statement_of(
     decorators: Kept<Vec<Decorator>>,
     declaration: Kept<Declaration>,
@@ -244,7 +280,7 @@ pub fn with_expression(assigned: Assigned, e: Kept<Box<Expr>>) -> Kept<Declarati
     Kept { part, depth }
 }
 
-/// The declaration with its for-expression, where it takes one.
+/// The declaration with its for-expression; `None` where it may have none.
 pub fn with_each(assigned: Assigned, value: Kept<Value>) -> Option<Kept<Declaration>>
     ensures { option_map kept_declaration result
         ≡ with_each (assigned_of assigned) (kept_value value) }

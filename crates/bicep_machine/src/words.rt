@@ -3,7 +3,8 @@
 ghost use Rattle.std.specs.Prelude.{◌≡◌};
 ghost use Rattle.bicep_tree.specs.Precedence.{level};
 ghost use Rattle.bicep_machine.specs.Closing.{is_for};
-ghost use Rattle.bicep_machine.specs.Machine.{is_in, is_if, is_sys, is_resource, is_existing, namespace_of, type_of, word_of};
+ghost use Rattle.bicep_machine.specs.Machine.{is_in, is_if, is_sys, is_resource, is_existing, namespace_of, type_of};
+ghost use Rattle.bicep_machine.specs.Machine.{word_of};
 
 use crate::word::Word;
 use arm_value::Text;
@@ -11,48 +12,48 @@ use bicep_tree::{Namespace, Operator, TypeName, is_word};
 
 /// Whether the word is `for`.
 #[tactic(auto, unfolding(crate::specs::Closing::is_for))]
-pub fn is_for(word: &Text) -> bool
-    ensures { result ≡ is_for word.now }
+pub fn is_for(word: Text) -> bool
+    ensures { result ≡ is_for word }
 {
     is_word(word.as_str(), "for")
 }
 
 /// Whether the word is `in`.
 #[tactic(auto, unfolding(crate::specs::Machine::is_in))]
-pub fn is_in(word: &Text) -> bool
-    ensures { result ≡ is_in word.now }
+pub fn is_in(word: Text) -> bool
+    ensures { result ≡ is_in word }
 {
     is_word(word.as_str(), "in")
 }
 
 /// Whether the word is `if`.
 #[tactic(auto, unfolding(crate::specs::Machine::is_if))]
-pub fn is_if(word: &Text) -> bool
-    ensures { result ≡ is_if word.now }
+pub fn is_if(word: Text) -> bool
+    ensures { result ≡ is_if word }
 {
     is_word(word.as_str(), "if")
 }
 
 /// Whether the word is `sys`.
 #[tactic(auto, unfolding(crate::specs::Machine::is_sys))]
-pub fn is_sys(word: &Text) -> bool
-    ensures { result ≡ is_sys word.now }
+pub fn is_sys(word: Text) -> bool
+    ensures { result ≡ is_sys word }
 {
     is_word(word.as_str(), "sys")
 }
 
 /// Whether the word is `resource`.
 #[tactic(auto, unfolding(crate::specs::Machine::is_resource))]
-pub fn is_resource(word: &Text) -> bool
-    ensures { result ≡ is_resource word.now }
+pub fn is_resource(word: Text) -> bool
+    ensures { result ≡ is_resource word }
 {
     is_word(word.as_str(), "resource")
 }
 
 /// Whether the word is `existing`.
 #[tactic(auto, unfolding(crate::specs::Machine::is_existing))]
-pub fn is_existing(word: &Text) -> bool
-    ensures { result ≡ is_existing word.now }
+pub fn is_existing(word: Text) -> bool
+    ensures { result ≡ is_existing word }
 {
     is_word(word.as_str(), "existing")
 }
@@ -73,8 +74,8 @@ pub fn namespace_of(word: &Text) -> Option<Namespace>
 
 /// The type that the word names.
 #[tactic(auto, unfolding(crate::specs::Machine::type_of))]
-pub fn type_of(word: &Text) -> Option<TypeName>
-    ensures { result ≡ type_of word.now }
+pub fn type_of(word: Text) -> Option<TypeName>
+    ensures { result ≡ type_of word }
 {
     if is_word(word.as_str(), "string") {
         Some(TypeName::String)
@@ -93,8 +94,8 @@ pub fn type_of(word: &Text) -> Option<TypeName>
 
 /// What the word begins in a file.
 #[tactic(auto, unfolding(crate::specs::Machine::word_of))]
-pub fn word_of(word: &Text) -> Option<Word>
-    ensures { result ≡ word_of word.now }
+pub fn word_of(word: Text) -> Option<Word>
+    ensures { result ≡ word_of word }
 {
     if is_word(word.as_str(), "metadata") {
         Some(Word::Metadata)

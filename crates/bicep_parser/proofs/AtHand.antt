@@ -1,4 +1,4 @@
--- What a file keeps is at hand, before or behind a token with which the next statement begins.
+-- What a file keeps is at hand, before or after a token with which the next statement begins.
 use Rattle.std.proofs.Common.{◌≡◌, ℕ, ◌≤◌, max, List, [], ◌∷◌, Bool, false, Option, Some, None, option_and_then}
 use Rattle.std.proofs.Common.{subst, arith}
 use Rattle.bicep_tree.specs.declared.leaf.Name.{Name}
@@ -11,14 +11,14 @@ use Rattle.bicep_machine.specs.declared.word.Word.TheVariants as w
 use Rattle.bicep_machine.specs.Kept.{Kept, flat, put, empty, of_access}
 use Rattle.bicep_machine.specs.Stack as s
 use Rattle.bicep_machine.specs.Stack.{Frame, opened, assigned, in_file, State, qualified, done, paused, typed}
-use Rattle.bicep_machine.specs.Stack.{between, behind, at_sign, declaring}
+use Rattle.bicep_machine.specs.Stack.{between, past_statement, at_sign, declaring}
 use Rattle.bicep_machine.specs.Closing.{Closed, of_statement, with_expression, pair_of, pair_on, item_on, closed}
 use Rattle.bicep_machine.specs.Closing.{newline_on}
-use Rattle.bicep_machine.specs.Machine.{is_in, word_of, word_on, gone_on, rejoined, moved, ended, ended_by}
+use Rattle.bicep_machine.specs.Machine.{is_in, word_of, word_on, gone_on, rejoined, transition, ended, ended_by}
 use Rattle.bicep_machine.specs.Machine.{ended_between, finished}
 use Rattle.bicep_parser.specs.Depth.{top_depth, at_hand}
 use Rattle.bicep_parser.specs.Refused.{BeginsAStatement}
-use Rattle.bicep_parser.proofs.Following.{choose}
+use Rattle.foundation.proofs.Choices.{if_else}
 
 -- what is kept of a file
 abbrev File : Type 0
@@ -41,7 +41,7 @@ between_low (in_file ss ∷ []) k e =
 between_low (in_file ss ∷ (F ∷ S)) k e = absurd cc
 between_low (F ∷ S) k e = absurd cc
 
--- behind a name that two names in parentheses may be, an array is open, in which no file ends
+-- after a name that two names in parentheses may be, an array is open, in which no file ends
 no_pair : (r : Option (Name × Name × Name)) (S : List Frame) (e : Kept Tree) (q : State × Bool × List Frame)
     (k : File) → pair_on r S ≡ Some q → ended_by 64 (closed 64 0 e S) ≡ Some k → ⊥
 no_pair None S e q k h g = absurd cc
@@ -51,10 +51,10 @@ no_pair (Some p) (F ∷ S) e q k h g = absurd cc
 
 no_name : (u : List ℕ) (e : Kept Tree) (i : Bool) (S : List Frame) (q : State × Bool × List Frame) (k : File)
     → gone_on 64 e i S (t.Name u) ≡ Some q → ended_by 64 (closed 64 0 e S) ≡ Some k → ⊥
-no_name u e i S q k = choose (λ n. n ≡ Some q → ended_by 64 (closed 64 0 e S) ≡ Some k → ⊥) (is_in u)
+no_name u e i S q k = if_else (λ n. n ≡ Some q → ended_by 64 (closed 64 0 e S) ≡ Some k → ⊥) (is_in u)
     (pair_on (pair_of e.0) S) None (λ y h g. no_pair (pair_of e.0) S e q k h g) (λ y h g. absurd cc)
 
--- likewise behind `for` and a name
+-- likewise after `for` and a name
 no_item : (n m : Name) (S : List Frame) (e : Kept Tree) (q : State × Bool × List Frame) (k : File)
     → item_on n m S ≡ Some q → ended_by 64 (closed 64 0 e S) ≡ Some k → ⊥
 no_item n m [] e q k h g = absurd cc
@@ -77,7 +77,7 @@ opens_low S at t.At q o e =
     subst (λ x. top_depth S ≤ at_hand x.0 x.2) same (omega arith)
 opens_low S at y q o e = absurd o
 
--- behind a newline that ended an expression
+-- after a newline that ended an expression
 line_low : (p : Closed) (at : ℕ) (y : Terminal) (q : State × Bool × List Frame) (k : File) → BeginsAStatement y
     → option_and_then (λ r. rejoined 64 r at y) (newline_on 64 p) ≡ Some q → ended_by 64 p ≡ Some k
     → k.1 ≤ at_hand q.0 q.2
@@ -92,7 +92,8 @@ line_low (e, assigned ds d ∷ (F ∷ S)) at y q k o h g = absurd cc
 line_low (e, F ∷ S) at y q k o h g = absurd cc
 
 paused_low : (e : Kept Tree) (i : Bool) (S : List Frame) (at : ℕ) (y : Terminal) (q : State × Bool × List Frame)
-    (k : File) → BeginsAStatement y → moved 64 (paused e) i S at y ≡ Some q → ended_by 64 (closed 64 0 e S) ≡ Some k
+    (k : File) → BeginsAStatement y → transition 64 (paused e) i S at y ≡ Some q
+    → ended_by 64 (closed 64 0 e S) ≡ Some k
     → k.1 ≤ at_hand q.0 q.2
 paused_low e i S at (t.Name u) q k o h g = line_low (closed 64 0 e S) at (t.Name u) q k o h g
 paused_low e i S at t.At q k o h g = line_low (closed 64 0 e S) at t.At q k o h g
@@ -105,7 +106,7 @@ no_more e i S t.At q k o h g = absurd cc
 no_more e i S y q k o h g = absurd o
 
 named_ends_not : (n : Name) (i : Bool) (S : List Frame) (at : ℕ) (y : Terminal) (q : State × Bool × List Frame)
-    (k : File) → BeginsAStatement y → moved 64 (s.named n) i S at y ≡ Some q
+    (k : File) → BeginsAStatement y → transition 64 (s.named n) i S at y ≡ Some q
     → ended_by 64 (closed 64 0 (flat (name n)) S) ≡ Some k → ⊥
 named_ends_not n i S at (t.Name u) q k o h g = no_item n _ S (flat (name n)) q k h g
 named_ends_not n i S at t.At q k o h g = absurd cc
@@ -119,10 +120,10 @@ typed_low ds from v n ty S k e = absurd cc
 
 -- what the file before keeps
 pub kept_low : (st : State) (i : Bool) (S : List Frame) (at : ℕ) (y : Terminal) (q : State × Bool × List Frame)
-    (k : File) → BeginsAStatement y → finished 64 st S ≡ Some k → moved 64 st i S at y ≡ Some q
+    (k : File) → BeginsAStatement y → finished 64 st S ≡ Some k → transition 64 st i S at y ≡ Some q
     → k.1 ≤ max (at_hand st S) (at_hand q.0 q.2)
 kept_low between i S at y q k o e m = let le = between_low S k e in omega arith
-kept_low (behind st) i S at y q k o e m = let le = ended_low st S k e in omega arith
+kept_low (past_statement st) i S at y q k o e m = let le = ended_low st S k e in omega arith
 kept_low (typed ds from v n ty) i S at y q k o e m = let le = typed_low ds from v n ty S k e in omega arith
 kept_low (s.named n) i S at y q k o e m = absurd (named_ends_not n i S at y q k o m e)
 kept_low (qualified x n p) i S at (t.Name u) q k o e m =

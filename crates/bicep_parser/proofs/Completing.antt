@@ -18,12 +18,13 @@ use Rattle.bicep_tree.specs.Terminals.{word_terminal, terminal_of, placed}
 use Rattle.bicep_tree.specs.Forms.{is_newline}
 use Rattle.bicep_machine.specs.Kept.{Kept, flat, of_access}
 use Rattle.bicep_machine.specs.Stack as s
-use Rattle.bicep_machine.specs.Stack.{Frame, State, wanted, qualified, done, past_member, behind, in_file, Next}
+use Rattle.bicep_machine.specs.Stack.{Frame, State, wanted, qualified, done, past_member, past_statement, in_file, Next}
 use Rattle.bicep_machine.specs.Closing.{Closed, closed, object_on, each_on, members_closed, member_closed, paren_on}
 use Rattle.bicep_machine.specs.Closing.{bracket_on, brace_on, colon_on, right_on}
-use Rattle.bicep_machine.specs.Machine.{moved, step, ended, ended_by, run}
+use Rattle.bicep_machine.specs.Machine.{transition, step, ended, ended_by, run}
 use Rattle.bicep_parser.proofs.Fitting.{inside, members, statements, looping, Fits, Value}
-use Rattle.bicep_parser.proofs.Following.{choose}
+use Rattle.foundation.proofs.Choices.{if_else}
+use Rattle.foundation.proofs.TruthValues.{both}
 
 -- ---- tokens
 
@@ -38,14 +39,10 @@ IsName u = terminal_of (word u) ≡ t.Name u
 below : (b : ℕ) → nat_lt b 128 ≡ true → b < 128
 below b e = grind (arith, nat_tests)
 
-each : (a b : Bool) → (a && b) ≡ true → (a ≡ true) × (b ≡ true)
-each true b e = (refl, e)
-each false b e = absurd (true≢false (sym e))
-
 ascii : (u : List ℕ) → list_all (λ b. nat_lt b 128) u ≡ true → IsAscii u
 ascii [] e i = omega arith
-ascii (b ∷ u) e zero = below b (each (nat_lt b 128) (list_all (λ b. nat_lt b 128) u) e).0
-ascii (b ∷ u) e (suc i) = ascii u (each (nat_lt b 128) (list_all (λ b. nat_lt b 128) u) e).1 i
+ascii (b ∷ u) e zero = below b (both (nat_lt b 128) (list_all (λ b. nat_lt b 128) u) e).0
+ascii (b ∷ u) e (suc i) = ascii u (both (nat_lt b 128) (list_all (λ b. nat_lt b 128) u) e).1 i
 
 plain : (u : List ℕ) → list_all (λ b. nat_lt b 128) u ≡ true → word_terminal u ≡ t.Name u → IsName u
 plain u e is = ap word_terminal (chars-IsAscii u (ascii u e)) ∙ is
@@ -99,7 +96,7 @@ closer_terminal bracket = t.CloseBracket
 closer_terminal brace = t.CloseBrace
 closer_terminal piece = t.RightPiece piece_text
 
--- what it does behind an expression whose operators are closed
+-- what it does after an expression whose operators are closed
 abbrev pub closing : Closer → Bool → Closed → Next
 closing colon i p = colon_on 64 i p
 closing paren i p = paren_on 64 p
@@ -140,7 +137,7 @@ no_line false b e h = true≢false (sym h)
 
 -- a token, and then tokens that end what is open
 pub by_token : (x : Standing) (y : Terminal) (st : State) (i : Bool) (S : List Frame) → terminal_of x ≡ y
-    → is_newline y ≡ false → Leads (moved 64 st i S x.1 y) → Completes st i S
+    → is_newline y ≡ false → Leads (transition 64 st i S x.1 y) → Completes st i S
 by_token x y st i S is stays l =
     record {
       more = x ∷ l.completes.more;
@@ -153,7 +150,7 @@ by_token x y st i S is stays l =
     }
   where
     stepped : step 64 st i S (x.1, y) ≡ Some l.next
-    stepped = choose (λ n. n ≡ Some l.next) (i && is_newline y) (Some (st, i, S)) (moved 64 st i S x.1 y)
+    stepped = if_else (λ n. n ≡ Some l.next) (i && is_newline y) (Some (st, i, S)) (transition 64 st i S x.1 y)
         (λ e. absurd (no_line i (is_newline y) stays e)) (λ e. l.is)
 
 -- a step that is known
@@ -161,12 +158,14 @@ pub to : (st : State) (i : Bool) (S : List Frame) → Completes st i S → Leads
 to st i S c = record { next = (st, i, S); is = refl; completes = c }
 
 -- a word that is read as a name
-pub by_word : (u : List ℕ) (st : State) (i : Bool) (S : List Frame) → IsName u → Leads (moved 64 st i S 0 (t.Name u))
+pub by_word : (u : List ℕ) (st : State) (i : Bool) (S : List Frame) → IsName u
+    → Leads (transition 64 st i S 0 (t.Name u))
     → Completes st i S
 by_word u st i S is l = by_token (word u) (t.Name u) st i S is refl l
 
 -- a mark that ends an expression
-pub by_closer : (c : Closer) (st : State) (i : Bool) (S : List Frame) → Leads (moved 64 st i S 0 (closer_terminal c))
+pub by_closer : (c : Closer) (st : State) (i : Bool) (S : List Frame)
+    → Leads (transition 64 st i S 0 (closer_terminal c))
     → Completes st i S
 by_closer colon st i S l = by_token (closer colon) t.Colon st i S refl refl l
 by_closer paren st i S l = by_token (closer paren) t.CloseParen st i S refl refl l
@@ -217,7 +216,7 @@ wanted_ends false i S h = by_word (codes "x") (wanted false) i S x_is (to (s.nam
 
 -- ---- statements and members
 
--- the file ends behind a statement
+-- the file ends after a statement
 pub file_ends : (S : List Frame) → Fits statements S → (st : Kept StatementTree) → (r : Kept (List StatementTree))
     × (ended 64 st S ≡ Some r)
 file_ends [] h st = absurd h
@@ -225,10 +224,11 @@ file_ends (in_file ss ∷ []) h st = (_, refl)
 file_ends (in_file ss ∷ (F ∷ S)) h st = absurd h
 file_ends (F ∷ S) h st = absurd h
 
-pub behind_ends : (st : Kept StatementTree) (i : Bool) (S : List Frame) → Fits statements S → Completes (behind st) i S
-behind_ends st i S h = let e = file_ends S h st in record { more = []; kept = e.0; reads = e.1 }
+pub past_statement_ends : (st : Kept StatementTree) (i : Bool) (S : List Frame) → Fits statements S
+    → Completes (past_statement st) i S
+past_statement_ends st i S h = let e = file_ends S h st in record { more = []; kept = e.0; reads = e.1 }
 
--- an object ends behind a member
+-- an object ends after a member
 pub past_member_ends : (m : Kept MemberTree) (i : Bool) (S : List Frame) → Leads (member_closed 64 m S)
     → Completes (past_member m) i S
 past_member_ends m i S l = by_closer brace (past_member m) i S l

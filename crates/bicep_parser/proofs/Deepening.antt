@@ -1,4 +1,4 @@
--- What nests too deep stays known behind each token: at the ends of expressions, members and bodies.
+-- What nests too deep stays known after each token: at the ends of expressions, members and bodies.
 use Rattle.std.proofs.Common.{◌≡◌, ℕ, ◌+◌, ◌<◌, max, nat_le, nat_lt, List, [], ◌∷◌, Bool, true, false, Option, Some}
 use Rattle.std.proofs.Common.{None, refl, arith}
 use Rattle.std.proofs.lemmas.Bool.Decides.{nat_tests}
@@ -26,14 +26,14 @@ use Rattle.bicep_machine.specs.Closing.{items_closed, called, call_closed, paren
 use Rattle.bicep_machine.specs.Closing.{colon_on, late_colon_on, middle_on, right_on, newline_on}
 use Rattle.bicep_machine.specs.Machine.{with_operator, with_question}
 use Rattle.bicep_parser.specs.Depth.{callee_depth, header_depth, front_depth, stack_depth, deepest}
-use Rattle.bicep_parser.proofs.Following.{choose}
+use Rattle.foundation.proofs.Choices.{if_else}
 
 -- an expression that nests too deep is kept as no call
 abbrev pub Marked : State → Type 0
 Marked (done e) = 64 < e.1 → pair_of e.0 ≡ None
 Marked st = Unit {0}
 
--- where something nested so deep, something is too deep behind a step
+-- where something nested so deep, something is too deep after a step
 abbrev pub Keeps : ℕ → Next → Type 0
 Keeps n None = Unit {0}
 Keeps n (Some q) = Marked q.0 × (64 < n → 64 < deepest q.0 q.2)
@@ -41,7 +41,7 @@ Keeps n (Some q) = Marked q.0 × (64 < n → 64 < deepest q.0 q.2)
 -- a composite is too deep where a part is
 pub up : {X : Type 0} (lost x : X) (n r : ℕ) → 64 < max n r → 64 < max (made 64 lost x n).1 r
 unfolding made
-up {X} lost x n r h = choose {A = Kept X} (λ k. 64 < max k.1 r) (nat_lt n 64) (x, n + 1) (lost, 65) (λ e. omega arith)
+up {X} lost x n r h = if_else {A = Kept X} (λ k. 64 < max k.1 r) (nat_lt n 64) (x, n + 1) (lost, 65) (λ e. omega arith)
     (λ e. omega arith)
 
 no_more : (n : ℕ) → nat_lt n 64 ≡ true → 64 < n + 1 → ⊥
@@ -51,7 +51,7 @@ no_more n e h =
 
 pub gap_marked : (x : Tree) (n : ℕ) → 64 < (made 64 gap x n).1 → pair_of (made 64 gap x n).0 ≡ None
 unfolding made
-gap_marked x n = choose {A = Kept Tree} (λ k. 64 < k.1 → pair_of k.0 ≡ None) (nat_lt n 64) (x, n + 1) (gap, 65)
+gap_marked x n = if_else {A = Kept Tree} (λ k. 64 < k.1 → pair_of k.0 ≡ None) (nat_lt n 64) (x, n + 1) (gap, 65)
     (λ e h. absurd (no_more n e h)) (λ e h. refl)
 
 -- of an expression, and of what is open around it
@@ -64,11 +64,11 @@ closed_keeps [] n e h = h
 closed_keeps (prefixing at p ∷ S) n e h =
     closed_keeps S n (of_prefix 64 at p e) (up gap (prefixed at p e.0) e.1 (stack_depth S) (omega arith))
 closed_keeps (left o a ∷ S) n e h =
-    choose (λ p. 64 < closed_depth p) (nat_le n (level o)) (closed 64 n (of_binary 64 o a e) S) (e, left o a ∷ S)
+    if_else (λ p. 64 < closed_depth p) (nat_le n (level o)) (closed 64 n (of_binary 64 o a e) S) (e, left o a ∷ S)
     (λ y. closed_keeps S n (of_binary 64 o a e)
     (up gap (binary o a.0 e.0) (max a.1 e.1) (stack_depth S) (omega arith))) (λ y. h)
 closed_keeps (chosen c a ∷ S) n e h =
-    choose (λ p. 64 < closed_depth p) (nat_le n 0) (closed 64 n (of_conditional 64 c a e) S) (e, chosen c a ∷ S)
+    if_else (λ p. 64 < closed_depth p) (nat_le n 0) (closed 64 n (of_conditional 64 c a e) S) (e, chosen c a ∷ S)
     (λ y. closed_keeps S n (of_conditional 64 c a e)
     (up gap (conditional c.0 a.0 e.0) (max c.1 (max a.1 e.1)) (stack_depth S) (omega arith))) (λ y. h)
 closed_keeps (F ∷ S) n e h = h
@@ -170,7 +170,7 @@ pub pair_keeps : (n k : ℕ) (r : Option (Name × Name × Name)) (S : List Frame
 pair_keeps n k None S m g = tt
 pair_keeps n k (Some p) [] m g = tt
 pair_keeps n k (Some p) (opened at was ∷ S) m g =
-    choose (Keeps n) (is_for p.0.text) (over_on at (ns.Both p.1 p.2) S) None
+    if_else (Keeps n) (is_for p.0.text) (over_on at (ns.Both p.1 p.2) S) None
     (λ y. over_keeps n at (ns.Both p.1 p.2) S (λ h. beside_pair k (stack_depth S) p m (let j = g h in omega arith)))
     (λ y. tt)
 pair_keeps n k (Some p) (F ∷ S) m g = tt
@@ -179,12 +179,12 @@ named_keeps : (n at : ℕ) (was : Bool) (m : Name) (S : List Frame) → (64 < n 
     → Keeps n (named_on at was m S)
 named_keeps n at was m [] g = tt
 named_keeps n at was m (F ∷ S) g =
-    choose (Keeps n) (holds_loops F) _ None (λ y. (tt, λ h. let k = g h in omega arith)) (λ y. tt)
+    if_else (Keeps n) (holds_loops F) _ None (λ y. (tt, λ h. let k = g h in omega arith)) (λ y. tt)
 
 pub item_name_keeps : (n : ℕ) (w m : Name) (S : List Frame) → (64 < n → 64 < stack_depth S) → Keeps n (item_on w m S)
 item_name_keeps n w m [] g = tt
 item_name_keeps n w m (opened at was ∷ S) g =
-    choose (Keeps n) (is_for w.text) (named_on at was m S) None
+    if_else (Keeps n) (is_for w.text) (named_on at was m S) None
     (λ y. named_keeps n at was m S (λ h. let k = g h in omega arith)) (λ y. tt)
 item_name_keeps n w m (F ∷ S) g = tt
 
@@ -215,7 +215,7 @@ items_keep n (in_array at was es ∷ S) g =
     (gap_marked _ es.1, λ h. up gap (array at (trees es.0)) es.1 (stack_depth S) (g h))
 items_keep n (F ∷ S) g = tt
 
--- ---- behind an expression whose operators are closed
+-- ---- after an expression whose operators are closed
 
 pub operator_keeps : (n : ℕ) (i : Bool) (o : Operator) (p : Closed) → (64 < n → 64 < closed_depth p)
     → Keeps n (with_operator 64 i o p)
@@ -301,7 +301,7 @@ right_keeps n i u (e, in_text at head hs ∷ S) g = (
 )
 right_keeps n i u (e, F ∷ S) g = tt
 
--- an expression behind `=` is as deep as it is, and so are the decorators before it
+-- an expression after `=` is as deep as it is, and so are the decorators before it
 pub assigned_deep : (ds : Decorators) (d : Assigned) (e : Kept Tree) (r : ℕ) → 64 < max e.1 (max ds.1 r)
     → 64 < max (of_statement ds (with_expression d e)).1 r
 assigned_deep ds (s.to_metadata at m) e r h = omega arith

@@ -1,4 +1,4 @@
--- What nests too deep stays known behind each token: the states of decorators, declarations and files.
+-- What nests too deep stays known after each token: the states of decorators, declarations and files.
 use Rattle.std.proofs.Common.{ℕ, ◌<◌, max, List, [], ◌∷◌, Bool, true, false, Option, Some, None, arith}
 use Rattle.bicep_tree.specs.declared.leaf.Name.{Name}
 use Rattle.bicep_tree.specs.declared.leaf.Literal.TheVariants as l
@@ -14,40 +14,40 @@ use Rattle.bicep_machine.specs.declared.word.Owner.TheVariants as owner
 use Rattle.bicep_machine.specs.Kept.{Kept, empty}
 use Rattle.bicep_machine.specs.Stack.{Decorators, Header, header, Frame, in_object, in_file, at_sign, decorator_named}
 use Rattle.bicep_machine.specs.Stack.{decorator_spaced, decorator_ready, decorated, past_decorators, declaring}
-use Rattle.bicep_machine.specs.Stack.{declared, typed, headed, existed, between, behind}
+use Rattle.bicep_machine.specs.Stack.{declared, typed, headed, existed, between, past_statement}
 use Rattle.bicep_machine.specs.Machine.{is_sys, is_resource, is_existing, type_of, word_of, word_on, child_on}
-use Rattle.bicep_machine.specs.Machine.{decorated_word, type_on, made_existing, existing_on, moved}
+use Rattle.bicep_machine.specs.Machine.{decorated_word, type_on, made_existing, existing_on, transition}
 use Rattle.bicep_parser.specs.Depth.{header_depth, stack_depth}
-use Rattle.bicep_parser.proofs.Following.{choose}
+use Rattle.foundation.proofs.Choices.{if_else}
 use Rattle.bicep_parser.proofs.Deepening.{Keeps, filed_keeps}
 
 -- ---- decorators
 
 pub at_sign_keeps : (ds : Decorators) (from : ℕ) (i : Bool) (S : List Frame) (at : ℕ) (y : Terminal)
-    → Keeps (max ds.1 (stack_depth S)) (moved 64 (at_sign ds from) i S at y)
+    → Keeps (max ds.1 (stack_depth S)) (transition 64 (at_sign ds from) i S at y)
 at_sign_keeps ds from i S at (t.Name u) = (tt, λ h. h)
 at_sign_keeps ds from i S at y = tt
 
 pub decorator_named_keeps : (ds : Decorators) (from : ℕ) (m : Name) (i : Bool) (S : List Frame) (at : ℕ)
-    (y : Terminal) → Keeps (max ds.1 (stack_depth S)) (moved 64 (decorator_named ds from m) i S at y)
+    (y : Terminal) → Keeps (max ds.1 (stack_depth S)) (transition 64 (decorator_named ds from m) i S at y)
 decorator_named_keeps ds from m i S at t.OpenParen = (tt, λ h. omega arith)
 decorator_named_keeps ds from m i S at (t.Access a.Member) =
-    choose (Keeps (max ds.1 (stack_depth S))) (is_sys m.text) (Some (decorator_spaced ds from m.at, false, S)) None
+    if_else (Keeps (max ds.1 (stack_depth S))) (is_sys m.text) (Some (decorator_spaced ds from m.at, false, S)) None
     (λ y. (tt, λ h. h)) (λ y. tt)
 decorator_named_keeps ds from m i S at y = tt
 
 pub decorator_spaced_keeps : (ds : Decorators) (sign from : ℕ) (i : Bool) (S : List Frame) (at : ℕ) (y : Terminal)
-    → Keeps (max ds.1 (stack_depth S)) (moved 64 (decorator_spaced ds sign from) i S at y)
+    → Keeps (max ds.1 (stack_depth S)) (transition 64 (decorator_spaced ds sign from) i S at y)
 decorator_spaced_keeps ds sign from i S at (t.Name u) = (tt, λ h. h)
 decorator_spaced_keeps ds sign from i S at y = tt
 
 pub decorator_ready_keeps : (ds : Decorators) (from : ℕ) (f : Function) (i : Bool) (S : List Frame) (at : ℕ)
-    (y : Terminal) → Keeps (max ds.1 (stack_depth S)) (moved 64 (decorator_ready ds from f) i S at y)
+    (y : Terminal) → Keeps (max ds.1 (stack_depth S)) (transition 64 (decorator_ready ds from f) i S at y)
 decorator_ready_keeps ds from f i S at t.OpenParen = (tt, λ h. omega arith)
 decorator_ready_keeps ds from f i S at y = tt
 
 pub decorated_keeps : (ds : Decorators) (i : Bool) (S : List Frame) (at : ℕ) (y : Terminal)
-    → Keeps (max ds.1 (stack_depth S)) (moved 64 (decorated ds) i S at y)
+    → Keeps (max ds.1 (stack_depth S)) (transition 64 (decorated ds) i S at y)
 decorated_keeps ds i S at t.Newline = (tt, λ h. h)
 decorated_keeps ds i S at y = tt
 
@@ -72,13 +72,13 @@ decorated_word_keeps ds at u (in_file ss ∷ S) = word_keeps _ ds at (word_of u)
 decorated_word_keeps ds at u (F ∷ S) = tt
 
 pub past_decorators_keeps : (ds : Decorators) (i : Bool) (S : List Frame) (at : ℕ) (y : Terminal)
-    → Keeps (max ds.1 (stack_depth S)) (moved 64 (past_decorators ds) i S at y)
+    → Keeps (max ds.1 (stack_depth S)) (transition 64 (past_decorators ds) i S at y)
 past_decorators_keeps ds i S at t.At = (tt, λ h. h)
 past_decorators_keeps ds i S at (t.Name u) = decorated_word_keeps ds at u S
 past_decorators_keeps ds i S at y = tt
 
 pub declaring_keeps : (ds : Decorators) (from : ℕ) (v : Word) (i : Bool) (S : List Frame) (at : ℕ) (y : Terminal)
-    → Keeps (max ds.1 (stack_depth S)) (moved 64 (declaring ds from v) i S at y)
+    → Keeps (max ds.1 (stack_depth S)) (transition 64 (declaring ds from v) i S at y)
 declaring_keeps ds from w.TargetScope i S at t.Assign = (tt, λ h. omega arith)
 declaring_keeps ds from w.TargetScope i S at y = tt
 declaring_keeps ds from w.Metadata i S at (t.Name u) = (tt, λ h. h)
@@ -96,7 +96,7 @@ type_keeps ds from v m None S = tt
 type_keeps ds from v m (Some ty) S = (tt, λ h. h)
 
 pub declared_keeps : (ds : Decorators) (from : ℕ) (v : Word) (m : Name) (i : Bool) (S : List Frame) (at : ℕ)
-    (y : Terminal) → Keeps (max ds.1 (stack_depth S)) (moved 64 (declared ds from v m) i S at y)
+    (y : Terminal) → Keeps (max ds.1 (stack_depth S)) (transition 64 (declared ds from v m) i S at y)
 declared_keeps ds from w.Metadata m i S at t.Assign = (tt, λ h. omega arith)
 declared_keeps ds from w.Var m i S at t.Assign = (tt, λ h. omega arith)
 declared_keeps ds from w.Param m i S at (t.Name u) = type_keeps ds from w.Param m (type_of u) S
@@ -107,7 +107,7 @@ declared_keeps ds from w.Module m i S at (t.Literal (l.Text u)) = (tt, λ h. h)
 declared_keeps ds from v m i S at y = tt
 
 pub typed_keeps : (ds : Decorators) (from : ℕ) (v : Word) (m : Name) (ty : TypeName) (i : Bool) (S : List Frame)
-    (at : ℕ) (y : Terminal) → Keeps (max ds.1 (stack_depth S)) (moved 64 (typed ds from v m ty) i S at y)
+    (at : ℕ) (y : Terminal) → Keeps (max ds.1 (stack_depth S)) (transition 64 (typed ds from v m ty) i S at y)
 typed_keeps ds from w.Param m ty i S at t.Assign = (tt, λ h. omega arith)
 typed_keeps ds from w.Param m ty i S at t.Newline = filed_keeps _ _ S (λ h. omega arith)
 typed_keeps ds from w.Output m ty i S at t.Assign = (tt, λ h. omega arith)
@@ -120,27 +120,27 @@ existing_keeps (header ds at (owner.Child x) m q) S = (tt, λ h. h)
 existing_keeps (header ds at owner.Module m q) S = tt
 
 pub headed_keeps : (hd : Header) (i : Bool) (S : List Frame) (at : ℕ) (y : Terminal)
-    → Keeps (max (header_depth hd) (stack_depth S)) (moved 64 (headed hd) i S at y)
+    → Keeps (max (header_depth hd) (stack_depth S)) (transition 64 (headed hd) i S at y)
 headed_keeps hd i S at t.Assign = (tt, λ h. omega arith)
-headed_keeps hd i S at (t.Name u) = choose (Keeps (max (header_depth hd) (stack_depth S))) (is_existing u)
+headed_keeps hd i S at (t.Name u) = if_else (Keeps (max (header_depth hd) (stack_depth S))) (is_existing u)
     (existing_on (made_existing hd) S) None (λ y. existing_keeps hd S) (λ y. tt)
 headed_keeps hd i S at y = tt
 
 pub existed_keeps : (hd : Header) (i : Bool) (S : List Frame) (at : ℕ) (y : Terminal)
-    → Keeps (max (header_depth hd) (stack_depth S)) (moved 64 (existed hd) i S at y)
+    → Keeps (max (header_depth hd) (stack_depth S)) (transition 64 (existed hd) i S at y)
 existed_keeps hd i S at t.Assign = (tt, λ h. omega arith)
 existed_keeps hd i S at y = tt
 
 -- ---- files
 
 pub between_keeps : (n : ℕ) (i : Bool) (S : List Frame) (at : ℕ) (y : Terminal) → (64 < n → 64 < stack_depth S)
-    → Keeps n (moved 64 between i S at y)
+    → Keeps n (transition 64 between i S at y)
 between_keeps n i S at t.Newline g = (tt, λ h. let k = g h in omega arith)
 between_keeps n i S at t.At g = (tt, λ h. let k = g h in omega arith)
 between_keeps n i S at (t.Name u) g = word_keeps n empty at (word_of u) S (λ h. let k = g h in omega arith)
 between_keeps n i S at y g = tt
 
-pub behind_keeps : (st : Kept StatementTree) (i : Bool) (S : List Frame) (at : ℕ) (y : Terminal)
-    → Keeps (max st.1 (stack_depth S)) (moved 64 (behind st) i S at y)
-behind_keeps st i S at t.Newline = filed_keeps _ st S (λ h. h)
-behind_keeps st i S at y = tt
+pub past_statement_keeps : (st : Kept StatementTree) (i : Bool) (S : List Frame) (at : ℕ) (y : Terminal)
+    → Keeps (max st.1 (stack_depth S)) (transition 64 (past_statement st) i S at y)
+past_statement_keeps st i S at t.Newline = filed_keeps _ st S (λ h. h)
+past_statement_keeps st i S at y = tt

@@ -1,4 +1,4 @@
--- No file within the limit begins with tokens behind which something nests too deep.
+-- No file within the limit begins with tokens after which something nests too deep.
 use Rattle.std.proofs.Common.{◌≡◌, ℕ, ◌<◌, ◌≤◌, max, nat_lt, List, [], ◌∷◌, map, Bool, true, false, Option, Some}
 use Rattle.std.proofs.Common.{None, option_and_then, refl, ap, ◌∙◌, subst, arith}
 use Rattle.std.proofs.lemmas.Bool.Decides.{nat_tests}
@@ -12,7 +12,7 @@ use Rattle.bicep_machine.specs.declared.word.Word.TheVariants as w
 use Rattle.bicep_machine.specs.Kept.{Kept, flat, gap, of_access}
 use Rattle.bicep_machine.specs.Stack as s
 use Rattle.bicep_machine.specs.Stack.{Frame, assigned, in_file, State, qualified, done, paused, typed, between}
-use Rattle.bicep_machine.specs.Stack.{behind, Next}
+use Rattle.bicep_machine.specs.Stack.{past_statement, Next}
 use Rattle.bicep_machine.specs.Closing.{Closed, of_statement, with_expression, closed}
 use Rattle.bicep_machine.specs.Machine.{step, ended, ended_by, ended_between, finished, run, parsed}
 use Rattle.bicep_machine.specs.Spelled.{IsKept}
@@ -46,7 +46,7 @@ between_deep (F ∷ S) h = tt
 
 finished_deep : (st : State) (S : List Frame) → 64 < deepest st S → IsDeep (finished 64 st S)
 finished_deep between S h = between_deep S (omega arith)
-finished_deep (behind st) S h = ended_deep st S h
+finished_deep (past_statement st) S h = ended_deep st S h
 finished_deep (typed ds from w.Param n ty) S h = ended_deep _ S (omega arith)
 finished_deep (s.named n) S h =
     ended_by_deep (closed 64 0 (flat (name n)) S) (closed_keeps S 0 (flat (name n)) (omega arith))
@@ -63,7 +63,7 @@ next_deep : (n : ℕ) (ts : List Placed) (r : Next)
 next_deep n ts None go k h = tt
 next_deep n ts (Some q) go k h = go q.0 q.1 q.2 k.0 (k.1 h)
 
--- what is read behind something too deep is too deep
+-- what is read after something too deep is too deep
 pub run_deep : (ts : List Placed) (st : State) (i : Bool) (S : List Frame) → Marked st → 64 < deepest st S
     → IsDeep (run 64 st i S ts)
 run_deep [] st i S m h = finished_deep st S h

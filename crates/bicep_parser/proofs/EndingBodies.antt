@@ -13,21 +13,21 @@ use Rattle.bicep_machine.specs.Stack.{existed}
 use Rattle.bicep_machine.specs.Closing.{body_on, fronted, colon_on}
 use Rattle.bicep_parser.proofs.Fitting.{place_of, Fits}
 use Rattle.bicep_parser.proofs.Completing.{bracket, brace, Completes, Leads, Ends, by_token, to, by_closer}
-use Rattle.bicep_parser.proofs.Completing.{behind_ends, past_member_ends}
+use Rattle.bicep_parser.proofs.Completing.{past_statement_ends, past_member_ends}
 
--- behind a body
+-- after a body
 pub body_leads : (hd : Header) (b : Kept BodyTree) (S : List Frame) → Ends S → Fits (place_of hd) S
     → Leads (body_on hd b S)
-body_leads (header ds at (owner.Resource e) n q) b S c h = to _ false S (behind_ends _ false S h)
+body_leads (header ds at (owner.Resource e) n q) b S c h = to _ false S (past_statement_ends _ false S h)
 body_leads (header ds at (owner.Child e) n q) b S c h = to _ false S (past_member_ends _ false S (c.member_ends h _))
-body_leads (header ds at owner.Module n q) b S c h = to _ false S (behind_ends _ false S h)
+body_leads (header ds at owner.Module n q) b S c h = to _ false S (past_statement_ends _ false S h)
 
--- behind the object of a loop's body
+-- after the object of a loop's body
 pub body_end_ends : (hd : Header) (b : Kept BodyTree) (i : Bool) (S : List Frame) → Ends S → Fits (place_of hd) S
     → Completes (body_end hd b) i S
 body_end_ends hd b i S c h = by_closer bracket (body_end hd b) i S (body_leads hd b S c h)
 
--- behind the object of a body
+-- after the object of a body
 pub fronted_leads : (hd : Header) (f : Front) (o : Kept ObjectTree) (S : List Frame) → Ends S → Fits (place_of hd) S
     → Leads (fronted 64 hd f o S)
 fronted_leads hd nothing_before o S c h = body_leads hd _ S c h
@@ -68,7 +68,7 @@ existed_ends hd i S c h =
     by_token (k.Assign, 0, codes "=") t.Assign (existed hd) i S refl refl
     (to s.body false (bodied hd nothing_before ∷ S) (body_ends hd nothing_before false S c h))
 
--- behind the values of a body's loop
+-- after the values of a body's loop
 pub looped_leads : (i : Bool) (e : Kept Tree) (at : ℕ) (ns : LoopNames) (hd : Header) (S : List Frame) → Ends S
     → Fits (place_of hd) S → Leads (colon_on 64 i (e, body_over at ns hd ∷ S))
 looped_leads i e at ns hd S c h = to looped_body false _ (looped_body_ends hd (s.a_loop (of_loop at ns e)) false S c h)

@@ -128,7 +128,7 @@ past_decorators_ends ds i (in_file ss ∷ []) c h =
 past_decorators_ends ds i (in_file ss ∷ (F ∷ S)) c h = absurd h
 past_decorators_ends ds i (F ∷ S) c h = absurd h
 
--- a newline behind decorators
+-- a newline after decorators
 pub decorated_ends : (ds : Decorators) (S : List Frame) → Ends S → Fits decorating S → Completes (decorated ds) false S
 decorated_ends ds S c h =
     let p = past_decorators_ends ds false S c h in

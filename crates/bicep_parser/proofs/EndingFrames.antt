@@ -17,7 +17,8 @@ use Rattle.bicep_machine.specs.Closing.{of_statement, with_expression, closed, o
 use Rattle.bicep_machine.specs.Closing.{member_closed}
 use Rattle.bicep_parser.proofs.Fitting.{inside, members, statements, looping, Fits, Value}
 use Rattle.bicep_parser.proofs.Completing.{colon, paren, bracket, brace, piece, Leads, Ending, at_end, by, Ends, to}
-use Rattle.bicep_parser.proofs.Completing.{done_ends, x_tree, wanted_ends, file_ends, behind_ends, past_member_ends}
+use Rattle.bicep_parser.proofs.Completing.{done_ends, x_tree, wanted_ends, file_ends, past_statement_ends}
+use Rattle.bicep_parser.proofs.Completing.{past_member_ends}
 use Rattle.bicep_parser.proofs.EndingBodies.{fronted_leads, guarded_ends, looped_leads}
 use Rattle.bicep_parser.proofs.EndingDeclarations.{decorated_ends}
 
@@ -123,8 +124,8 @@ member_closes F S c h m = absurd h
 loops_end : (F : Frame) (S : List Frame) → Ends S → Fits looping (F ∷ S) → (v : Kept ValueTree)
     → Leads (each_on v (F ∷ S))
 loops_end (valued l) S c h v = to _ false S (past_member_ends _ false S (c.member_ends h _))
-loops_end (assigned ds (to_var at n)) S c h v = to _ false S (behind_ends _ false S h.1)
-loops_end (assigned ds (to_output at n ty)) S c h v = to _ false S (behind_ends _ false S h.1)
+loops_end (assigned ds (to_var at n)) S c h v = to _ false S (past_statement_ends _ false S h.1)
+loops_end (assigned ds (to_output at n ty)) S c h v = to _ false S (past_statement_ends _ false S h.1)
 loops_end (assigned ds d) S c h v = absurd (true≢false (sym h.0))
 loops_end F S c h v = absurd h
 

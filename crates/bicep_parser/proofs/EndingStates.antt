@@ -18,14 +18,14 @@ use Rattle.bicep_machine.specs.Stack.{qualified, dotted, done, paused, item, for
 use Rattle.bicep_machine.specs.Stack.{one_named, other_wanted, both_named, member, labelled, past_member, among}
 use Rattle.bicep_machine.specs.Stack.{looped_body, condition, guarded, body_end, at_sign, decorator_named}
 use Rattle.bicep_machine.specs.Stack.{decorator_spaced, decorator_ready, decorated, past_decorators, declaring}
-use Rattle.bicep_machine.specs.Stack.{declared, typed, headed, existed, between, behind, Next}
+use Rattle.bicep_machine.specs.Stack.{declared, typed, headed, existed, between, past_statement, Next}
 use Rattle.bicep_machine.specs.Closing.{Closed, is_for, over_on, closed}
 use Rattle.bicep_machine.specs.Machine.{is_in, with_question}
 use Rattle.bicep_parser.proofs.Fitting.{statements, members, Fits, Value, Bare, Free, Body, Names, Loop, Stands}
 use Rattle.bicep_parser.proofs.Following.{below}
 use Rattle.bicep_parser.proofs.Completing.{x_is, for_is, in_is, colon, paren, brace, Completes, Leads, by_token, to}
 use Rattle.bicep_parser.proofs.Completing.{by_word, by_closer, done_ends, named_ends, qualified_ends, x, x_tree}
-use Rattle.bicep_parser.proofs.Completing.{wanted_ends, behind_ends, past_member_ends}
+use Rattle.bicep_parser.proofs.Completing.{wanted_ends, past_statement_ends, past_member_ends}
 use Rattle.bicep_parser.proofs.EndingBodies.{body_ends, looped_body_ends, guarded_ends, body_end_ends, headed_ends}
 use Rattle.bicep_parser.proofs.EndingBodies.{existed_ends}
 use Rattle.bicep_parser.proofs.EndingDeclarations.{typed_ends, declared_ends, declaring_ends, past_decorators_ends}
@@ -54,7 +54,7 @@ name_ends n i S h = named_ends n i S ((all_ends S).values h (flat (name n)) i)
 tree_ends : (e : Kept Tree) (i : Bool) (S : List Frame) → Value S → Completes (done e) i S
 tree_ends e i S h = done_ends e i S ((all_ends S).values h e i)
 
--- behind a newline, an expression is the condition of a conditional
+-- after a newline, an expression is the condition of a conditional
 question_leads : (p : Closed) → Value p.1 → Leads (with_question 64 false p)
 question_leads (e, S) h = to (wanted true) false (asked e ∷ S) (value_ends true false (asked e ∷ S) (tt, h))
 
@@ -210,4 +210,4 @@ state_ends (typed ds at v n ty) i S h = typed_ends ds at v n ty i S h.0 h.1
 state_ends (headed hd) i S h = headed_ends hd i S (all_ends S) h
 state_ends (existed hd) i S h = existed_ends hd i S (all_ends S) h
 state_ends between i S h = between_ends i S h
-state_ends (behind st) i S h = behind_ends st i S h
+state_ends (past_statement st) i S h = past_statement_ends st i S h

@@ -11,7 +11,7 @@ use Rattle.bicep_machine.specs.Stack.{State, wanted, qualifying, qualified, dott
 use Rattle.bicep_machine.specs.Stack.{names_wanted, one_wanted, one_named, other_wanted, both_named, member, labelled}
 use Rattle.bicep_machine.specs.Stack.{past_member, among, looped_body, condition, guarded, body_end, at_sign}
 use Rattle.bicep_machine.specs.Stack.{decorator_named, decorator_spaced, decorator_ready, decorated, past_decorators}
-use Rattle.bicep_machine.specs.Stack.{declaring, declared, typed, headed, existed, between, behind, Next}
+use Rattle.bicep_machine.specs.Stack.{declaring, declared, typed, headed, existed, between, past_statement, Next}
 use Rattle.bicep_machine.specs.Closing.{takes_loops}
 
 -- what comes next in what is open
@@ -27,7 +27,7 @@ pub data Place : Type 0 where
   -- a for-expression
   looping : Place
 
--- where a resource or a module stands
+-- where a resource or a module is
 abbrev pub place_of : Header → Place
 place_of (header ds at (owner.Child x) n q) = members
 place_of (header ds at p n q) = statements
@@ -109,12 +109,12 @@ Loop (assigned ds d ∷ S) = (takes_loops d ≡ true) × Fits statements S
 Loop (bodied h nothing_before ∷ S) = Fits (place_of h) S
 Loop S = ⊥
 
--- where a declaration of that word stands
+-- where a declaration of that word is
 abbrev pub place_at : Word → Place
 place_at w.Child = members
 place_at v = statements
 
--- the words behind which a name comes, and a type
+-- the words after which a name comes, and a type
 abbrev pub IsNamed : Word → Type 0
 IsNamed w.TargetScope = ⊥
 IsNamed v = Unit {0}
@@ -162,9 +162,9 @@ Stands (typed ds at v n ty) i S = IsTyped v × Fits (place_at v) S
 Stands (headed h) i S = Fits (place_of h) S
 Stands (existed h) i S = Fits (place_of h) S
 Stands between i S = Fits statements S
-Stands (behind st) i S = Fits statements S
+Stands (past_statement st) i S = Fits statements S
 
--- behind a step
+-- after a step
 abbrev pub Follows : Next → Type 0
 Follows None = Unit {0}
 Follows (Some q) = Stands q.0 q.1 q.2

@@ -1,4 +1,4 @@
--- What is read last fits what is open, behind each token: at the ends of expressions, members and bodies.
+-- What is read last fits what is open, after each token: at the ends of expressions, members and bodies.
 use Rattle.std.proofs.Common.{◌≡◌, ℕ, nat_le, List, [], ◌∷◌, Bool, true, false, Option, Some, None, cond, refl}
 use Rattle.bicep_tree.specs.declared.leaf.Name.{Name}
 use Rattle.bicep_tree.specs.declared.leaf.LoopNames.{LoopNames}
@@ -20,21 +20,17 @@ use Rattle.bicep_machine.specs.Closing.{bracket_on, comma_on, brace_on, colon_on
 use Rattle.bicep_machine.specs.Closing.{newline_on}
 use Rattle.bicep_machine.specs.Machine.{with_operator, with_question}
 use Rattle.bicep_parser.proofs.Fitting.{inside, members, statements, looping, place_of, Fits, Value, Follows}
-
--- one of two
-pub choose : {A : Type 0} (P : A → Type 0) (b : Bool) (x y : A) → (b ≡ true → P x) → (b ≡ false → P y) → P (cond b x y)
-choose P true x y g h = g refl
-choose P false x y g h = h refl
+use Rattle.foundation.proofs.Choices.{if_else}
 
 -- what is open below the operators that are closed
 pub below : (S : List Frame) (n : ℕ) (e : Kept Tree) → Value S → Value (closed 64 n e S).1
 below [] n e h = absurd h.1
 below (prefixing at p ∷ S) n e h = below S n (of_prefix 64 at p e) h.1
 below (left o a ∷ S) n e h =
-    choose (λ p. Value p.1) (nat_le n (level o)) (closed 64 n (of_binary 64 o a e) S) (e, left o a ∷ S)
+    if_else (λ p. Value p.1) (nat_le n (level o)) (closed 64 n (of_binary 64 o a e) S) (e, left o a ∷ S)
     (λ y. below S n (of_binary 64 o a e) h.1) (λ y. h)
 below (chosen c a ∷ S) n e h =
-    choose (λ p. Value p.1) (nat_le n 0) (closed 64 n (of_conditional 64 c a e) S) (e, chosen c a ∷ S)
+    if_else (λ p. Value p.1) (nat_le n 0) (closed 64 n (of_conditional 64 c a e) S) (e, chosen c a ∷ S)
     (λ y. below S n (of_conditional 64 c a e) h.1) (λ y. h)
 below (F ∷ S) n e h = h
 
@@ -101,20 +97,20 @@ over_follows at ns (F ∷ S) h = tt
 pub pair_follows : (r : Option (Name × Name × Name)) (S : List Frame) → Value S → Follows (pair_on r S)
 pair_follows None S h = tt
 pair_follows (Some p) [] h = tt
-pair_follows (Some p) (opened at was ∷ S) h = choose Follows (is_for p.0.text) (over_on at (ns.Both p.1 p.2) S) None
+pair_follows (Some p) (opened at was ∷ S) h = if_else Follows (is_for p.0.text) (over_on at (ns.Both p.1 p.2) S) None
     (λ y. over_follows at (ns.Both p.1 p.2) S h.1.1) (λ y. tt)
 pair_follows (Some p) (F ∷ S) h = tt
 
 named_follows : (at : ℕ) (was : Bool) (n : Name) (S : List Frame) → Value S → Follows (named_on at was n S)
 named_follows at was n [] h = tt
 named_follows at was n (valued l ∷ S) h = h.1
-named_follows at was n (assigned ds d ∷ S) h = choose Follows (takes_loops d) _ None (λ y. (y, h.1)) (λ y. tt)
+named_follows at was n (assigned ds d ∷ S) h = if_else Follows (takes_loops d) _ None (λ y. (y, h.1)) (λ y. tt)
 named_follows at was n (F ∷ S) h = tt
 
 pub item_name_follows : (w n : Name) (S : List Frame) → Value S → Follows (item_on w n S)
 item_name_follows w n [] h = tt
 item_name_follows w n (opened at was ∷ S) h =
-    choose Follows (is_for w.text) (named_on at was n S) None (λ y. named_follows at was n S h.1) (λ y. tt)
+    if_else Follows (is_for w.text) (named_on at was n S) None (λ y. named_follows at was n S h.1) (λ y. tt)
 item_name_follows w n (F ∷ S) h = tt
 
 -- ---- calls and arrays
@@ -137,7 +133,7 @@ items_follow (opened at was ∷ S) h = h.1
 items_follow (in_array at was es ∷ S) h = h.1
 items_follow (F ∷ S) h = tt
 
--- ---- behind an expression whose operators are closed
+-- ---- after an expression whose operators are closed
 
 pub operator_follows : (i : Bool) (o : Operator) (p : Closed) → Value p.1 → Follows (with_operator 64 i o p)
 operator_follows i o (e, S) h = (tt, h)

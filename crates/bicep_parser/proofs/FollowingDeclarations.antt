@@ -1,4 +1,4 @@
--- What is read last fits what is open, behind each token: the states of decorators, declarations and files.
+-- What is read last fits what is open, after each token: the states of decorators, declarations and files.
 use Rattle.std.proofs.Common.{◌≡◌, ℕ, List, [], ◌∷◌, Bool, true, false, Option, Some, None, bytes_eq, codes, refl}
 use Rattle.std.proofs.Common.{sym, subst}
 use Rattle.bicep_tree.specs.declared.leaf.Name.{Name}
@@ -15,44 +15,45 @@ use Rattle.bicep_machine.specs.declared.word.Owner.TheVariants as owner
 use Rattle.bicep_machine.specs.Kept.{Kept, empty}
 use Rattle.bicep_machine.specs.Stack.{Decorators, Header, header, Frame, in_object, in_file, at_sign, decorator_named}
 use Rattle.bicep_machine.specs.Stack.{decorator_spaced, decorator_ready, decorated, past_decorators, declaring}
-use Rattle.bicep_machine.specs.Stack.{declared, typed, headed, existed, between, behind}
+use Rattle.bicep_machine.specs.Stack.{declared, typed, headed, existed, between, past_statement}
 use Rattle.bicep_machine.specs.Machine.{is_sys, is_resource, is_existing, type_of, word_of, word_on, child_on}
-use Rattle.bicep_machine.specs.Machine.{decorated_word, type_on, made_existing, existing_on, moved}
+use Rattle.bicep_machine.specs.Machine.{decorated_word, type_on, made_existing, existing_on, transition}
 use Rattle.bicep_parser.proofs.Fitting.{members, statements, decorating, place_of, place_at, IsTyped, Fits, Follows}
-use Rattle.bicep_parser.proofs.Following.{choose, filed_follows}
+use Rattle.bicep_parser.proofs.Following.{filed_follows}
+use Rattle.foundation.proofs.Choices.{if_else}
 
 -- ---- decorators
 
 pub at_sign_follows : (ds : Decorators) (from : ℕ) (i : Bool) (S : List Frame) (at : ℕ) (y : Terminal)
-    → Fits decorating S → Follows (moved 64 (at_sign ds from) i S at y)
+    → Fits decorating S → Follows (transition 64 (at_sign ds from) i S at y)
 at_sign_follows ds from i S at (t.Name u) h = h
 at_sign_follows ds from i S at y h = tt
 
 pub decorator_named_follows : (ds : Decorators) (from : ℕ) (n : Name) (i : Bool) (S : List Frame) (at : ℕ)
-    (y : Terminal) → Fits decorating S → Follows (moved 64 (decorator_named ds from n) i S at y)
+    (y : Terminal) → Fits decorating S → Follows (transition 64 (decorator_named ds from n) i S at y)
 decorator_named_follows ds from n i S at t.OpenParen h = (tt, (refl, h))
 decorator_named_follows ds from n i S at (t.Access a.Member) h =
-    choose Follows (is_sys n.text) _ None (λ y. h) (λ y. tt)
+    if_else Follows (is_sys n.text) _ None (λ y. h) (λ y. tt)
 decorator_named_follows ds from n i S at y h = tt
 
 pub decorator_spaced_follows : (ds : Decorators) (sign from : ℕ) (i : Bool) (S : List Frame) (at : ℕ) (y : Terminal)
-    → Fits decorating S → Follows (moved 64 (decorator_spaced ds sign from) i S at y)
+    → Fits decorating S → Follows (transition 64 (decorator_spaced ds sign from) i S at y)
 decorator_spaced_follows ds sign from i S at (t.Name u) h = h
 decorator_spaced_follows ds sign from i S at y h = tt
 
 pub decorator_ready_follows : (ds : Decorators) (from : ℕ) (g : Function) (i : Bool) (S : List Frame) (at : ℕ)
-    (y : Terminal) → Fits decorating S → Follows (moved 64 (decorator_ready ds from g) i S at y)
+    (y : Terminal) → Fits decorating S → Follows (transition 64 (decorator_ready ds from g) i S at y)
 decorator_ready_follows ds from g i S at t.OpenParen h = (tt, (refl, h))
 decorator_ready_follows ds from g i S at y h = tt
 
 pub decorated_follows : (ds : Decorators) (i : Bool) (S : List Frame) (at : ℕ) (y : Terminal) → Fits decorating S
-    → Follows (moved 64 (decorated ds) i S at y)
+    → Follows (transition 64 (decorated ds) i S at y)
 decorated_follows ds i S at t.Newline h = h
 decorated_follows ds i S at y h = tt
 
 -- ---- declarations
 
--- where the declaration of a word of a file stands
+-- where the declaration of a word of a file is
 abbrev InFile : Option Word → Type 0
 InFile None = Unit {0}
 InFile (Some v) = place_at v ≡ statements
@@ -60,13 +61,13 @@ InFile (Some v) = place_at v ≡ statements
 word_place : (u : List ℕ) → InFile (word_of u)
 unfolding word_of
 word_place u =
-    choose InFile (bytes_eq u (codes "metadata")) _ _ (λ e. refl)
-    (λ n1. choose InFile (bytes_eq u (codes "targetScope")) _ _ (λ e. refl)
-    (λ n2. choose InFile (bytes_eq u (codes "param")) _ _ (λ e. refl)
-    (λ n3. choose InFile (bytes_eq u (codes "var")) _ _ (λ e. refl)
-    (λ n4. choose InFile (bytes_eq u (codes "output")) _ _ (λ e. refl)
-    (λ n5. choose InFile (bytes_eq u (codes "resource")) _ _ (λ e. refl)
-    (λ n6. choose InFile (bytes_eq u (codes "module")) _ _ (λ e. refl) (λ n7. tt)))))))
+    if_else InFile (bytes_eq u (codes "metadata")) _ _ (λ e. refl)
+    (λ n1. if_else InFile (bytes_eq u (codes "targetScope")) _ _ (λ e. refl)
+    (λ n2. if_else InFile (bytes_eq u (codes "param")) _ _ (λ e. refl)
+    (λ n3. if_else InFile (bytes_eq u (codes "var")) _ _ (λ e. refl)
+    (λ n4. if_else InFile (bytes_eq u (codes "output")) _ _ (λ e. refl)
+    (λ n5. if_else InFile (bytes_eq u (codes "resource")) _ _ (λ e. refl)
+    (λ n6. if_else InFile (bytes_eq u (codes "module")) _ _ (λ e. refl) (λ n7. tt)))))))
 
 word_follows : (ds : Decorators) (at : ℕ) (r : Option Word) (S : List Frame) → InFile r → Fits statements S
     → Follows (word_on ds at r S)
@@ -87,13 +88,13 @@ decorated_word_follows ds at u (in_file ss ∷ (F ∷ S)) h = absurd h
 decorated_word_follows ds at u (F ∷ S) h = tt
 
 pub past_decorators_follows : (ds : Decorators) (i : Bool) (S : List Frame) (at : ℕ) (y : Terminal)
-    → Fits decorating S → Follows (moved 64 (past_decorators ds) i S at y)
+    → Fits decorating S → Follows (transition 64 (past_decorators ds) i S at y)
 past_decorators_follows ds i S at t.At h = h
 past_decorators_follows ds i S at (t.Name u) h = decorated_word_follows ds at u S h
 past_decorators_follows ds i S at y h = tt
 
 pub declaring_follows : (ds : Decorators) (from : ℕ) (v : Word) (i : Bool) (S : List Frame) (at : ℕ) (y : Terminal)
-    → Fits (place_at v) S → Follows (moved 64 (declaring ds from v) i S at y)
+    → Fits (place_at v) S → Follows (transition 64 (declaring ds from v) i S at y)
 declaring_follows ds from w.TargetScope i S at t.Assign h = (tt, h)
 declaring_follows ds from w.TargetScope i S at y h = tt
 declaring_follows ds from w.Metadata i S at (t.Name u) h = (tt, h)
@@ -111,7 +112,7 @@ type_follows ds from v n None S g h = tt
 type_follows ds from v n (Some ty) S g h = (g, h)
 
 pub declared_follows : (ds : Decorators) (from : ℕ) (v : Word) (n : Name) (i : Bool) (S : List Frame) (at : ℕ)
-    (y : Terminal) → Fits (place_at v) S → Follows (moved 64 (declared ds from v n) i S at y)
+    (y : Terminal) → Fits (place_at v) S → Follows (transition 64 (declared ds from v n) i S at y)
 declared_follows ds from w.Metadata n i S at t.Assign h = (tt, h)
 declared_follows ds from w.Var n i S at t.Assign h = (tt, h)
 declared_follows ds from w.Param n i S at (t.Name u) h = type_follows ds from w.Param n (type_of u) S tt h
@@ -122,7 +123,7 @@ declared_follows ds from w.Module n i S at (t.Literal (l.Text u)) h = h
 declared_follows ds from v n i S at y h = tt
 
 pub typed_follows : (ds : Decorators) (from : ℕ) (v : Word) (n : Name) (ty : TypeName) (i : Bool) (S : List Frame)
-    (at : ℕ) (y : Terminal) → Fits (place_at v) S → Follows (moved 64 (typed ds from v n ty) i S at y)
+    (at : ℕ) (y : Terminal) → Fits (place_at v) S → Follows (transition 64 (typed ds from v n ty) i S at y)
 typed_follows ds from w.Param n ty i S at t.Assign h = (tt, h)
 typed_follows ds from w.Param n ty i S at t.Newline h = filed_follows _ S h
 typed_follows ds from w.Output n ty i S at t.Assign h = (tt, h)
@@ -134,14 +135,14 @@ existing_follows (header ds at (owner.Child x) n q) S h = h
 existing_follows (header ds at owner.Module n q) S h = tt
 
 pub headed_follows : (hd : Header) (i : Bool) (S : List Frame) (at : ℕ) (y : Terminal) → Fits (place_of hd) S
-    → Follows (moved 64 (headed hd) i S at y)
+    → Follows (transition 64 (headed hd) i S at y)
 headed_follows hd i S at t.Assign h = h
-headed_follows hd i S at (t.Name u) h = choose Follows (is_existing u) (existing_on (made_existing hd) S) None
+headed_follows hd i S at (t.Name u) h = if_else Follows (is_existing u) (existing_on (made_existing hd) S) None
     (λ y. existing_follows hd S h) (λ y. tt)
 headed_follows hd i S at y h = tt
 
 pub existed_follows : (hd : Header) (i : Bool) (S : List Frame) (at : ℕ) (y : Terminal) → Fits (place_of hd) S
-    → Follows (moved 64 (existed hd) i S at y)
+    → Follows (transition 64 (existed hd) i S at y)
 existed_follows hd i S at t.Assign h = h
 existed_follows hd i S at y h = tt
 
@@ -154,13 +155,14 @@ statement_decorates (in_file ss ∷ (F ∷ S)) h = absurd h
 statement_decorates (F ∷ S) h = absurd h
 
 pub between_follows : (i : Bool) (S : List Frame) (at : ℕ) (y : Terminal) → Fits statements S
-    → Follows (moved 64 between i S at y)
+    → Follows (transition 64 between i S at y)
 between_follows i S at t.Newline h = h
 between_follows i S at t.At h = statement_decorates S h
 between_follows i S at (t.Name u) h = word_follows empty at (word_of u) S (word_place u) h
 between_follows i S at y h = tt
 
-pub behind_follows : (st : Kept StatementTree) (i : Bool) (S : List Frame) (at : ℕ) (y : Terminal) → Fits statements S
-    → Follows (moved 64 (behind st) i S at y)
-behind_follows st i S at t.Newline h = filed_follows st S h
-behind_follows st i S at y h = tt
+pub past_statement_follows : (st : Kept StatementTree) (i : Bool) (S : List Frame) (at : ℕ) (y : Terminal)
+    → Fits statements S
+    → Follows (transition 64 (past_statement st) i S at y)
+past_statement_follows st i S at t.Newline h = filed_follows st S h
+past_statement_follows st i S at y h = tt

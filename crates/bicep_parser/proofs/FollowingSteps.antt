@@ -1,4 +1,4 @@
--- What is read last fits what is open, behind each token.
+-- What is read last fits what is open, after each token.
 use Rattle.std.proofs.Common.{ℕ, ◌&&◌, List, [], ◌∷◌, Bool, true, false, Option, Some, None, option_and_then}
 use Rattle.bicep_tree.specs.declared.leaf.Name.{Name}
 use Rattle.bicep_tree.specs.declared.leaf.Label.{Label}
@@ -22,13 +22,14 @@ use Rattle.bicep_machine.specs.Stack.{State, wanted, qualifying, qualified, dott
 use Rattle.bicep_machine.specs.Stack.{names_wanted, one_wanted, one_named, other_wanted, both_named, member, labelled}
 use Rattle.bicep_machine.specs.Stack.{past_member, among, looped_body, condition, guarded, body_end, at_sign}
 use Rattle.bicep_machine.specs.Stack.{decorator_named, decorator_spaced, decorator_ready, decorated, past_decorators}
-use Rattle.bicep_machine.specs.Stack.{declaring, declared, typed, headed, existed, between, behind, Next}
+use Rattle.bicep_machine.specs.Stack.{declaring, declared, typed, headed, existed, between, past_statement, Next}
 use Rattle.bicep_machine.specs.Closing.{is_for, pair_of, pair_on, over_on, closed, newline_on}
 use Rattle.bicep_machine.specs.Machine.{is_in, is_if, is_resource, namespace_of, begun, gone_on, space_on, rejoined}
-use Rattle.bicep_machine.specs.Machine.{moved, step}
+use Rattle.bicep_machine.specs.Machine.{transition, step}
 use Rattle.bicep_parser.proofs.Fitting.{inside, members, decorating, place_of, Fits, Value, Bare, Free, Body, Names}
 use Rattle.bicep_parser.proofs.Fitting.{Loop, Stands, Follows}
-use Rattle.bicep_parser.proofs.Following.{choose, below, put_follows, body_follows, members_follow, member_follows}
+use Rattle.bicep_parser.proofs.Following.{below, put_follows, body_follows, members_follow, member_follows}
+use Rattle.foundation.proofs.Choices.{if_else}
 use Rattle.bicep_parser.proofs.Following.{over_follows, pair_follows, item_name_follows, call_follows, parted_follows}
 use Rattle.bicep_parser.proofs.Following.{items_follow, operator_follows, question_follows, paren_follows}
 use Rattle.bicep_parser.proofs.Following.{bracket_follows, comma_follows, brace_follows, colon_follows}
@@ -37,7 +38,7 @@ use Rattle.bicep_parser.proofs.FollowingDeclarations.{at_sign_follows, decorator
 use Rattle.bicep_parser.proofs.FollowingDeclarations.{decorator_spaced_follows, decorator_ready_follows}
 use Rattle.bicep_parser.proofs.FollowingDeclarations.{decorated_follows, past_decorators_follows, declaring_follows}
 use Rattle.bicep_parser.proofs.FollowingDeclarations.{declared_follows, typed_follows, headed_follows}
-use Rattle.bicep_parser.proofs.FollowingDeclarations.{existed_follows, between_follows, behind_follows}
+use Rattle.bicep_parser.proofs.FollowingDeclarations.{existed_follows, between_follows, past_statement_follows}
 
 -- ---- expressions
 
@@ -68,16 +69,16 @@ gone_follows e i S (t.MiddlePiece u) h = middle_follows i u (closed 64 0 e S) (b
 gone_follows e i S (t.RightPiece u) h = right_follows i u (closed 64 0 e S) (below S 0 e h)
 gone_follows e i S t.Newline h = h
 gone_follows e i S (t.Name u) h =
-    choose Follows (is_in u) (pair_on (pair_of e.0) S) None (λ y. pair_follows (pair_of e.0) S h) (λ y. tt)
+    if_else Follows (is_in u) (pair_on (pair_of e.0) S) None (λ y. pair_follows (pair_of e.0) S h) (λ y. tt)
 gone_follows e i S y h = tt
 
 wanted_follows : (b i : Bool) (S : List Frame) (at : ℕ) (y : Terminal) → Value S
-    → Follows (moved 64 (wanted b) i S at y)
+    → Follows (transition 64 (wanted b) i S at y)
 wanted_follows true i S at t.Newline h = h
 wanted_follows true i S at y h = begun_follows i S at y h
 wanted_follows false i S at y h = begun_follows i S at y h
 
-first_follows : (i : Bool) (S : List Frame) (at : ℕ) (y : Terminal) → Value S → Follows (moved 64 s.first i S at y)
+first_follows : (i : Bool) (S : List Frame) (at : ℕ) (y : Terminal) → Value S → Follows (transition 64 s.first i S at y)
 first_follows i S at t.CloseParen h = call_follows S h
 first_follows i S at y h = begun_follows i S at y h
 
@@ -86,28 +87,28 @@ space_follows None n i S h = h
 space_follows (Some y) n i S h = h
 
 named_follows : (n : Name) (i : Bool) (S : List Frame) (at : ℕ) (y : Terminal) → Value S
-    → Follows (moved 64 (s.named n) i S at y)
+    → Follows (transition 64 (s.named n) i S at y)
 named_follows n i S at t.OpenParen h = (tt, h)
 named_follows n i S at (t.Access a.Member) h = space_follows (namespace_of n.text) n i S h
 named_follows n i S at (t.Name u) h = item_name_follows n (record { at = at; text = u }) S h
 named_follows n i S at y h = gone_follows (flat (name n)) i S y h
 
 qualifying_follows : (q : Namespace) (n : Name) (i : Bool) (S : List Frame) (at : ℕ) (y : Terminal) → Value S
-    → Follows (moved 64 (qualifying q n) i S at y)
+    → Follows (transition 64 (qualifying q n) i S at y)
 qualifying_follows q n i S at (t.Name u) h = h
 qualifying_follows q n i S at y h = tt
 
 qualified_follows : (q : Namespace) (n m : Name) (i : Bool) (S : List Frame) (at : ℕ) (y : Terminal) → Value S
-    → Follows (moved 64 (qualified q n m) i S at y)
+    → Follows (transition 64 (qualified q n m) i S at y)
 qualified_follows q n m i S at t.OpenParen h = (tt, h)
 qualified_follows q n m i S at y h = gone_follows (of_access 64 (flat (name n)) a.Member m) i S y h
 
 dotted_follows : (k : Access) (e : Kept Tree) (i : Bool) (S : List Frame) (at : ℕ) (y : Terminal) → Value S
-    → Follows (moved 64 (dotted k e) i S at y)
+    → Follows (transition 64 (dotted k e) i S at y)
 dotted_follows k e i S at (t.Name u) h = h
 dotted_follows k e i S at y h = tt
 
-item_follows : (i : Bool) (S : List Frame) (at : ℕ) (y : Terminal) → Value S → Follows (moved 64 item i S at y)
+item_follows : (i : Bool) (S : List Frame) (at : ℕ) (y : Terminal) → Value S → Follows (transition 64 item i S at y)
 item_follows i S at t.Newline h = parted_follows S h
 item_follows i S at t.Comma h = parted_follows S h
 item_follows i S at t.CloseBracket h = items_follow S h
@@ -121,7 +122,7 @@ member_decorates (in_object at was ms ∷ S) h = h
 member_decorates (F ∷ S) h = absurd h
 
 member_state_follows : (i : Bool) (S : List Frame) (at : ℕ) (y : Terminal) → Fits members S
-    → Follows (moved 64 member i S at y)
+    → Follows (transition 64 member i S at y)
 member_state_follows i S at t.Newline h = h
 member_state_follows i S at t.Comma h = h
 member_state_follows i S at t.CloseBrace h = members_follow S h
@@ -131,16 +132,16 @@ member_state_follows i S at (t.Literal (l.Text u)) h = h
 member_state_follows i S at y h = tt
 
 labelled_follows : (n : Label) (i : Bool) (S : List Frame) (at : ℕ) (y : Terminal) → Fits members S
-    → Follows (moved 64 (labelled n) i S at y)
+    → Follows (transition 64 (labelled n) i S at y)
 labelled_follows (label.Name n) i S at t.Colon h = (tt, h)
 labelled_follows (label.Quoted q) i S at t.Colon h = (tt, h)
 labelled_follows (label.Name n) i S at (t.Name u) h =
-    choose Follows (is_resource n.text) _ None (λ y. (tt, h)) (λ y. tt)
+    if_else Follows (is_resource n.text) _ None (λ y. (tt, h)) (λ y. tt)
 labelled_follows (label.Name n) i S at y h = tt
 labelled_follows (label.Quoted q) i S at y h = tt
 
 past_member_follows : (m : Kept MemberTree) (i : Bool) (S : List Frame) (at : ℕ) (y : Terminal) → Fits members S
-    → Follows (moved 64 (past_member m) i S at y)
+    → Follows (transition 64 (past_member m) i S at y)
 past_member_follows m i S at t.Newline h = put_follows m S h
 past_member_follows m i S at t.Comma h = put_follows m S h
 past_member_follows m i S at t.CloseBrace h = member_follows m S h
@@ -157,9 +158,9 @@ loop_inside (bodied hd f ∷ S) h = absurd h
 loop_inside (F ∷ S) h = absurd h
 
 among_follows : (from : ℕ) (ns : LoopNames) (i : Bool) (S : List Frame) (at : ℕ) (y : Terminal) → Loop S
-    → Follows (moved 64 (among from ns) i S at y)
+    → Follows (transition 64 (among from ns) i S at y)
 among_follows from ns i S at (t.Name u) h =
-    choose Follows (is_in u) (over_on from ns S) None (λ y. over_follows from ns S (loop_inside S h)) (λ y. tt)
+    if_else Follows (is_in u) (over_on from ns S) None (λ y. over_follows from ns S (loop_inside S h)) (λ y. tt)
 among_follows from ns i S at y h = tt
 
 bare_free : (S : List Frame) → Bare S → Free S
@@ -184,68 +185,70 @@ bare_loop (bodied hd nothing_before ∷ S) h = h
 bare_loop (bodied hd f ∷ S) h = absurd h
 bare_loop (F ∷ S) h = absurd h
 
-body_state_follows : (i : Bool) (S : List Frame) (at : ℕ) (y : Terminal) → Bare S → Follows (moved 64 s.body i S at y)
+body_state_follows : (i : Bool) (S : List Frame) (at : ℕ) (y : Terminal) → Bare S
+    → Follows (transition 64 s.body i S at y)
 body_state_follows i S at t.OpenBrace h = body_inside S (free_body S (bare_free S h))
 body_state_follows i S at t.OpenBracket h = h
-body_state_follows i S at (t.Name u) h = choose Follows (is_if u) _ None (λ y. bare_free S h) (λ y. tt)
+body_state_follows i S at (t.Name u) h = if_else Follows (is_if u) _ None (λ y. bare_free S h) (λ y. tt)
 body_state_follows i S at y h = tt
 
 looped_body_follows : (i : Bool) (S : List Frame) (at : ℕ) (y : Terminal) → Free S
-    → Follows (moved 64 looped_body i S at y)
+    → Follows (transition 64 looped_body i S at y)
 looped_body_follows i S at t.OpenBrace h = body_inside S (free_body S h)
-looped_body_follows i S at (t.Name u) h = choose Follows (is_if u) _ None (λ y. h) (λ y. tt)
+looped_body_follows i S at (t.Name u) h = if_else Follows (is_if u) _ None (λ y. h) (λ y. tt)
 looped_body_follows i S at y h = tt
 
 condition_follows : (from : ℕ) (i : Bool) (S : List Frame) (at : ℕ) (y : Terminal) → Free S
-    → Follows (moved 64 (condition from) i S at y)
+    → Follows (transition 64 (condition from) i S at y)
 condition_follows from i [] at y h = absurd h
 condition_follows from i (bodied hd f ∷ S) at t.OpenParen h = (tt, h)
 condition_follows from i (bodied hd f ∷ S) at y h = tt
 condition_follows from i (F ∷ S) at y h = absurd h
 
-guarded_follows : (i : Bool) (S : List Frame) (at : ℕ) (y : Terminal) → Body S → Follows (moved 64 guarded i S at y)
+guarded_follows : (i : Bool) (S : List Frame) (at : ℕ) (y : Terminal) → Body S
+    → Follows (transition 64 guarded i S at y)
 guarded_follows i S at t.OpenBrace h = body_inside S h
 guarded_follows i S at y h = tt
 
 body_end_follows : (hd : Header) (b : Kept BodyTree) (i : Bool) (S : List Frame) (at : ℕ) (y : Terminal)
-    → Fits (place_of hd) S → Follows (moved 64 (body_end hd b) i S at y)
+    → Fits (place_of hd) S → Follows (transition 64 (body_end hd b) i S at y)
 body_end_follows hd b i S at t.CloseBracket h = body_follows hd b S h
 body_end_follows hd b i S at y h = tt
 
 for_wanted_follows : (from : ℕ) (i : Bool) (S : List Frame) (at : ℕ) (y : Terminal) → Bare S
-    → Follows (moved 64 (for_wanted from) i S at y)
-for_wanted_follows from i S at (t.Name u) h = choose Follows (is_for u) _ None (λ y. h) (λ y. tt)
+    → Follows (transition 64 (for_wanted from) i S at y)
+for_wanted_follows from i S at (t.Name u) h = if_else Follows (is_for u) _ None (λ y. h) (λ y. tt)
 for_wanted_follows from i S at y h = tt
 
 names_wanted_follows : (from : ℕ) (i : Bool) (S : List Frame) (at : ℕ) (y : Terminal) → Bare S
-    → Follows (moved 64 (names_wanted from) i S at y)
+    → Follows (transition 64 (names_wanted from) i S at y)
 names_wanted_follows from i S at (t.Name u) h = bare_loop S h
 names_wanted_follows from i S at t.OpenParen h = h
 names_wanted_follows from i S at y h = tt
 
 both_named_follows : (n m : Name) (i : Bool) (S : List Frame) (at : ℕ) (y : Terminal) → Names S
-    → Follows (moved 64 (both_named n m) i S at y)
+    → Follows (transition 64 (both_named n m) i S at y)
 both_named_follows n m i [] at y h = absurd h
 both_named_follows n m i (in_names from ∷ S) at t.CloseParen h = bare_loop S h
 both_named_follows n m i (in_names from ∷ S) at y h = tt
 both_named_follows n m i (F ∷ S) at y h = absurd h
 
 one_wanted_follows : (i : Bool) (S : List Frame) (at : ℕ) (y : Terminal) → Names S
-    → Follows (moved 64 one_wanted i S at y)
+    → Follows (transition 64 one_wanted i S at y)
 one_wanted_follows i S at (t.Name u) h = h
 one_wanted_follows i S at y h = tt
 
 one_named_follows : (n : Name) (i : Bool) (S : List Frame) (at : ℕ) (y : Terminal) → Names S
-    → Follows (moved 64 (one_named n) i S at y)
+    → Follows (transition 64 (one_named n) i S at y)
 one_named_follows n i S at t.Comma h = h
 one_named_follows n i S at y h = tt
 
 other_wanted_follows : (n : Name) (i : Bool) (S : List Frame) (at : ℕ) (y : Terminal) → Names S
-    → Follows (moved 64 (other_wanted n) i S at y)
+    → Follows (transition 64 (other_wanted n) i S at y)
 other_wanted_follows n i S at (t.Name u) h = h
 other_wanted_follows n i S at y h = tt
 
--- ---- behind a newline that ended an expression
+-- ---- after a newline that ended an expression
 
 rejoined_follows : (n : Next) (at : ℕ) (y : Terminal) → Follows n
     → Follows (option_and_then (λ q. rejoined 64 q at y) n)
@@ -256,7 +259,7 @@ rejoined_follows (Some (between, i, S)) at y h = between_follows i S at y h
 rejoined_follows (Some q) at y h = tt
 
 paused_follows : (e : Kept Tree) (i : Bool) (S : List Frame) (at : ℕ) (y : Terminal) → Value S
-    → Follows (moved 64 (paused e) i S at y)
+    → Follows (transition 64 (paused e) i S at y)
 paused_follows e i S at t.Newline h = h
 paused_follows e i S at t.Question h = question_follows false (closed 64 1 e S) (below S 1 e h)
 paused_follows e i S at t.Colon h = late_colon_follows (closed 64 0 e S) (below S 0 e h)
@@ -266,7 +269,7 @@ paused_follows e i S at y h =
 -- ---- a step
 
 moved_follows : (st : State) (i : Bool) (S : List Frame) (at : ℕ) (y : Terminal) → Stands st i S
-    → Follows (moved 64 st i S at y)
+    → Follows (transition 64 st i S at y)
 moved_follows (wanted b) i S at y h = wanted_follows b i S at y h
 moved_follows s.first i S at y h = first_follows i S at y h
 moved_follows (s.named n) i S at y h = named_follows n i S at y h
@@ -303,9 +306,10 @@ moved_follows (typed ds from v n ty) i S at y h = typed_follows ds from v n ty i
 moved_follows (headed hd) i S at y h = headed_follows hd i S at y h
 moved_follows (existed hd) i S at y h = existed_follows hd i S at y h
 moved_follows between i S at y h = between_follows i S at y h
-moved_follows (behind st) i S at y h = behind_follows st i S at y h
+moved_follows (past_statement st) i S at y h = past_statement_follows st i S at y h
 
--- what was read last fits what is open behind each token
+-- what was read last fits what is open after each token
 pub step_follows : (st : State) (i : Bool) (S : List Frame) (x : Placed) → Stands st i S → Follows (step 64 st i S x)
-step_follows st i S (at, y) h = choose Follows (i && is_newline y) (Some (st, i, S)) (moved 64 st i S at y) (λ e. h)
+step_follows st i S (at, y) h = if_else Follows (i && is_newline y) (Some (st, i, S)) (transition 64 st i S at y)
+    (λ e. h)
     (λ e. moved_follows st i S at y h)

@@ -16,16 +16,18 @@ use Rattle.bicep_tree.specs.Forms.{is_newline}
 use Rattle.bicep_tree.specs.Terminals.{Placed, placed, terminal_of}
 use Rattle.bicep_machine.specs.Kept.{Kept, empty}
 use Rattle.bicep_machine.specs.Stack.{State, Frame, between, in_file}
-use Rattle.bicep_machine.specs.Machine.{moved, step, run, finished, parsed}
+use Rattle.bicep_machine.specs.Machine.{transition, step, run, finished, parsed}
 use Rattle.bicep_machine.specs.Spelled.{IsKept}
-use Rattle.bicep_machine.specs.declared.stop.Stop.{Stop}
-use Rattle.bicep_machine.specs.declared.stop.Stop.TheVariants as stop
+use Rattle.foundation.specs.declared.stop.Stop.{Stop}
+use Rattle.foundation.specs.declared.stop.Stop.TheVariants as stop
 use Rattle.bicep_machine.specs.declared.frame.Frame as frames
-use Rattle.bicep_machine.specs.Views.{frames_of, Stops}
+use Rattle.foundation.specs.Stopping.{Stops}
+use Rattle.bicep_machine.specs.Views.{frames_of}
 use Rattle.bicep_parser.specs.declared.fault.ParseFault.TheVariants as fault
-use Rattle.bicep_parser.specs.Answers.{told}
+use Rattle.bicep_parser.specs.Answers.{fault_at}
 use Rattle.bicep_parser.specs.Depth.{stack_depth, deepest, top_depth, at_hand, noted}
-use Rattle.bicep_parser.specs.Refused.{BeginNoFile, BeginAFile, BreaksAt, DeepAt, behind, EndsAt, BeginsAStatement}
+use Rattle.bicep_parser.specs.Refused.{BeginNoFile, BeginAFile, BreaksAt, DeepAt, end_of_token, EndsAt}
+use Rattle.bicep_parser.specs.Refused.{BeginsAStatement}
 use Rattle.bicep_parser.specs.Refused.{EarlierWithin, TellsPlace}
 use Rattle.bicep_machine.proofs.Spelling.{spelled_is_read, read_is_spelled}
 use Rattle.bicep_parser.proofs.Answering.{none_spelled}
@@ -34,7 +36,7 @@ use Rattle.bicep_parser.proofs.Deepening.{Marked, Keeps}
 use Rattle.bicep_parser.proofs.DeepeningSteps.{step_keeps}
 use Rattle.bicep_parser.proofs.Deepest.{file_deep}
 use Rattle.bicep_parser.proofs.Fitting.{Stands, Follows}
-use Rattle.bicep_parser.proofs.Following.{choose}
+use Rattle.foundation.proofs.Choices.{if_else}
 use Rattle.bicep_parser.proofs.FollowingSteps.{step_follows}
 use Rattle.bicep_parser.proofs.EndingStates.{state_ends}
 
@@ -120,7 +122,7 @@ breaks ts rest t s i S p e =
         ∙ sym (p.leads (placed t ∷ map placed more))
         ∙ ap (λ n. option_and_then (λ r. run 64 r.0 r.1 r.2 (map placed more)) n) e) f h
 
--- a token behind which something nests too deep
+-- a token after which something nests too deep
 deep_at : (ts rest : List Standing) (t : Standing) (s : State) (i : Bool) (S : List Frame) (q : State × Bool
     × List Frame) → Progress ts (t ∷ rest) s i S → step 64 s i S (placed t) ≡ Some q → 64 < deepest q.0 q.2
     → DeepAt ts t.1
@@ -193,11 +195,13 @@ read_within ts rest t s i S q p e low next o f sp = by (nat_le (file_nesting f) 
         let le = kept_low s i S t.1 (terminal_of t) q read.0 o ends_so (moved_so (terminal_of t) o e) in
         absurd (omega arith)
       where
-        moved_so : (y : Terminal) → BeginsAStatement y → step 64 s i S (t.1, y) ≡ Some q → moved 64 s i S t.1 y ≡ Some q
-        moved_so y o e = choose (λ n. n ≡ Some q → moved 64 s i S t.1 y ≡ Some q) (i && is_newline y) (Some (s, i, S))
-            (moved 64 s i S t.1 y) (λ b h. absurd (no_newline i y o b)) (λ b h. h) e
+        moved_so : (y : Terminal) → BeginsAStatement y → step 64 s i S (t.1, y) ≡ Some q
+            → transition 64 s i S t.1 y ≡ Some q
+        moved_so y o e = if_else (λ n. n ≡ Some q → transition 64 s i S t.1 y ≡ Some q) (i && is_newline y)
+            (Some (s, i, S))
+            (transition 64 s i S t.1 y) (λ b h. absurd (no_newline i y o b)) (λ b h. h) e
 
--- a token is read, and nothing too deep is at hand behind it
+-- a token is read, and nothing too deep is at hand after it
 pub settles : (ts rest : List Standing) (t : Standing) (s : State) (i : Bool) (S : List Frame) (q : State × Bool
     × List Frame) (p : Progress ts (t ∷ rest) s i S) → step 64 s i S (placed t) ≡ Some q → Settled p.before s S
     → at_hand q.0 q.2 ≤ 64 → Settled (p.before ++ t ∷ []) q.0 q.2
@@ -227,7 +231,7 @@ unfolding goes_on
 goes_on_noted ts rest t s i S q (Some d) n e = (goes_on ts rest t s i S q n.0 e, n.1)
 goes_on_noted ts rest t s i S q None n e = (
   goes_on ts rest t s i S q n.0 e,
-  choose (λ o. MatchOption o (Settled (n.0.before ++ t ∷ []) q.0 q.2) (DeepAt ts))
+  if_else (λ o. MatchOption o (Settled (n.0.before ++ t ∷ []) q.0 q.2) (DeepAt ts))
       (nat_lt 64 (at_hand q.0 q.2)) (Some t.1) None deep low,
 )
   where
@@ -241,10 +245,11 @@ goes_on_noted ts rest t s i S q None n e = (
     low h = settles ts rest t s i S q n.0 e n.1 (grind (arith, nat_tests))
 
 -- where all tokens are read
-pub told_deep : (ts : List Standing) (s : State) (i : Bool) (S : List Frame) (deep : Option ℕ) (at : ℕ)
+pub deep_has_place : (ts : List Standing) (s : State) (i : Bool) (S : List Frame) (deep : Option ℕ) (at : ℕ)
     → Noted ts [] s i S deep → EndsAt ts at → TellsPlace ts (fault.TooDeep (unwrap_or deep at))
-told_deep ts s i S (Some d) at n e = inl n.1
-told_deep ts s i S None at n e = inr (e, subst EarlierWithin (sym (n.0.split ∙ nothing_more n.0.before)) n.1.earlier)
+deep_has_place ts s i S (Some d) at n e = inl n.1
+deep_has_place ts s i S None at n e =
+    inr (e, subst EarlierWithin (sym (n.0.split ∙ nothing_more n.0.before)) n.1.earlier)
 
 pub begins_noted : (ts : List Standing) → Noted ts ts between false (in_file empty ∷ []) None
 unfolding begins
@@ -260,10 +265,10 @@ ends ts s i S p = p.leads []
 begun_whole : (ts : List Standing) (s : State) (i : Bool) (S : List Frame) → Progress ts [] s i S → BeginAFile ts
 begun_whole ts s i S p = subst BeginAFile (sym (p.split ∙ nothing_more p.before)) (begun_by ts [] s i S p)
 
--- the machine does not end a file behind the tokens
+-- the machine does not end a file after the tokens
 breaks_end : (ts : List Standing) (s : State) (i : Bool) (S : List Frame) (why : Stop) (at : ℕ) → Progress ts [] s i S
-    → EndsAt ts at → TellsPlace ts (told why at)
-breaks_end ts s i S stop.NotAFile at p e = inr (e, begun_whole ts s i S p)
+    → EndsAt ts at → TellsPlace ts (fault_at why at)
+breaks_end ts s i S stop.Refused at p e = inr (e, begun_whole ts s i S p)
 breaks_end ts s i S stop.OutOfMemory at p e = tt
 
 -- ---- over the tokens of the code
@@ -289,39 +294,39 @@ noted_so next deep s fs gs at e h = subst (λ xs. next ≡ noted deep s (frames_
 pub breaks_token : (xs : List Token) (i : ℕ) (t : Token) (x : Terminal) (s : State) (f : Bool) (S : List Frame)
     (why : Stop) → drop i xs ≡ t ∷ drop (i + 1) xs → x ≡ terminal_of (standing t)
     → Progress (map standing xs) (map standing (drop i xs)) s f S → Stops why (step 64 s f S (t.at, x))
-    → TellsPlace (map standing xs) (told why t.at)
-breaks_token xs i t x s f S stop.NotAFile next is p e =
+    → TellsPlace (map standing xs) (fault_at why t.at)
+breaks_token xs i t x s f S stop.Refused next is p e =
     inl (breaks (map standing xs) (map standing (drop (i + 1) xs)) (standing t) s f S
     (subst (λ ys. Progress (map standing xs) (map standing ys) s f S) next p)
     (subst (λ y. step 64 s f S (t.at, y) ≡ None) is e))
 breaks_token xs i t x s f S stop.OutOfMemory next is p e = tt
 
--- all tokens are read, and no file ends behind them
-pub breaks_behind : (xs : List Token) (i : ℕ) (s : State) (f : Bool) (S : List Frame) (why : Stop) (at : ℕ)
+-- all tokens are read, and no file ends after them
+pub breaks_at_end : (xs : List Token) (i : ℕ) (s : State) (f : Bool) (S : List Frame) (why : Stop) (at : ℕ)
     → length xs ≤ i → Progress (map standing xs) (map standing (drop i xs)) s f S → EndsAt (map standing xs) at
-    → TellsPlace (map standing xs) (told why at)
-breaks_behind xs i s f S why at le p e =
+    → TellsPlace (map standing xs) (fault_at why at)
+breaks_at_end xs i s f S why at le p e =
     breaks_end (map standing xs) s f S why at
     (subst (λ ys. Progress (map standing xs) (map standing ys) s f S) (drop_all i xs le) p) e
 
--- all tokens are read, and a file ends behind them
-pub deep_behind : (xs : List Token) (i : ℕ) (s : State) (f : Bool) (S : List Frame) (deep : Option ℕ) (at : ℕ)
+-- all tokens are read, and a file ends after them
+pub deep_at_end : (xs : List Token) (i : ℕ) (s : State) (f : Bool) (S : List Frame) (deep : Option ℕ) (at : ℕ)
     → length xs ≤ i → Noted (map standing xs) (map standing (drop i xs)) s f S deep → EndsAt (map standing xs) at
     → TellsPlace (map standing xs) (fault.TooDeep (unwrap_or deep at))
-deep_behind xs i s f S deep at le n e =
-    told_deep (map standing xs) s f S deep at
+deep_at_end xs i s f S deep at le n e =
+    deep_has_place (map standing xs) s f S deep at
     (subst (λ ys. Noted (map standing xs) (map standing ys) s f S deep) (drop_all i xs le) n) e
 
 -- the last token
 last_at : (ts : List Token) (n : ℕ) (t : Token) → length ts ≡ suc n → slice_get ts n ≡ Some t
-    → EndsAt (map standing ts) (behind (standing t))
+    → EndsAt (map standing ts) (end_of_token (standing t))
 last_at [] n t l e = absurd cc
-last_at (u ∷ []) zero t l e = let same : u ≡ t = cc in ap (λ x. behind (standing x)) (sym same)
+last_at (u ∷ []) zero t l e = let same : u ≡ t = cc in ap (λ x. end_of_token (standing x)) (sym same)
 last_at (u ∷ []) (suc n) t l e = absurd cc
 last_at (u ∷ (v ∷ ts)) zero t l e = absurd (omega arith)
 last_at (u ∷ (v ∷ ts)) (suc n) t l e = last_at (v ∷ ts) n t (omega arith) e
 
 pub last_ends : (ts : List Token) (t : Token) → slice_get ts (length ts - 1) ≡ Some t
-    → EndsAt (map standing ts) (behind (standing t))
+    → EndsAt (map standing ts) (end_of_token (standing t))
 last_ends [] t e = absurd cc
 last_ends (u ∷ ts) t e = last_at (u ∷ ts) (length (u ∷ ts) - 1) t (omega arith) e

@@ -4,13 +4,13 @@ use Rattle.std.proofs.Common.{◌≡◌, ℕ, List, [], ◌∷◌, Some, refl, a
 use Rattle.bicep_tree.specs.declared.terminal.Terminal.{Terminal}
 use Rattle.bicep_tree.specs.declared.terminal.Terminal.TheVariants as t
 use Rattle.bicep_tree.specs.Tree.{Tree, StatementTree}
-use Rattle.bicep_machine.specs.declared.stop.Stop.{Stop}
-use Rattle.bicep_machine.specs.declared.stop.Stop.TheVariants as stop
+use Rattle.foundation.specs.declared.stop.Stop.{Stop}
+use Rattle.foundation.specs.declared.stop.Stop.TheVariants as stop
 use Rattle.bicep_machine.specs.Stack.{Frame, in_file}
 use Rattle.bicep_machine.specs.Kept.{Kept, put}
 use Rattle.bicep_machine.specs.Closing.{closed, newline_on}
 use Rattle.bicep_machine.specs.Machine.{rejoined, paused_step, ended, ended_between}
-use Rattle.bicep_machine.specs.Views.{Stops}
+use Rattle.foundation.specs.Stopping.{Stops}
 
 pub paused-other : (e : Kept Tree) (S : List Frame) (at : ℕ) (x : Terminal) → (x ≡ t.Newline → ⊥)
     → (x ≡ t.Question → ⊥) → (x ≡ t.Colon → ⊥)
@@ -33,7 +33,7 @@ ended-put s S ss e = ended-between s S ∙ ap (option_map (λ r. put r s)) e
 
 pub ended-stops : (x : Stop) (s : Kept StatementTree) (S : List Frame) → Stops x (ended_between 64 S)
     → Stops x (ended 64 s S)
-ended-stops stop.NotAFile s S e = ended-between s S ∙ ap (option_map (λ r. put r s)) e
+ended-stops stop.Refused s S e = ended-between s S ∙ ap (option_map (λ r. put r s)) e
 ended-stops stop.OutOfMemory s S e = tt
 
 pub ruleset ends = (ended-put, ended-stops)

@@ -8,8 +8,8 @@ use Rattle.bicep_tree.specs.View.{file_of}
 use Rattle.bicep_parser.specs.declared.fault.ParseFault.{ParseFault}
 use Rattle.bicep_parser.specs.declared.fault.ParseFault.TheVariants as fault
 use Rattle.bicep_machine.specs.declared.kept.Kept as code
-use Rattle.bicep_machine.specs.declared.stop.Stop.{Stop}
-use Rattle.bicep_machine.specs.declared.stop.Stop.TheVariants as stop
+use Rattle.foundation.specs.declared.stop.Stop.{Stop}
+use Rattle.foundation.specs.declared.stop.Stop.TheVariants as stop
 use Rattle.bicep_machine.specs.Kept.{Kept}
 use Rattle.bicep_machine.specs.Views.{kept_statements}
 
@@ -17,10 +17,10 @@ use Rattle.bicep_machine.specs.Views.{kept_statements}
 abbrev pub Outcome : Type 0
 Outcome = Option (Kept (List StatementTree))
 
--- what is told where reading stops at that place
-abbrev pub told : Stop → ℕ → ParseFault
-told stop.NotAFile at = fault.NotAFile at
-told stop.OutOfMemory at = fault.OutOfMemory
+-- the fault where reading stops at that place
+abbrev pub fault_at : Stop → ℕ → ParseFault
+fault_at stop.Refused at = fault.NotAFile at
+fault_at stop.OutOfMemory at = fault.OutOfMemory
 
 -- why nothing is read
 abbrev pub NotRead : ParseFault → Outcome → Type 0

@@ -5,7 +5,8 @@ use Rattle.bicep_machine.specs.Stack.{a_condition, a_loop, loop_and_condition, F
 use Rattle.bicep_machine.specs.Stack.{in_object, in_text, left, asked, chosen, assigned, body_over, looped}
 use Rattle.bicep_machine.specs.Stack.{in_condition, bodied, in_file, State, dotted, done, paused, past_member}
 use Rattle.bicep_machine.specs.Stack.{body_end, at_sign, decorator_named, decorator_spaced, decorator_ready}
-use Rattle.bicep_machine.specs.Stack.{decorated, past_decorators, declaring, declared, typed, headed, existed, behind}
+use Rattle.bicep_machine.specs.Stack.{decorated, past_decorators, declaring, declared, typed, headed, existed}
+use Rattle.bicep_machine.specs.Stack.{past_statement}
 
 abbrev pub callee_depth : Callee → ℕ
 callee_depth (function f) = 0
@@ -59,7 +60,7 @@ state_depth (declared ds at w n) = ds.1
 state_depth (typed ds at w n ty) = ds.1
 state_depth (headed h) = header_depth h
 state_depth (existed h) = header_depth h
-state_depth (behind s) = s.1
+state_depth (past_statement s) = s.1
 state_depth s = 0
 
 -- of all that is kept

@@ -43,14 +43,14 @@ pub record DeepAt (ts : List Standing) (at : ℕ) : Type 0 where
   pub place : at ≡ token.1
   pub deep : (more : List Standing) (f : FileTree) → Spells f ((before ++ token ∷ []) ++ more) → 64 < file_nesting f
 
--- the offset behind a token, at most 2^64 - 1
-abbrev pub behind : Standing → ℕ
-behind t = min (t.1 + length t.2) (2 ^ 64 - 1)
+-- the offset after a token, at most 2^64 - 1
+abbrev pub end_of_token : Standing → ℕ
+end_of_token t = min (t.1 + length t.2) (2 ^ 64 - 1)
 
--- the place is behind the last token, and 0 where there is none
+-- the place is after the last token, and 0 where there is none
 abbrev pub EndsAt : List Standing → ℕ → Type 0
 EndsAt [] at = at ≡ 0
-EndsAt (t ∷ []) at = at ≡ behind t
+EndsAt (t ∷ []) at = at ≡ end_of_token t
 EndsAt (t ∷ ts) at = EndsAt ts at
 
 -- a statement may begin with the token: with a name, or with a decorator
@@ -59,15 +59,14 @@ BeginsAStatement (t.Name s) = Unit {0}
 BeginsAStatement t.At = Unit {0}
 BeginsAStatement x = ⊥
 
--- the statements before the last are within the limit: each file behind which a statement begins
+-- the statements before the last are within the limit: each file after which a statement begins
 abbrev pub EarlierWithin : List Standing → Type 0
 EarlierWithin ts = (before : List Standing) (token : Standing) (after : List Standing) (f : FileTree)
     → ts ≡ before ++ token ∷ after → BeginsAStatement (terminal_of token) → Spells f before → file_nesting f ≤ 64
 
--- the place of a fault: where the tokens are no file, the first token with which no file goes on, or their end, where a
--- file goes on behind them; where a file nests too deep, a token up to which no file within the limit begins, or the
--- end,
--- where only the last statement nests too deep
+-- The place of a fault. Of tokens that are no file: the first token with which no file continues, or the end, where a
+-- file begins with all of them. Of a file that nests too deep: a token such that no file within the limit begins with
+-- the tokens up to it, or the end, where only the last statement nests too deep.
 abbrev pub TellsPlace : List Standing → ParseFault → Type 0
 TellsPlace ts (fault.NotAFile at) = BreaksAt ts at ⊎ (EndsAt ts at × BeginAFile ts)
 TellsPlace ts (fault.TooDeep at) = DeepAt ts at ⊎ (EndsAt ts at × EarlierWithin ts)

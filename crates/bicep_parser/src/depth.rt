@@ -2,7 +2,8 @@
 
 ghost use Rattle.std.specs.Prelude.{◌≡◌};
 ghost use Rattle.bicep_machine.specs.Views.{callee_of, header_of, front_of, frame_of, frames_of, state_of};
-ghost use Rattle.bicep_parser.specs.Depth.{callee_depth, header_depth, front_depth, frame_depth, top_depth, state_depth, noted};
+ghost use Rattle.bicep_parser.specs.Depth.{callee_depth, header_depth, front_depth, frame_depth, top_depth};
+ghost use Rattle.bicep_parser.specs.Depth.{state_depth, noted};
 
 use bicep_machine::{Callee, Frame, Front, Header, MOST_NESTING, State, deeper};
 
@@ -52,7 +53,7 @@ fn state_depth(state: &State) -> usize
         State::Typed(list, _, _, _, _) => list.depth,
         State::Headed(header) => header_depth(header),
         State::Existed(header) => header_depth(header),
-        State::Behind(statement) => statement.depth,
+        State::PastStatement(statement) => statement.depth,
         _ => 0,
     }
 }

@@ -5,12 +5,12 @@ use thiserror::Error;
 /// Why tokens are not parsed. A place is the offset of a byte in the source.
 #[derive(Debug, Clone, Copy, PartialEq, Eq, Error)]
 pub enum ParseFault {
-    /// The tokens spell no file: the first token with which no file goes on, or the end of the last
-    /// token, where a file begins with all of them.
+    /// The tokens spell no file. The place of the first token with which no file continues, or the end of the
+    /// last token, where a file begins with all of them.
     #[error("not a file at {0}")]
     NotAFile(usize),
-    /// An expression nests above 64: the token that closes the part that nests too deep, which may be
-    /// the first one of the next line, or the end of the last token, where none closes it.
+    /// An expression nests above 64. The place of the token that closes the part that nests too deep, which may
+    /// be the first token of the next line, or the end of the last token, where none closes it.
     #[error("too deep at {0}")]
     TooDeep(usize),
     /// Memory was refused.

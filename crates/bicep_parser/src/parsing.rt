@@ -1,43 +1,32 @@
 // From tokens to a file.
 
-ghost use Rattle.std.specs.Prelude.{◌≡◌, ◌≤◌, ◌∷◌, [], map, IfOk, IfErr};
+ghost use Rattle.std.specs.Prelude.{◌≡◌, ◌≤◌, map, IfOk, IfErr};
 ghost use Rattle.bicep_lexer.specs.Reading.{standing};
 ghost use Rattle.bicep_tree.specs.Terminals.{placed};
 ghost use Rattle.bicep_tree.specs.View.{file_of};
 ghost use Rattle.bicep_tree.specs.Nesting.{file_nesting};
 ghost use Rattle.bicep_tree.specs.Declarations.{Spells};
-ghost use Rattle.bicep_machine.specs.Stack.{in_file};
 ghost use Rattle.bicep_machine.specs.Machine.{parsed};
-ghost use Rattle.bicep_machine.specs.Views.{frames_of};
-ghost use Rattle.bicep_parser.specs.Answers.{Reads, Answers, told};
+ghost use Rattle.bicep_parser.specs.Answers.{Reads, Answers, fault_at};
 ghost use Rattle.bicep_parser.specs.Refused.{Refuses, EndsAt, TellsPlace};
 ghost use Rattle.bicep_parser.specs.declared.fault.ParseFault.TheVariants.{TooDeep};
 
 use crate::depth::noted;
 use crate::fault::ParseFault;
-use crate::stops::{let_go, stopped};
-use crate::turning::{finish, turn};
-use arm_value::OutOfMemory;
+use crate::stepping::{finish, step};
+use crate::stops::stopped;
 use bicep_lexer::Token;
-use bicep_machine::{Frame, Kept, MOST_NESTING, State, Stop, empty, open};
+use bicep_machine::{Discard, Kept, MOST_NESTING, State, empty_file};
 use bicep_tree::{File, Statement, terminal_of};
+use foundation::Stop;
 use std::alloc::Global;
 
-// An empty file.
-fn begun(alloc: Global) -> Result<Vec<Frame>, OutOfMemory>
-    ensures { IfOk result (λ s. frames_of s.items ≡ in_file ([], 0) ∷ []) }
-{
-    let mut stack = Vec::new(alloc);
-    open(&mut stack, Frame::InFile(empty(alloc)))?;
-    Ok(stack)
-}
-
-// What is told where reading stops at that place.
-fn told(stop: Stop, at: usize) -> ParseFault
-    ensures { result ≡ told stop at }
+// The fault where reading stops at that place.
+fn fault_at(stop: Stop, at: usize) -> ParseFault
+    ensures { result ≡ fault_at stop at }
 {
     match stop {
-        Stop::NotAFile => ParseFault::NotAFile(at),
+        Stop::Refused => ParseFault::NotAFile(at),
         Stop::OutOfMemory => ParseFault::OutOfMemory,
     }
 }
@@ -62,7 +51,7 @@ fn read(alloc: Global, tokens: &[Token]) -> Result<(Kept<Vec<Statement>>, usize)
     let mut deep = None;
     let mut state = State::Between;
     let mut inside = false;
-    let mut stack = match begun(alloc) {
+    let mut stack = match empty_file(alloc) {
         Ok(stack) => stack,
         Err(_) => return Err(ParseFault::OutOfMemory),
     };
@@ -71,8 +60,8 @@ fn read(alloc: Global, tokens: &[Token]) -> Result<(Kept<Vec<Statement>>, usize)
             Ok(terminal) => terminal,
             Err(_) => return stopped(ParseFault::OutOfMemory, (state, stack)),
         };
-        match turn(alloc, state, inside, &mut stack, token.at, terminal) {
-            Err(stop) => return stopped(told(stop, token.at), stack),
+        match step(alloc, state, inside, &mut stack, token.at, terminal) {
+            Err(stop) => return stopped(fault_at(stop, token.at), stack),
             Ok(next) => {
                 state = next.state;
                 inside = next.inside;
@@ -81,9 +70,9 @@ fn read(alloc: Global, tokens: &[Token]) -> Result<(Kept<Vec<Statement>>, usize)
         deep = noted(deep, &state, stack.as_slice(), token.at);
     }
     match finish(alloc, state, &mut stack) {
-        Err(stop) => stopped(told(stop, end), stack),
+        Err(stop) => stopped(fault_at(stop, end), stack),
         Ok(statements) => {
-            let_go(stack);
+            stack.discard();
             Ok((statements, deep.unwrap_or(end)))
         }
     }
@@ -113,9 +102,12 @@ fn parsed(alloc: Global, tokens: &[Token]) -> Result<File, ParseFault>
 ///
 /// # Errors
 ///
-/// `OutOfMemory` comes where memory was refused. Else `NotAFile` comes exactly where the tokens spell
-/// no file, and `TooDeep` exactly where an expression of the file that they spell nests above 64
-/// (`specs/Nesting` of `bicep_tree`). `specs/Refused` says of both which places are told.
+/// - `OutOfMemory`: memory was refused.
+/// - `NotAFile`: exactly where the tokens spell no file, unless memory was refused.
+/// - `TooDeep`: exactly where the tokens spell a file in which an expression nests above 64
+///   (`specs/Nesting` of `bicep_tree`), unless memory was refused.
+///
+/// The place of `NotAFile` and of `TooDeep` is an offset in bytes, as `TellsPlace` of `specs/Refused` says.
 pub fn parse(alloc: Global, tokens: &[Token]) -> Result<File, ParseFault>
     ensures spelled { IfOk result (λ f. Spells (file_of f.items) (map standing tokens.now)) }
     ensures shallow { IfOk result (λ f. file_nesting (file_of f.items) ≤ 64) }

@@ -2,12 +2,12 @@
 
 ghost use Rattle.std.specs.Prelude.{◌≡◌, Err};
 
-/// Why reading stops; the part is dropped.
-pub fn stopped<T: Drop, R, F: Drop>(why: F, _part: T) -> Result<R, F>
+use bicep_machine::Discard;
+
+/// Why reading stops; drops the part.
+pub fn stopped<T: Discard, R, F>(why: F, part: T) -> Result<R, F>
     ensures { result ≡ Err why }
 {
+    part.discard();
     Err(why)
 }
-
-/// Drops the part.
-pub fn let_go<T: Drop>(_part: T) {}

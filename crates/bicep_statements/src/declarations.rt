@@ -8,14 +8,17 @@ ghost use Rattle.bicep_machine.specs.Kept.{flat};
 ghost use Rattle.bicep_machine.specs.Closing.{of_statement};
 ghost use Rattle.bicep_machine.specs.Folding.{typing_step, assigning_step, assigned_to};
 ghost use Rattle.bicep_machine.specs.Machine.{declaring_step, declared_step, typed_step};
-ghost use Rattle.bicep_machine.specs.Views.{Gives, kept_decorators, kept_statement, assigned_of, frames_of, state_of, next_of, Frames};
+ghost use Rattle.foundation.specs.Stopping.{Gives};
+ghost use Rattle.bicep_machine.specs.Views.{kept_decorators, kept_statement, assigned_of, frames_of, state_of};
+ghost use Rattle.bicep_machine.specs.Views.{next_of, Frames};
 
 use crate::headers::head;
 use bicep_machine::{
-    Assigned, Frame, Kept, Next, Owner, State, Stop, Word, file, flat, open, refuse, statement_of,
+    Assigned, Frame, Kept, Next, Owner, State, Word, enter, file, flat, refuse, statement_of,
     type_of,
 };
 use bicep_tree::{Declaration, Decorator, Name, Statement, Terminal, TypeName};
+use foundation::Stop;
 use std::alloc::Global;
 
 // A declaration up to its `=`.
@@ -28,11 +31,8 @@ fn assign(
         (assigned_to (kept_decorators decorators) (assigned_of target)
         (frames_of stack.old.items)) }
 {
-    open(stack, Frame::Assigned(decorators, target))?;
-    Ok(Next {
-        state: State::Wanted(false),
-        inside: false,
-    })
+    let frame = Frame::Assigned(decorators, target);
+    enter(frame, State::Wanted(false), false, stack)
 }
 
 // `=` after the name of a declaration, or after its type.
@@ -90,8 +90,8 @@ fn type_declaration(
         (typing_step (kept_decorators decorators) from word name S terminal) }
 {
     match terminal {
-        Terminal::Name(text) => match type_of(&text) {
-            None => refuse((decorators, name, text)),
+        Terminal::Name(text) => match type_of(text) {
+            None => refuse((decorators, name)),
             Some(kind) => Ok(Next {
                 state: State::Typed(decorators, from, word, name, kind),
                 inside: false,

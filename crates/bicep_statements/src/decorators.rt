@@ -4,16 +4,20 @@
 ghost use Rattle.std.specs.Prelude.{◌≡◌};
 ghost use Rattle.bicep_tree.specs.declared.terminal.Terminal.TheVariants as t;
 ghost use Rattle.bicep_tree.specs.declared.leaf.Access.TheVariants as a;
-ghost use Rattle.bicep_machine.specs.Machine.{is_resource, child_on, decorated_word, at_sign_step, decorator_named_step, decorator_spaced_step, decorator_ready_step, decorated_step, past_decorators_step};
-ghost use Rattle.bicep_machine.specs.Views.{Gives, kept_decorators, frames_of, state_of, next_of, Frames};
+ghost use Rattle.bicep_machine.specs.Machine.{is_resource, child_on, decorated_word, at_sign_step};
+ghost use Rattle.bicep_machine.specs.Machine.{decorator_named_step, decorator_spaced_step, decorator_ready_step};
+ghost use Rattle.bicep_machine.specs.Machine.{decorated_step, past_decorators_step};
+ghost use Rattle.foundation.specs.Stopping.{Gives};
+ghost use Rattle.bicep_machine.specs.Views.{kept_decorators, frames_of, state_of, next_of, Frames};
 
 use crate::statements::declare;
 use arm_value::Text;
 use bicep_machine::{
-    Callee, Frame, Kept, Next, State, Stop, Word, close, empty, is_resource, is_sys, open, refuse,
+    Callee, Frame, Kept, Next, State, Word, close, empty, enter, is_resource, is_sys, open, refuse,
     run_out,
 };
 use bicep_tree::{Access, Decorator, Function, Name, Namespace, Terminal};
+use foundation::Stop;
 use std::alloc::Global;
 
 /// `@`
@@ -40,13 +44,14 @@ fn enter_space(decorators: Kept<Vec<Decorator>>, sign: usize, name: Name) -> Res
     ensures { (S : Frames) → Gives (λ n. (state_of n.state, n.inside, S)) result
         (decorator_named_step (kept_decorators decorators) sign name S (t.Access a.Member)) }
 {
-    if is_sys(&name.text) {
+    let at = name.at;
+    if is_sys(name.text) {
         Ok(Next {
-            state: State::DecoratorSpaced(decorators, sign, name.at),
+            state: State::DecoratorSpaced(decorators, sign, at),
             inside: false,
         })
     } else {
-        refuse((decorators, name))
+        refuse(decorators)
     }
 }
 
@@ -113,11 +118,8 @@ fn call_decorator(
         (frames_of stack.old.items) t.OpenParen) }
 {
     let callee = Callee::Decorator(decorators, sign, function);
-    open(stack, Frame::Calling(callee, false, empty(alloc)))?;
-    Ok(Next {
-        state: State::First,
-        inside: true,
-    })
+    let frame = Frame::Calling(callee, false, empty(alloc));
+    enter(frame, State::First, true, stack)
 }
 
 /// `@sys.f`
@@ -158,13 +160,13 @@ fn declare_child(decorators: Kept<Vec<Decorator>>, at: usize, word: Text) -> Res
     ensures { (S : Frames) → Gives (λ n. (state_of n.state, n.inside, S)) result
         (child_on (kept_decorators decorators) at (is_resource word) S) }
 {
-    if is_resource(&word) {
+    if is_resource(word) {
         Ok(Next {
             state: State::Declaring(decorators, at, Word::Child),
             inside: false,
         })
     } else {
-        refuse((decorators, word))
+        refuse(decorators)
     }
 }
 
@@ -189,8 +191,7 @@ fn decorated_word(
             Ok(()) => declare(decorators, at, word),
             Err(_) => run_out((decorators, word)),
         },
-        Some(other) => refuse((other, decorators, word)),
-        None => refuse((decorators, word)),
+        other => refuse((other, decorators, word)),
     }
 }
 

@@ -5,12 +5,14 @@ ghost use Rattle.std.specs.Prelude.{◌≡◌};
 ghost use Rattle.bicep_tree.specs.declared.terminal.Terminal.TheVariants as t;
 ghost use Rattle.bicep_machine.specs.Folding.{heading_step, headed_by};
 ghost use Rattle.bicep_machine.specs.Machine.{made_existing, existing_on, headed_step, existed_step};
-ghost use Rattle.bicep_machine.specs.Views.{Gives, kept_decorators, header_of, frames_of, state_of, next_of, Frames};
+ghost use Rattle.foundation.specs.Stopping.{Gives};
+ghost use Rattle.bicep_machine.specs.Views.{kept_decorators, header_of, frames_of, state_of, next_of, Frames};
 
 use bicep_machine::{
-    Frame, Front, Header, Kept, Next, Owner, State, Stop, is_existing, open, refuse,
+    Frame, Front, Header, Kept, Next, Owner, State, enter, header_of, is_existing, refuse,
 };
 use bicep_tree::{Decorator, Literal, Name, Quoted, Terminal};
+use foundation::Stop;
 use std::alloc::Global;
 
 // The text of a literal, after the name of a resource or a module.
@@ -25,15 +27,9 @@ fn head_with(
     ensures { (S : Frames) → Gives (λ n. (state_of n.state, n.inside, S)) result
         (headed_by (kept_decorators decorators) from owner name path S) }
 {
-    let header = Header {
-        decorators,
-        at: from,
-        owner,
-        name,
-        path,
-    };
+    let header = header_of(alloc, decorators, from, owner, name, path)?;
     Ok(Next {
-        state: State::Headed(Box::new(alloc, header)?),
+        state: State::Headed(header),
         inside: false,
     })
 }
@@ -80,11 +76,12 @@ fn begin_body(header: Box<Header>, stack: &mut Vec<Frame>) -> Result<Next, Stop>
     ensures { Gives (λ n. next_of n stack.new.items) result
         (existed_step (header_of header.value) (frames_of stack.old.items) t.Assign) }
 {
-    open(stack, Frame::Bodied(header, Front::Nothing))?;
-    Ok(Next {
-        state: State::Body,
-        inside: false,
-    })
+    enter(
+        Frame::Bodied(header, Front::Nothing),
+        State::Body,
+        false,
+        stack,
+    )
 }
 
 /// A resource or module up to its type text or path.
@@ -99,10 +96,10 @@ pub fn go_on_header(
     match terminal {
         Terminal::Assign => begin_body(header, stack),
         Terminal::Name(word) => {
-            if is_existing(&word) {
+            if is_existing(word) {
                 exist(header)
             } else {
-                refuse((header, word))
+                refuse(header)
             }
         }
         other => refuse((other, header)),

@@ -1,9 +1,10 @@
 //! What the reader of Bicep does at a token of a statement, of a decorator, and of the names of a body's loop.
 //!
 //! A caller may rely on it that each function gives what its step of the machine gives (`specs/Machine`
-//! of `bicep_machine`): where the token leads, and what is open there. `NotAFile` comes exactly where
-//! the machine has no step, and then the stack is of no further use. There is a function for each
-//! state of a statement; those of expressions and objects are in `bicep_expressions`.
+//! of `bicep_machine`): where the token leads, and what is open there. `Refused` comes exactly where
+//! the machine has no step, unless memory was refused; nothing is said of the stack then. There is a function for each
+//! state of a statement; those of expressions are in `bicep_expressions`, those of
+//! objects in `bicep_objects`.
 #![tactic(auto)]
 
 mod declarations;

@@ -4,11 +4,14 @@
 ghost use Rattle.std.specs.Prelude.{◌≡◌, ◌∷◌, Some, true};
 ghost use Rattle.bicep_machine.specs.Stack.{one_wanted, in_names};
 ghost use Rattle.bicep_tree.specs.declared.terminal.Terminal.TheVariants as t;
-ghost use Rattle.bicep_machine.specs.Machine.{for_wanted_step, names_wanted_step, one_wanted_step, one_named_step, other_wanted_step, both_named_step};
-ghost use Rattle.bicep_machine.specs.Views.{Gives, frames_of, state_of, next_of, Frames};
+ghost use Rattle.bicep_machine.specs.Machine.{for_wanted_step, names_wanted_step, one_wanted_step, one_named_step};
+ghost use Rattle.bicep_machine.specs.Machine.{other_wanted_step, both_named_step};
+ghost use Rattle.foundation.specs.Stopping.{Gives};
+ghost use Rattle.bicep_machine.specs.Views.{frames_of, state_of, next_of, Frames};
 
-use bicep_machine::{Frame, Next, State, Stop, close, is_for, open, refuse};
+use bicep_machine::{Frame, Next, State, close, enter, is_for, refuse};
 use bicep_tree::{LoopNames, Name, Terminal};
+use foundation::Stop;
 
 /// `[` in the place of a body.
 pub fn begin_loop(from: usize, terminal: Terminal) -> Result<Next, Stop>
@@ -17,13 +20,13 @@ pub fn begin_loop(from: usize, terminal: Terminal) -> Result<Next, Stop>
 {
     match terminal {
         Terminal::Name(word) => {
-            if is_for(&word) {
+            if is_for(word) {
                 Ok(Next {
                     state: State::NamesWanted(from),
                     inside: false,
                 })
             } else {
-                Err(Stop::NotAFile)
+                Err(Stop::Refused)
             }
         }
         other => refuse(other),
@@ -35,11 +38,7 @@ fn open_names(from: usize, stack: &mut Vec<Frame>) -> Result<Next, Stop>
     ensures { Gives (λ n. next_of n stack.new.items) result
         (Some (one_wanted, true, in_names from ∷ frames_of stack.old.items)) }
 {
-    open(stack, Frame::InNames(from))?;
-    Ok(Next {
-        state: State::OneWanted,
-        inside: true,
-    })
+    enter(Frame::InNames(from), State::OneWanted, true, stack)
 }
 
 /// `[for` in the place of a body.

@@ -1,4 +1,4 @@
-// Sources, and the tokens that they have.
+// Tests of the lexer: sources with their tokens, their faults, and what their texts mean.
 
 use crate::answers::Question;
 use crate::everyday::{NETWORK, SITE, STORAGE};
@@ -8,7 +8,7 @@ use std::alloc::{AllocError, Global};
 use std::process::Abort;
 use std::test::Fail;
 
-// The lines of a table, each up to its `⇒`, with that text before them and that one after each.
+// The source that a table has: `front`, and then the part of each line before its `⇒`, each with `newline` after it.
 fn source_of(alloc: Global, front: &str, newline: &str, table: &str) -> Result<String, AllocError> {
     let mut source = String::from_str(alloc, front)?;
     for line in table.lines() {
@@ -20,7 +20,7 @@ fn source_of(alloc: Global, front: &str, newline: &str, table: &str) -> Result<S
     Ok(source)
 }
 
-// The shapes of the lines of a table, which are fifty.
+// The shapes that a table has: the part of each of its fifty lines after the `⇒`.
 fn shapes_of(alloc: Global, table: &str) -> Result<String, Fail> {
     let mut shapes = String::new(alloc);
     let mut lines = 0usize;
@@ -47,8 +47,8 @@ fn compare_lines(
 ) -> Result<(), Fail> {
     let source = source_of(alloc, front, newline, table)?;
     let found = shapes(alloc, source.as_str())?;
-    let wanted = shapes_of(alloc, table)?;
-    assert_eq!(rt; found.as_str(), wanted.as_str());
+    let expected = shapes_of(alloc, table)?;
+    assert_eq!(rt; found.as_str(), expected.as_str());
     Ok(())
 }
 
@@ -67,7 +67,7 @@ fn a_site_after_a_byte_order_mark_has_its_tokens(rt: HostRuntime) -> Result<(), 
     compare_lines(&rt, rt.alloc(), "\u{feff}", "\r\n", SITE)
 }
 
-// Sources without tokens, and why they have none.
+// Sources with faults, and their faults.
 const FAULTS: &str = "\
 §var a = 'x => open text at 8
 §'a${'b => open text at 0
@@ -116,7 +116,7 @@ const FAULTS: &str = "\
 ";
 
 #[test]
-fn faults_are_told_at_their_places(rt: HostRuntime) -> Result<(), Fail> {
+fn faults_have_their_places(rt: HostRuntime) -> Result<(), Fail> {
     compare(&rt, rt.alloc(), Question::Shapes, FAULTS, 38)
 }
 
@@ -173,10 +173,11 @@ a\\t''|
 a\\t''
 §'''''' => |
 §'\\u{41}\u{e9}\\u{0000fc}' => A\u{e9}\u{fc}|A\u{e9}\u{fc}
+§'a$$${x}$b$' => a$$|$b$
 §abc 007 => abc|007
 ";
 
 #[test]
 fn texts_mean_their_characters(rt: HostRuntime) -> Result<(), Fail> {
-    compare(&rt, rt.alloc(), Question::Values, VALUES, 9)
+    compare(&rt, rt.alloc(), Question::Values, VALUES, 10)
 }

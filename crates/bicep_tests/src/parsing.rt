@@ -120,7 +120,7 @@ fn files_are_read(rt: HostRuntime) -> Result<(), Fail> {
     compare(&rt, rt.alloc(), Question::Statements, FILES, 34)
 }
 
-// Near misses, and the offset from which no file goes on.
+// Near misses, and the offset from which no file continues.
 const EXPRESSION_MISSES: &str = "\
 §var a = 5 5 => not a file at 10
 §var a = => not a file at 7

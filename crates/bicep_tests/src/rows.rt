@@ -5,7 +5,7 @@ use std::alloc::Global;
 use std::process::Abort;
 use std::test::Fail;
 
-// Adds what stands between `«` and `»`: a number of times, `:`, and a part that comes so often.
+// Adds what is between `«` and `»`: a count, `:`, and a part that is repeated that often.
 fn add_repeated(out: &mut String, repeated: &str) -> Result<(), Fail> {
     let Some((times, part)) = repeated.split_once(':') else {
         return Err(Fail::from("a part without its number"));

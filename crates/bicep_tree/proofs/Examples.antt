@@ -1,7 +1,6 @@
 -- Texts as the grammar reads them.
-use Rattle.std.proofs.Common.{◌≡◌, ℕ, pos, Bool, true, false, List, [], ◌∷◌, codes, refl, arith}
+use Rattle.std.proofs.Common.{ℕ, pos, Bool, true, false, List, [], ◌∷◌, codes, refl, arith}
 use Rattle.bicep_tree.specs.declared.leaf.Name.{Name}
-use Rattle.bicep_tree.specs.declared.leaf.Quoted.{Quoted}
 use Rattle.bicep_tree.specs.declared.leaf.Literal.TheVariants as l
 use Rattle.bicep_tree.specs.declared.leaf.LoopNames.TheVariants as ns
 use Rattle.bicep_tree.specs.declared.leaf.Function.TheVariants as f
@@ -9,14 +8,13 @@ use Rattle.bicep_tree.specs.declared.leaf.Namespace.TheVariants as space
 use Rattle.bicep_tree.specs.declared.leaf.Access.TheVariants as a
 use Rattle.bicep_tree.specs.declared.leaf.Prefix.TheVariants as p
 use Rattle.bicep_tree.specs.declared.leaf.Operator.TheVariants as o
-use Rattle.bicep_tree.specs.declared.terminal.Terminal.{Terminal}
 use Rattle.bicep_tree.specs.declared.terminal.Terminal.TheVariants as t
-use Rattle.bicep_tree.specs.Tree.{Tree, name, literal, interpolated, object, array, call, prefixed, binary}
-use Rattle.bicep_tree.specs.Tree.{conditional, none, more, no_hole, hole, braces, child, no_member, and_member, plain}
+use Rattle.bicep_tree.specs.Tree.{Tree, name, literal, interpolated, array, call, prefixed, binary}
+use Rattle.bicep_tree.specs.Tree.{conditional, none, more, no_hole, hole, braces, child, no_member}
 use Rattle.bicep_tree.specs.Tree.{each, loop, no_decorator, resource, body_plain}
 use Rattle.bicep_tree.specs.Terminals.{Placed}
 use Rattle.bicep_tree.specs.Forms.{skipped}
-use Rattle.bicep_tree.specs.Expressions.{expression, a_member, value, separators, separated}
+use Rattle.bicep_tree.specs.Expressions.{expression, a_member, value}
 use Rattle.bicep_tree.proofs.FormLemmas.{any_none, none_skipped, its_sign, its_token, its_token_at}
 
 abbrev number : ℕ → ℕ → Tree

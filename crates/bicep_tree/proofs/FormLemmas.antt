@@ -1,8 +1,8 @@
 -- Forms of single tokens.
-use Rattle.std.proofs.Common.{◌≡◌, ℕ, Bool, List, [], ◌∷◌, refl}
+use Rattle.std.proofs.Common.{ℕ, Bool, List, [], ◌∷◌, refl}
 use Rattle.bicep_tree.specs.declared.terminal.Terminal.{Terminal}
 use Rattle.bicep_tree.specs.Terminals.{Placed}
-use Rattle.bicep_tree.specs.Forms.{is_separator, any, skipped, sign, token_at, token}
+use Rattle.bicep_tree.specs.Forms.{any, skipped, sign, token_at, token}
 
 pub any_none : (test : Terminal → Bool) (ts : List Placed) → any test ts ts
 any_none test ts = ([], tt, refl)

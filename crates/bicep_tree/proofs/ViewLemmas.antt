@@ -1,5 +1,5 @@
 -- What the views of trees are, variant by variant.
-use Rattle.std.proofs.Common.{◌≡◌, ℕ, List, map, Bool, refl, ap, sym, ◌∙◌}
+use Rattle.std.proofs.Common.{◌≡◌, ℕ, List, map, ap, sym, ◌∙◌}
 use Rattle.std.specs.declared.vec.Vec.{Vec}
 use Rattle.std.specs.declared.boxed.Box.{Box}
 use Rattle.std.specs.declared.alloc.Global.{Global}

@@ -1,5 +1,5 @@
 -- Which tokens spell which files (Microsoft Learn, "Bicep file structure and syntax").
-use Rattle.std.specs.Prelude.{◌≡◌, ℕ, ◌⊎◌, Bool, false, List, [], ◌∷◌, map, codes}
+use Rattle.std.specs.Prelude.{ℕ, false, List, [], ◌∷◌, map, codes}
 use Rattle.bicep_lexer.specs.Reading.{Standing}
 use Rattle.bicep_tree.specs.declared.leaf.TypeName.{TypeName}
 use Rattle.bicep_tree.specs.declared.leaf.TypeName.TheVariants as type
@@ -43,7 +43,7 @@ abbrev mutual
   a_file [] = any is_newline
   a_file (s ∷ ss) = any is_newline ▹ a_statement s ▹ further_statements ss
 
-  -- the statements behind one
+  -- the statements after one
   pub further_statements : FileTree → Form
   further_statements [] = any is_newline
   further_statements (s ∷ ss) = one is_newline ▹ any is_newline ▹ a_statement s ▹ further_statements ss

@@ -1,9 +1,7 @@
--- Which tokens spell which expressions, and what stands in their objects (Microsoft Learn, "Bicep file structure and
--- syntax"). `inside` says that newlines are skipped: between `(` and `)`, but not between the braces and the array
--- brackets
--- there. Behind an operator between operands, and on both sides of the `?` and the `:` of a conditional, they are
--- skipped
--- everywhere.
+-- Which tokens spell which expressions and the members of their objects (Microsoft Learn, "Bicep file structure and
+-- syntax"). `inside` is true where newlines are skipped: between `(` and `)`, outside the braces and the array brackets
+-- there. After an operator between operands, and on both sides of the `?` and the `:` of a conditional, newlines are
+-- skipped everywhere.
 use Rattle.std.specs.Prelude.{ℕ, Bool, true, false, List, codes}
 use Rattle.bicep_tree.specs.declared.leaf.LoopNames.{LoopNames}
 use Rattle.bicep_tree.specs.declared.leaf.LoopNames.TheVariants as ns
@@ -67,7 +65,7 @@ abbrev mutual
   arguments none = token true t.CloseParen
   arguments (more e es) = expression true e ▹ further_arguments es
 
-  -- the arguments behind one
+  -- the arguments after one
   pub further_arguments : Trees → Form
   further_arguments none = token true t.CloseParen
   further_arguments (more e es) = token true t.Comma ▹ expression true e ▹ further_arguments es
@@ -77,17 +75,17 @@ abbrev mutual
   items none = sign t.CloseBracket
   items (more e es) = expression false e ▹ further_items es
 
-  -- the items behind one
+  -- the items after one
   pub further_items : Trees → Form
   further_items none = separators ▹ sign t.CloseBracket
   further_items (more e es) = separated ▹ expression false e ▹ further_items es
 
-  -- a hole of an interpolated text, and what is behind it
+  -- a hole of an interpolated text, and the parts after it
   pub a_hole : Bool → Holes → Form
   a_hole i no_hole = never
   a_hole i (hole e s hs) = expression i e ▹ behind_hole i s hs
 
-  -- the characters behind a hole, and the other holes
+  -- the characters after a hole, and the other holes
   pub behind_hole : Bool → List ℕ → Holes → Form
   behind_hole i s no_hole = token i (t.RightPiece s)
   behind_hole i s (hole e u hs) = token i (t.MiddlePiece s) ▹ expression i e ▹ behind_hole i u hs
@@ -100,7 +98,7 @@ abbrev mutual
   object_members no_member = sign t.CloseBrace
   object_members (and_member m ms) = a_member m ▹ further_members ms
 
-  -- the members behind one
+  -- the members after one
   pub further_members : MemberTrees → Form
   further_members no_member = separators ▹ sign t.CloseBrace
   further_members (and_member m ms) = separated ▹ a_member m ▹ further_members ms

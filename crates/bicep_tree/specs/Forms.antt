@@ -53,7 +53,7 @@ abbrev pub is_newline : Terminal → Bool
 is_newline t.Newline = true
 is_newline s = false
 
--- what stands between members, and between items
+-- a newline or a comma, between members and between items
 abbrev pub is_separator : Terminal → Bool
 is_separator t.Newline = true
 is_separator t.Comma = true
@@ -107,13 +107,13 @@ abbrev pub namespace_word : Namespace → List ℕ
 namespace_word n.Sys = codes "sys"
 namespace_word n.Az = codes "az"
 
--- the name of a function; only behind `sys` and `az` does another name stand before it
+-- the name of a function: a name, or `sys` or `az`, a dot and a name
 abbrev pub function : Bool → Function → Form
 function inside (f.Plain n) = named inside n
 function inside (f.Qualified at space n) =
     token_at inside at (t.Name (namespace_word space)) ▹ token inside (t.Access a.Member) ▹ named inside n
 
--- the name of a decorator, alone or behind `sys`
+-- the name of a decorator: a name, or `sys`, a dot and a name
 abbrev pub decorating : Function → Form
 decorating (f.Plain n) = named false n
 decorating (f.Qualified at n.Sys n) = sign_at at (t.Name (codes "sys")) ▹ sign (t.Access a.Member) ▹ named false n

@@ -6,4 +6,5 @@ pub mod Forms
 pub mod Expressions
 pub mod Declarations
 pub mod Offset
+pub mod Symbol
 pub mod View

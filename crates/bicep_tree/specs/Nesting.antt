@@ -1,5 +1,5 @@
 -- How deep expressions nest: a leaf 0, and every composite one more than its deepest part.
-use Rattle.std.specs.Prelude.{ℕ, ◌+◌, max, List, [], ◌∷◌}
+use Rattle.std.specs.Prelude.{ℕ, ◌+◌, max, [], ◌∷◌}
 use Rattle.bicep_tree.specs.Tree.{Tree, name, literal, interpolated, object, array, parentheses, call, access, index}
 use Rattle.bicep_tree.specs.Tree.{not_null, prefixed, binary, conditional, Trees, none, more, Holes, no_hole, hole}
 use Rattle.bicep_tree.specs.Tree.{ObjectTree, braces, MemberTree, property, child, MemberTrees, no_member, and_member}

@@ -1,9 +1,9 @@
 -- How tightly expressions bind (Microsoft Learn, "Bicep operators", operator precedence and associativity).
-use Rattle.std.specs.Prelude.{◌≡◌, ℕ, ◌<◌, ◌≤◌}
+use Rattle.std.specs.Prelude.{ℕ, ◌<◌, ◌≤◌}
 use Rattle.bicep_tree.specs.declared.leaf.Operator.{Operator}
 use Rattle.bicep_tree.specs.declared.leaf.Operator.TheVariants as o
-use Rattle.bicep_tree.specs.Tree.{Tree, name, literal, interpolated, object, array, parentheses, call, access, index}
-use Rattle.bicep_tree.specs.Tree.{not_null, prefixed, binary, conditional}
+use Rattle.bicep_tree.specs.Tree.{Tree}
+use Rattle.bicep_tree.specs.Tree.{prefixed, binary, conditional}
 
 -- how tightly an operator binds
 abbrev pub level : Operator → ℕ
@@ -40,7 +40,7 @@ Groups p a b = (level p ≤ rank a) × (level p < rank b)
 abbrev pub IsPrimary : Tree → Type 0
 IsPrimary e = 9 ≤ rank e
 
--- needs none behind a prefix
+-- needs none after a prefix
 abbrev pub IsUnary : Tree → Type 0
 IsUnary e = 8 ≤ rank e
 

@@ -60,6 +60,13 @@ mark_terminal k.Slash = t.Operator o.Divide
 mark_terminal k.Percent = t.Operator o.Remainder
 mark_terminal kind = t.Other
 
+-- a text or a piece of one, by the characters that it means
+abbrev pub text_terminal : TokenKind → List ℕ → Terminal
+text_terminal k.LeftPiece text = t.LeftPiece text
+text_terminal k.MiddlePiece text = t.MiddlePiece text
+text_terminal k.RightPiece text = t.RightPiece text
+text_terminal kind text = t.Literal (l.Text text)
+
 -- what tokens of each kind are taken as
 abbrev pub kind_terminal : TokenKind → List ℕ → Terminal
 kind_terminal k.Name bytes = word_terminal (chars bytes)

@@ -13,7 +13,7 @@ use Rattle.bicep_tree.specs.declared.leaf.Operator.{Operator}
 use Rattle.bicep_tree.specs.declared.leaf.TypeName.{TypeName}
 
 mutual
-  -- an expression; a number is where its first token stands
+  -- an expression; a number is the offset of its first token
   pub data Tree : Type 0 where
     name : Name → Tree
     literal : ℕ → Literal → Tree
@@ -36,7 +36,7 @@ mutual
 
   pub data Holes : Type 0 where
     no_hole : Holes
-    -- a value, the characters behind it, and the holes behind these
+    -- a value, the characters after it, and the holes after these
     hole : Tree → List ℕ → Holes → Holes
 
   pub data ObjectTree : Type 0 where
@@ -89,7 +89,7 @@ pub data DeclarationTree : Type 0 where
   a_resource : ResourceTree → DeclarationTree
   a_module : ℕ → Name → Quoted → BodyTree → DeclarationTree
 
--- a declaration behind its decorators
+-- a declaration after its decorators
 pub data StatementTree : Type 0 where
   statement : DecoratorTrees → DeclarationTree → StatementTree
 

@@ -1,4 +1,4 @@
--- The tree that a value of the code stands for.
+-- The tree that a value of the code represents.
 use Rattle.std.specs.Prelude.{ℕ, List, map}
 use Rattle.bicep_tree.specs.declared.expr.Body.{Body, fold-Body}
 use Rattle.bicep_tree.specs.declared.expr.Decorator.{Decorator, fold-Decorator}
@@ -21,7 +21,7 @@ use Rattle.bicep_tree.specs.Tree.{ResourceTree, resource, BodyTree, body_plain, 
 use Rattle.bicep_tree.specs.Tree.{DeclarationTree, metadata, target_scope, param, param_with, var, output, a_resource}
 use Rattle.bicep_tree.specs.Tree.{a_module, StatementTree, statement, FileTree, trees, holes, members, decorators}
 
--- a hole's value, and the characters behind it
+-- a hole's value, and the characters after it
 abbrev pub HoleTree : Type 0
 HoleTree = Tree × List ℕ
 

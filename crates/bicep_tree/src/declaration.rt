@@ -3,7 +3,8 @@
 use crate::expr::{Body, Decorator, Expr, Resource, Value};
 use crate::leaf::{Name, Quoted, TypeName};
 
-/// A declaration. The first number is the offset of its word; a resource has its own.
+/// A declaration. A number in front of a variant is the offset of the declaration's first word in the
+/// source, in bytes; a resource has its own (`Declaration::at`).
 #[derive(Drop)]
 pub enum Declaration {
     /// `metadata name = e`
@@ -24,12 +25,12 @@ pub enum Declaration {
     Module(usize, Name, Quoted, Body),
 }
 
-/// A declaration and the decorators before it.
+/// A declaration after its decorators.
 #[derive(Drop)]
 pub struct Statement {
     /// Its decorators in order.
     pub decorators: Vec<Decorator>,
-    /// What it declares.
+    /// The declaration.
     pub declaration: Declaration,
 }
 

@@ -1,12 +1,12 @@
-//! Expressions, and what stands inside their objects. Places are offsets of bytes in the source.
+//! Expressions and the members of their objects. A place is an offset in the source, in bytes.
 
 use crate::leaf::{
     Access, Function, Indexing, Label, Literal, LoopNames, Name, Operator, Prefix, Quoted,
 };
 use arm_value::Text;
 
-/// An expression. Where a variant begins with a number, that is the offset of its first token in the
-/// source; the others begin where their first part does (`Expr::at`).
+/// An expression. A number in front of a variant is the offset of its first token in the source, in bytes.
+/// The other variants begin where their first part begins (`Expr::at`).
 #[cycle(tree)]
 #[derive(Drop)]
 pub enum Expr {
@@ -14,7 +14,7 @@ pub enum Expr {
     Name(Name),
     /// `1`, `'a'`, `true`, `false` or `null`
     Literal(usize, Literal),
-    /// `'a${x}b'`: the characters before the first hole, and the holes, of which there is one at least.
+    /// `'a${x}b'`: the characters before the first hole, and one or more holes.
     Interpolated(usize, Text, Vec<Hole>),
     /// `{ .. }`
     Object(Object),
@@ -38,27 +38,27 @@ pub enum Expr {
     Conditional(Box<Expr>, Box<Expr>, Box<Expr>),
 }
 
-/// A hole of an interpolated text, and the characters behind it up to the next hole or the end.
+/// A hole of an interpolated text, and the characters from its `}` to the next hole or the end.
 #[cycle(tree)]
 #[derive(Drop)]
 pub struct Hole {
     /// The expression between `${` and `}`.
     pub value: Expr,
-    /// The characters behind it, by what they mean.
+    /// The characters after it, with escapes replaced.
     pub after: Text,
 }
 
-/// `{ .. }`, and where it begins.
+/// `{ .. }` and its place.
 #[cycle(tree)]
 #[derive(Drop)]
 pub struct Object {
-    /// The offset of its `{`.
+    /// The offset of its `{`, in bytes.
     pub at: usize,
     /// Its members in order.
     pub members: Vec<Member>,
 }
 
-/// What stands in an object.
+/// A member of an object.
 #[cycle(tree)]
 #[derive(Drop)]
 pub enum Member {
@@ -68,7 +68,7 @@ pub enum Member {
     Child(Vec<Decorator>, Resource),
 }
 
-/// What a variable, an output or a property is given.
+/// The value of a variable, an output or a property.
 #[cycle(tree)]
 #[derive(Drop)]
 pub enum Value {
@@ -78,11 +78,11 @@ pub enum Value {
     Each(Loop, Expr),
 }
 
-/// `[for x in xs:`, and where it begins.
+/// `[for x in xs:` and its place.
 #[cycle(tree)]
 #[derive(Drop)]
 pub struct Loop {
-    /// The offset of its `[`.
+    /// The offset of its `[`, in bytes.
     pub at: usize,
     /// The names of an item.
     pub names: LoopNames,
@@ -90,11 +90,11 @@ pub struct Loop {
     pub over: Expr,
 }
 
-/// `@f(a)`, and where it begins.
+/// `@f(a)` and its place.
 #[cycle(tree)]
 #[derive(Drop)]
 pub struct Decorator {
-    /// The offset of its `@`.
+    /// The offset of its `@`, in bytes.
     pub at: usize,
     /// `f`, or `sys.f`.
     pub function: Function,
@@ -102,32 +102,32 @@ pub struct Decorator {
     pub arguments: Vec<Expr>,
 }
 
-/// `resource name 'type@version' = body`, and where it begins.
+/// `resource name 'type@version' = body` and its place.
 #[cycle(tree)]
 #[derive(Drop)]
 pub struct Resource {
-    /// The offset of the word `resource`.
+    /// The offset of the word `resource`, in bytes.
     pub at: usize,
     /// Its symbol.
     pub name: Name,
     /// Its type text, `type@version`.
     pub path: Quoted,
-    /// Whether the word `existing` stands before the `=`.
+    /// Whether the word `existing` is written before the `=`.
     pub existing: bool,
-    /// What stands behind the `=`.
+    /// The part after the `=`.
     pub body: Body,
 }
 
-/// What a resource or a module is.
+/// The part of a resource or a module after its `=`.
 #[cycle(tree)]
 #[derive(Drop)]
 pub enum Body {
     /// `{ .. }`
     Plain(Object),
-    /// `if (c) { .. }`, and where it begins.
+    /// `if (c) { .. }`, with the offset of the `if` in bytes.
     If(usize, Expr, Object),
     /// `[for x in xs: { .. }]`
     Each(Loop, Object),
-    /// `[for x in xs: if (c) { .. }]`, with the offset of the `if`.
+    /// `[for x in xs: if (c) { .. }]`, with the offset of the `if` in bytes.
     EachIf(Loop, usize, Expr, Object),
 }

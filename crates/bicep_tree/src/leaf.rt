@@ -1,22 +1,22 @@
-//! The parts of a tree that have no parts of their own. Places are offsets of bytes in the source.
+//! The parts of a tree that have no parts of their own. A place is an offset in the source, in bytes.
 
 use arm_value::Text;
 
-/// A name, and where it begins.
+/// A name and its place.
 #[derive(Drop)]
 pub struct Name {
-    /// The offset of its first byte.
+    /// The offset of its first byte, in bytes.
     pub at: usize,
     /// Its characters.
     pub text: Text,
 }
 
-/// A text without interpolation by what it means, and where it begins.
+/// A text without interpolation and its place.
 #[derive(Drop)]
 pub struct Quoted {
-    /// The offset of its first quote.
+    /// The offset of its first quote, in bytes.
     pub at: usize,
-    /// The characters that it means.
+    /// The characters that it means, without its quotes and with its escapes replaced.
     pub text: Text,
 }
 
@@ -32,9 +32,9 @@ pub enum Label {
 /// A value that is one token.
 #[derive(Drop)]
 pub enum Literal {
-    /// A whole number, which is not negative.
+    /// A whole number from 0 to 2^63 - 1.
     Number(i64),
-    /// A text without interpolation, by what it means.
+    /// A text without interpolation, by the characters that it means.
     Text(Text),
     /// `true`
     True,
@@ -67,11 +67,11 @@ pub enum Namespace {
 pub enum Function {
     /// `f`
     Plain(Name),
-    /// `sys.f` or `az.f`, and where it begins.
+    /// `sys.f` or `az.f`, with the offset of `sys` or `az` in bytes.
     Qualified(usize, Namespace, Name),
 }
 
-/// How a part is named behind a value.
+/// How a part of a value is named, after the value.
 #[derive(Clone, Copy, PartialEq, Eq)]
 pub enum Access {
     /// `.`
@@ -82,7 +82,7 @@ pub enum Access {
     Nested,
 }
 
-/// How an index stands behind a value.
+/// How an index is written, after a value.
 #[derive(Clone, Copy, PartialEq, Eq)]
 pub enum Indexing {
     /// `[i]`
@@ -91,7 +91,7 @@ pub enum Indexing {
     Safe,
 }
 
-/// An operator before its operand.
+/// An operator that is written before its operand.
 #[derive(Clone, Copy, PartialEq, Eq)]
 pub enum Prefix {
     /// `!`
@@ -100,7 +100,7 @@ pub enum Prefix {
     Negate,
 }
 
-/// An operator between its operands.
+/// An operator that is written between its operands.
 #[derive(Clone, Copy, PartialEq, Eq)]
 pub enum Operator {
     /// `??`

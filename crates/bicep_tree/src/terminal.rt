@@ -3,20 +3,20 @@
 use crate::leaf::{Access, Literal, Operator};
 use arm_value::Text;
 
-/// A token as the grammar takes it: a word that is a value is no name.
+/// What the grammar sees in a token. `true`, `false` and `null` are literals and no names.
 #[derive(Drop)]
 pub enum Terminal {
-    /// A word that is no value, by its characters.
+    /// A word other than `true`, `false` and `null`, by its characters.
     Name(Text),
-    /// A number, a text without interpolation, or a word that is a value.
+    /// A number, a text without interpolation, `true`, `false` or `null`.
     Literal(Literal),
     /// The characters of an interpolated text before its first hole.
     LeftPiece(Text),
     /// The characters between two holes.
     MiddlePiece(Text),
-    /// The characters behind the last hole.
+    /// The characters after the last hole.
     RightPiece(Text),
-    /// An operator that stands between operands; `-` may stand before one.
+    /// An operator between operands; `-` is also a prefix.
     Operator(Operator),
     /// `!`
     Not,
@@ -46,8 +46,8 @@ pub enum Terminal {
     Assign,
     /// `@`
     At,
-    /// One end of a line, or several in a row.
+    /// One line end, or several in a row.
     Newline,
-    /// A number beyond what a literal holds.
+    /// A number of 2^63 or more.
     Other,
 }

@@ -3,7 +3,8 @@
 ghost use Rattle.std.specs.Prelude.{◌≡◌, chars, IfOk};
 ghost use Rattle.bicep_lexer.specs.Bytes.{number_from};
 ghost use Rattle.bicep_lexer.specs.Reading.{standing};
-ghost use Rattle.bicep_tree.specs.Terminals.{counted, word_terminal, mark_terminal, terminal_of};
+ghost use Rattle.bicep_tree.specs.Terminals.{counted, word_terminal, mark_terminal};
+ghost use Rattle.bicep_tree.specs.Terminals.{text_terminal, terminal_of};
 
 use crate::leaf::{Access, Literal, Operator};
 use crate::terminal::Terminal;
@@ -97,19 +98,31 @@ fn mark_terminal(kind: TokenKind) -> Terminal
     }
 }
 
-/// The token as the grammar takes it. A number beyond what a literal holds, which no source has, is
-/// `Terminal::Other`. Memory that is refused is `OutOfMemory`.
+// The terminal of a text or a piece of one, by the characters that it means.
+fn text_terminal(kind: TokenKind, text: Text) -> Terminal
+    ensures { result ≡ text_terminal kind text }
+{
+    match kind {
+        TokenKind::LeftPiece => Terminal::LeftPiece(text),
+        TokenKind::MiddlePiece => Terminal::MiddlePiece(text),
+        TokenKind::RightPiece => Terminal::RightPiece(text),
+        _ => Terminal::Literal(Literal::Text(text)),
+    }
+}
+
+/// What the grammar sees in the token. A number of 2^63 or more, which `tokens` never returns, is
+/// `Terminal::Other`. Where memory is refused: `OutOfMemory`.
 pub fn terminal_of(alloc: Global, token: &Token) -> Result<Terminal, OutOfMemory>
     ensures { IfOk result (λ t. t ≡ terminal_of (standing token.now)) }
 {
     match token.kind {
         TokenKind::Name => word_terminal(alloc, token.text),
         TokenKind::Number => Ok(number_of(token.text.as_bytes())),
-        TokenKind::Text => Ok(Terminal::Literal(Literal::Text(token.value(alloc)?))),
-        TokenKind::VerbatimText => Ok(Terminal::Literal(Literal::Text(token.value(alloc)?))),
-        TokenKind::LeftPiece => Ok(Terminal::LeftPiece(token.value(alloc)?)),
-        TokenKind::MiddlePiece => Ok(Terminal::MiddlePiece(token.value(alloc)?)),
-        TokenKind::RightPiece => Ok(Terminal::RightPiece(token.value(alloc)?)),
+        TokenKind::Text
+        | TokenKind::VerbatimText
+        | TokenKind::LeftPiece
+        | TokenKind::MiddlePiece
+        | TokenKind::RightPiece => Ok(text_terminal(token.kind, token.value(alloc)?)),
         _ => Ok(mark_terminal(token.kind)),
     }
 }

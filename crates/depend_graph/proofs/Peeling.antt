@@ -41,9 +41,9 @@ pub chain_head : (g : Shape) (n : ℕ) (rest : List ℕ) (end : ℕ) → Chain g
 chain_head g n [] end c = c.0
 chain_head g n (m ∷ rest) end c = c.0
 
--- a node stands at the head or behind it
-stands : (n x : ℕ) (rest : List ℕ) → 1 ≤ times (n ∷ rest) x → (n ≡ x) ⊎ (1 ≤ times rest x)
-stands n x rest h = by (cases_eq n x)
+-- a node is at the head or after it
+at_head_or_after : (n x : ℕ) (rest : List ℕ) → 1 ≤ times (n ∷ rest) x → (n ≡ x) ⊎ (1 ≤ times rest x)
+at_head_or_after n x rest h = by (cases_eq n x)
   where
     by : (n ≡ x) ⊎ (n ≡ x → ⊥) → (n ≡ x) ⊎ (1 ≤ times rest x)
     by (inl e) = inl e
@@ -63,9 +63,9 @@ chain_node_by g n x m rest (inr there) f need free more = more there
 chain_node : (g : Shape) (xs : List ℕ) (end x : ℕ) → Chain g xs end → is_done g end ≡ false → 1 ≤ times xs x → Waits g x
 chain_node g [] end x c f h = absurd c
 chain_node g (n ∷ []) end x c f h =
-    chain_node_by g n x end [] (stands n x [] h) c.0 c.1 f (λ none. absurd (omega arith))
+    chain_node_by g n x end [] (at_head_or_after n x [] h) c.0 c.1 f (λ none. absurd (omega arith))
 chain_node g (n ∷ m ∷ rest) end x c f h =
-    chain_node_by g n x m (m ∷ rest) (stands n x (m ∷ rest) h) c.0 c.1 (chain_head g m rest end c.2)
+    chain_node_by g n x m (m ∷ rest) (at_head_or_after n x (m ∷ rest) h) c.0 c.1 (chain_head g m rest end c.2)
     (λ there. chain_node g (m ∷ rest) end x c.2 f there)
 
 undone_still : (done : List Bool) (n node : ℕ) → get_or done n false ≡ false → (n ≡ node → ⊥)
@@ -231,7 +231,7 @@ filter_passes p (x ∷ xs) u some = by (p x) refl some (filter_passes p xs u)
   where
     by : (b : Bool) → p x ≡ b → 1 ≤ times (cond b (x ∷ filter p xs) (filter p xs)) u
         → (1 ≤ times (filter p xs) u → p u ≡ true) → p u ≡ true
-    by true is there rest = among (stands x u (filter p xs) there)
+    by true is there rest = among (at_head_or_after x u (filter p xs) there)
       where
         among : (x ≡ u) ⊎ (1 ≤ times (filter p xs) u) → p u ≡ true
         among (inl same) = ap p (sym same) ∙ is

@@ -1,5 +1,6 @@
 // Finding a circle of undone nodes.
-ghost use Rattle.std.specs.Prelude.{◌≡◌, ◌≢◌, ◌<◌, ◌≤◌, ◌++◌, ◌∷◌, ℕ, List, [], length, false, filter, slice_index_or, slice_index, drop, All, ◌+◌, ◌^◌, true, IfOk, IfSome, IfNone, is_ok, if◌then◌else◌, OnOk};
+ghost use Rattle.std.specs.Prelude.{◌≡◌, ◌≢◌, ◌<◌, ◌≤◌, ◌++◌, ◌∷◌, ◌^◌, ℕ, List, [], length, false, true, filter};
+ghost use Rattle.std.specs.Prelude.{slice_index_or, slice_index, All, IfOk, IfSome, IfNone, OnOk, if◌then◌else◌};
 ghost use Rattle.depend_graph.specs.Shape.{Shape, times, undone, needs_of, is_done, IsCircle};
 ghost use Rattle.depend_graph.specs.Circles.{can_start, IsBlocked, KeepsCircles, marked};
 
@@ -18,7 +19,8 @@ fn list_start(
 ) -> Result<(), OutOfMemory>
     requires done_in { node < length done.now }
     requires unmet_in { node < length unmet.now }
-    ensures { OnOk result (ready.new.items ≡ ready.old.items ++ (if can_start done.now unmet.now node then node ∷ [] else [])) }
+    ensures { OnOk result (ready.new.items
+        ≡ ready.old.items ++ (if can_start done.now unmet.now node then node ∷ [] else [])) }
 {
     if !done[node as usize] && unmet[node as usize] == 0 {
         ready.push(node)?;
@@ -35,7 +37,8 @@ fn list_starts(
 ) -> Result<(), OutOfMemory>
     requires done_in { (u : ℕ) → 1 ≤ times nodes.now u → u < length done.now }
     requires unmet_in { length unmet.now ≡ length done.now }
-    ensures { OnOk result (ready.new.items ≡ ready.old.items ++ filter (can_start done.now unmet.now) nodes.now) }
+    ensures { OnOk result (ready.new.items
+        ≡ ready.old.items ++ filter (can_start done.now unmet.now) nodes.now) }
 {
     for node in nodes {
         list_start(ready, *node, done, unmet)?;
@@ -46,7 +49,7 @@ fn list_starts(
 // The first of the nodes that is undone.
 fn first_undone(nodes: &BTreeSet<u32>, done: &[bool]) -> u32
     requires { undone done.now nodes.now.keys ≢ [] }
-    ensures stands { 1 ≤ times nodes.now.keys result }
+    ensures listed { 1 ≤ times nodes.now.keys result }
     ensures undone { slice_index_or done.now result false ≡ false }
 {
     for node in nodes {
@@ -57,11 +60,12 @@ fn first_undone(nodes: &BTreeSet<u32>, done: &[bool]) -> u32
     unreachable!()
 }
 
-// Where the least of the numbers stands.
+// The place of the least of the numbers.
 fn least_place(numbers: &[u32]) -> usize
     requires { 0 < length numbers.now }
     ensures within { result < length numbers.now }
-    ensures least { (k : ℕ) → k < length numbers.now → slice_index numbers.now result ≤ slice_index numbers.now k }
+    ensures least { (k : ℕ) → k < length numbers.now
+        → slice_index numbers.now result ≤ slice_index numbers.now k }
 {
     let mut least = 0;
     for i in 0..numbers.len() {
@@ -72,11 +76,11 @@ fn least_place(numbers: &[u32]) -> usize
     least
 }
 
-// Where the node stands on the path.
+// The place of the node on the path.
 fn place_of(path: &[u32], node: u32) -> usize
     requires { 1 ≤ times path.now node }
     ensures within { result < length path.now }
-    ensures stands { slice_index path.now result ≡ node }
+    ensures here { slice_index path.now result ≡ node }
 {
     for i in 0..path.len() {
         if path[i] == node {
@@ -101,8 +105,10 @@ fn turn(circle: &mut [u32])
 // The first node that is not done.
 fn first_left(done: &[bool]) -> Option<u32>
     requires { length done.now < 2 ^ 32 }
-    ensures some { IfSome result (λ node. (node < length done.now) × (slice_index_or done.now node false ≡ false)) }
-    ensures none { IfNone result ((u : ℕ) → u < length done.now → slice_index_or done.now u false ≡ true) }
+    ensures some { IfSome result (λ node. (node < length done.now)
+        × (slice_index_or done.now node false ≡ false)) }
+    ensures none { IfNone result ((u : ℕ) → u < length done.now
+        → slice_index_or done.now u false ≡ true) }
 {
     for place in 0..done.len() {
         if !done[place] {
@@ -144,7 +150,8 @@ impl Graph {
         requires blocked { IsBlocked self.now.needs done.now }
         requires within { start < length done.now }
         requires left { slice_index_or done.now start false ≡ false }
-        ensures circle { IfOk result (λ xs. IsCircle (record { needs = self.now.needs; done = done.now }) xs.items) }
+        ensures circle { IfOk result (λ xs.
+            IsCircle (record { needs = self.now.needs; done = done.now }) xs.items) }
         ensures once { IfOk result (λ xs. (u : ℕ) → times xs.items u ≤ 1) }
     {
         let mut path = Vec::new(alloc);
@@ -163,7 +170,7 @@ impl Graph {
     }
 
     /// A circle of undone nodes: each needs the next, and the last the first. It begins with its
-    /// least node, and no node stands in it twice. None exactly where there is no circle.
+    /// least node, and no node is in it twice. None exactly where there is no circle.
     ///
     /// It takes time in the order of the nodes and edges.
     pub fn cycle(&self, alloc: Global) -> Result<Option<Vec<u32>>, OutOfMemory>

@@ -1,7 +1,6 @@
 mod Parts
-mod Members
-mod Courses
+mod PutLemmas
 mod Placing
-mod Saying
+mod Printing
 mod Theorem
 mod Programs

@@ -12,7 +12,7 @@ use Rattle.bicep_literal.specs.Source.{DeclareEach}
 use Rattle.deploy_cli.specs.Words.{Deploy}
 use Rattle.deploy_cli.specs.Names.{is_name_byte, is_group_name}
 use Rattle.deploy_cli.specs.Puts.{place_of}
-use Rattle.deploy_cli.specs.Course.{CanPut}
+use Rattle.deploy_cli.specs.Outcomes.{CanPut}
 use Rattle.deploy_cli.specs.Prepared.{Folder, IsPrepared}
 use Rattle.foundation.proofs.AsciiWords.{word}
 use Rattle.foundation.proofs.TruthValues.{both, and_true}

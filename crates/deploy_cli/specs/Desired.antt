@@ -9,7 +9,7 @@ use Rattle.bicep_literal.specs.Source.{SourceDeclares, KeysDiffer}
 use Rattle.provider_trait.specs.declared.act.Act.TheVariants.{Put}
 use Rattle.provider_trait.specs.declared.answer.Answer.TheVariants.{Stored}
 use Rattle.deploy_cli.specs.Puts.{id_of, body_of}
-use Rattle.deploy_cli.specs.Course.{May}
+use Rattle.deploy_cli.specs.Outcomes.{May}
 
 -- a desired state: the resources that are to be there
 abbrev pub DesiredState : Type 0

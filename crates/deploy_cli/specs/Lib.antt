@@ -3,7 +3,7 @@ pub mod Names
 pub mod Puts
 pub mod Program
 pub mod Report
-pub mod Course
+pub mod Outcomes
 pub mod Prepared
 pub mod Desired
 pub mod Run

@@ -7,25 +7,29 @@ use Rattle.literal_template.specs.declared.resource.Resource.{Resource}
 use Rattle.deploy_cli.specs.Words.{Deploy}
 use Rattle.deploy_cli.specs.Names.{is_group_name, is_deployment_name}
 use Rattle.deploy_cli.specs.Program.{IsProgram, IsLexical, IsSyntax, IsNotBuilt}
-use Rattle.deploy_cli.specs.declared.ending.Ending.{Ending}
-use Rattle.deploy_cli.specs.declared.ending.Ending.TheVariants as ending
+use Rattle.deploy_cli.specs.declared.outcome.Outcome.{Outcome}
+use Rattle.deploy_cli.specs.declared.outcome.Outcome.TheVariants as outcome
 
--- the files by their names, and whether that is told
+-- a folder: whether trees of its type report their files, and the file of each name
 pub record Folder : Type 0 where
   pub tells : Bool
   pub file : List ℕ → Option (List ℕ)
 
--- these bytes were read for that name: they are the file that the folder has, where it tells its files
+-- the folder of a tree, of which these are known
+abbrev pub folder_of : Bool → (List ℕ → Option (List ℕ)) → Folder
+folder_of tells file = record { tells = tells; file = file }
+
+-- these bytes were read for that name: they are the file of that name, where the tree reports its files
 abbrev pub WasRead : Folder → List ℕ → List ℕ → Type 0
 WasRead folder name bytes = folder.tells ≡ true → folder.file name ≡ Some bytes
 
 -- why bytes are no program
-abbrev pub IsRefused : List ℕ → Ending → Type 0
-IsRefused bytes ending.NotText = ¬ IsUtf8 bytes
-IsRefused bytes (ending.Lexical f place) = IsLexical bytes f place
-IsRefused bytes (ending.Syntax f place) = IsSyntax bytes f place
-IsRefused bytes ending.NotBuilt = IsNotBuilt bytes
-IsRefused bytes ending.OutOfMemory = Unit {0}
+abbrev pub IsRefused : List ℕ → Outcome → Type 0
+IsRefused bytes outcome.NotText = ¬ IsUtf8 bytes
+IsRefused bytes (outcome.Lexical f place) = IsLexical bytes f place
+IsRefused bytes (outcome.Syntax f place) = IsSyntax bytes f place
+IsRefused bytes outcome.NotBuilt = IsNotBuilt bytes
+IsRefused bytes outcome.OutOfMemory = Unit {0}
 IsRefused bytes _ = ⊥
 
 -- the bytes that were read for the command's file are a program of these resources, and its names are in their form;
@@ -40,46 +44,46 @@ pub record IsReady (folder : Folder) (d : Deploy) (bytes : List ℕ) (rs : List 
 abbrev pub IsPrepared : Folder → Deploy → List Resource → Type 0
 IsPrepared folder d rs = (bytes : List ℕ) × IsReady folder d bytes rs
 
--- the file is none, where that is told
+-- there is no such file, where the tree reports its files
 abbrev pub IsMissing : Folder → List ℕ → Type 0
 IsMissing folder name = folder.tells ≡ true → folder.file name ≡ None
 
--- the file has more than 4,194,304 bytes, where that is told
+-- the file has more than 4,194,304 bytes, where the tree reports its files
 abbrev pub IsTooLarge : Folder → List ℕ → Type 0
 IsTooLarge folder name = folder.tells ≡ true → (bytes : List ℕ) × (folder.file name ≡ Some bytes)
     × (4194304 < length bytes)
 
--- why the file of a name gave no bytes
-abbrev pub FileEnds : Folder → ℕ → ℕ → List ℕ → Ending → Type 0
-FileEnds folder before now name ending.Missing = IsMissing folder name
-FileEnds folder before now name ending.TooLarge = IsTooLarge folder name
-FileEnds folder before now name ending.TreeFault = Rose before now
-FileEnds folder before now name ending.OutOfMemory = Unit {0}
-FileEnds folder before now name _ = ⊥
+-- why no bytes were read for a name
+abbrev pub IsNotRead : Folder → ℕ → ℕ → List ℕ → Outcome → Type 0
+IsNotRead folder before now name outcome.Missing = IsMissing folder name
+IsNotRead folder before now name outcome.TooLarge = IsTooLarge folder name
+IsNotRead folder before now name outcome.TreeFault = Rose before now
+IsNotRead folder before now name outcome.OutOfMemory = Unit {0}
+IsNotRead folder before now name _ = ⊥
 
 -- the bytes that were read for the command's file are a program
 abbrev pub IsRead : Folder → Deploy → Type 0
 IsRead folder d = (bytes : List ℕ) × (rs : List Resource) × WasRead folder d.file bytes × IsProgram bytes rs
 
--- why nothing is deployed: the first that holds of the file, the group's name and the deployment's name, or want of
--- memory before
-abbrev pub IsNotPrepared : Folder → ℕ → ℕ → Deploy → Ending → Type 0
-IsNotPrepared folder before now d ending.Missing = IsMissing folder d.file
-IsNotPrepared folder before now d ending.TooLarge = IsTooLarge folder d.file
-IsNotPrepared folder before now d ending.TreeFault = Rose before now
-IsNotPrepared folder before now d ending.NotText = (bytes : List ℕ) × WasRead folder d.file bytes × (¬ IsUtf8 bytes)
-IsNotPrepared folder before now d (ending.Lexical f place) = (bytes : List ℕ) × WasRead folder d.file bytes
+-- why nothing is deployed: the first cause that holds of the file, the group's name and the deployment's name, or out
+-- of memory before it
+abbrev pub IsNotPrepared : Folder → ℕ → ℕ → Deploy → Outcome → Type 0
+IsNotPrepared folder before now d outcome.Missing = IsMissing folder d.file
+IsNotPrepared folder before now d outcome.TooLarge = IsTooLarge folder d.file
+IsNotPrepared folder before now d outcome.TreeFault = Rose before now
+IsNotPrepared folder before now d outcome.NotText = (bytes : List ℕ) × WasRead folder d.file bytes × (¬ IsUtf8 bytes)
+IsNotPrepared folder before now d (outcome.Lexical f place) = (bytes : List ℕ) × WasRead folder d.file bytes
     × IsLexical bytes f place
-IsNotPrepared folder before now d (ending.Syntax f place) = (bytes : List ℕ) × WasRead folder d.file bytes
+IsNotPrepared folder before now d (outcome.Syntax f place) = (bytes : List ℕ) × WasRead folder d.file bytes
     × IsSyntax bytes f place
-IsNotPrepared folder before now d ending.NotBuilt = (bytes : List ℕ) × WasRead folder d.file bytes × IsNotBuilt bytes
-IsNotPrepared folder before now d ending.BadGroup = IsRead folder d × (is_group_name d.group ≡ false)
-IsNotPrepared folder before now d ending.BadDeployment = IsRead folder d × (is_group_name d.group ≡ true)
+IsNotPrepared folder before now d outcome.NotBuilt = (bytes : List ℕ) × WasRead folder d.file bytes × IsNotBuilt bytes
+IsNotPrepared folder before now d outcome.BadGroup = IsRead folder d × (is_group_name d.group ≡ false)
+IsNotPrepared folder before now d outcome.BadDeployment = IsRead folder d × (is_group_name d.group ≡ true)
     × (is_deployment_name d.name ≡ false)
-IsNotPrepared folder before now d ending.OutOfMemory = Unit {0}
+IsNotPrepared folder before now d outcome.OutOfMemory = Unit {0}
 IsNotPrepared folder before now d _ = ⊥
 
--- the count of the tree's faults rises where the ending is its fault, and stays else
-abbrev pub TreeCounts : ℕ → ℕ → Ending → Type 0
-TreeCounts before now ending.TreeFault = Rose before now
+-- the count of the tree's faults rises where the outcome is its fault, and is unchanged after every other outcome
+abbrev pub TreeCounts : ℕ → ℕ → Outcome → Type 0
+TreeCounts before now outcome.TreeFault = Rose before now
 TreeCounts before now _ = now ≡ before

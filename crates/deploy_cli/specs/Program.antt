@@ -18,7 +18,7 @@ pub record IsProgram (bytes : List ℕ) (rs : List Resource) : Type 0 where
   pub declares : SourceDeclares bytes rs
   pub small : length (template_bytes rs) ≤ 4194304
 
--- where in a source a fault of the lexer stands
+-- the place of a fault of the lexer in its source, in bytes
 abbrev pub place_of_fault : LexFault → ℕ
 place_of_fault (BadCharacter at) = at
 place_of_fault (OpenText at) = at
@@ -34,7 +34,7 @@ pub record IsLexical (bytes : List ℕ) (f : LexFault) (digits : List ℕ) : Typ
   pub named : f ≢ OutOfMemory
   pub spelled : digits ≡ decimal (place_of_fault f)
 
--- where in a source a fault of the parser stands
+-- the place of a fault of the parser in its source, in bytes
 abbrev pub place_of_syntax : ParseFault → ℕ
 place_of_syntax (syntax.NotAFile at) = at
 place_of_syntax (syntax.TooDeep at) = at

@@ -1,12 +1,10 @@
--- The puts of resources: which work a provider is given for them, and which calls that makes.
-use Rattle.std.specs.Prelude.{ℕ, suc, pos, List, [], ◌∷◌, Result, chars, codes}
-use Rattle.serde_json.specs.Written.{compact_text}
-use Rattle.arm_value.specs.Json.{Json, int, text, object, pairs, Member, put}
-use Rattle.arm_value.specs.Reading.{data_of}
+-- The puts of resources: the jobs that a provider is given for them, and the calls that these make.
+use Rattle.std.specs.Prelude.{ℕ, suc, List, [], ◌∷◌, Result, chars, codes}
+use Rattle.arm_value.specs.Json.{Json, object, pairs}
 use Rattle.arm_ids.specs.Id.{resource, text_of}
 use Rattle.arm_ids.specs.declared.id.Place.{Place}
 use Rattle.literal_template.specs.declared.resource.Resource.{Resource}
-use Rattle.provider_trait.specs.Work.{Work}
+use Rattle.provider_trait.specs.Work.{Work, work_for}
 use Rattle.provider_trait.specs.Calls.{call}
 use Rattle.provider_trait.specs.declared.act.Act.TheVariants.{Put}
 use Rattle.provider_trait.specs.declared.answer.Answer.{Answer}
@@ -25,38 +23,17 @@ place_of d =
       deployment = chars d.name;
     }
 
--- the id of a resource there
+-- the id of a resource in a place
 abbrev pub id_of : Place → Resource → List ℕ
 id_of place r = text_of (resource place.subscription place.group r.kind r.name)
 
--- the body that its put carries
+-- the body of its put
 abbrev pub body_of : Resource → Json
 body_of r = object (pairs r.body)
 
--- what the first part of a put's record says: what is put, and who puts it
-unfoldable pub first_members : ℕ → List ℕ → List ℕ → Json → List Member
-first_members task id api body =
-    put (codes "worker") (int (pos 0))
-    (put (codes "task") (int (pos task))
-    (put (codes "id") (text id) (put (codes "body") body (put (codes "api") (text api) []))))
-
--- that part, as compact JSON
-abbrev pub first_part : ℕ → List ℕ → List ℕ → Json → List ℕ
-first_part task id api body = compact_text (data_of (object (pairs (first_members task id api body))))
-
--- the put of a resource that has this id, as that task
+-- the put of a resource that has this id, as that task of worker 0
 abbrev pub put_with : List ℕ → ℕ → Resource → Work
-put_with id task r =
-    record {
-      task = task;
-      worker = 0;
-      act = Put;
-      id = id;
-      api = r.api;
-      body = body_of r;
-      first =
-          first_part task id r.api (body_of r);
-    }
+put_with id task r = work_for Put (record { api = r.api; body = body_of r; id = id; task = task; worker = 0 })
 
 -- the put of a resource, as that task
 abbrev pub put_of : Place → ℕ → Resource → Work
@@ -67,11 +44,11 @@ abbrev pub puts : Place → ℕ → List Resource → List Work
 puts place task [] = []
 puts place task (r ∷ rs) = put_of place task r ∷ puts place (suc task) rs
 
--- what a call of a provider gave
+-- what a call of a provider returned
 abbrev pub Gave : Type 0
 Gave = Result Answer ProviderFault
 
--- the calls of the first of these works, which gave this
+-- the calls of the first of these jobs, which returned this
 abbrev pub calls_of : List Work → List Gave → List Call
 calls_of works [] = []
 calls_of [] (g ∷ gs) = []

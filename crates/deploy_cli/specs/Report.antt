@@ -1,4 +1,4 @@
--- What is printed of an ending, and with which status the program ends.
+-- What is printed of an outcome, and the status with which the program ends.
 use Rattle.std.specs.Prelude.{◌≡◌, ℕ, nat_le, Bool, true, List, ◌++◌, take, encode_utf8_all, codes, Result, Ok, Err}
 use Rattle.std.specs.Prelude.{◌⊎◌, if◌then◌else◌}
 use Rattle.arm_edges.specs.Faults.{Rose}
@@ -7,10 +7,10 @@ use Rattle.bicep_lexer.specs.declared.fault.LexFault.{LexFault}
 use Rattle.bicep_lexer.specs.declared.fault.LexFault.TheVariants as lexical
 use Rattle.bicep_parser.specs.declared.fault.ParseFault.{ParseFault}
 use Rattle.bicep_parser.specs.declared.fault.ParseFault.TheVariants as syntax
-use Rattle.deploy_cli.specs.declared.ending.Ending.{Ending}
-use Rattle.deploy_cli.specs.declared.ending.Ending.TheVariants.{Succeeded, Refused, Missing, TooLarge, NotText}
-use Rattle.deploy_cli.specs.declared.ending.Ending.TheVariants.{Lexical, Syntax, NotBuilt, BadGroup, BadDeployment}
-use Rattle.deploy_cli.specs.declared.ending.Ending.TheVariants.{TreeFault, ProviderFault, OutOfMemory}
+use Rattle.deploy_cli.specs.declared.outcome.Outcome.{Outcome}
+use Rattle.deploy_cli.specs.declared.outcome.Outcome.TheVariants.{Succeeded, Refused, Missing, TooLarge, NotText}
+use Rattle.deploy_cli.specs.declared.outcome.Outcome.TheVariants.{Lexical, Syntax, NotBuilt, BadGroup, BadDeployment}
+use Rattle.deploy_cli.specs.declared.outcome.Outcome.TheVariants.{TreeFault, ProviderFault, OutOfMemory}
 use Rattle.deploy_cli.specs.Words.{Deploy}
 
 -- how the line of a fault of the lexer begins
@@ -37,12 +37,12 @@ syntax_prefix (syntax.NotAFile at) = codes "error NotAFile: "
 syntax_prefix (syntax.TooDeep at) = codes "error TooDeep: "
 syntax_prefix syntax.OutOfMemory = codes "error OutOfMemory: "
 
--- the line of a fault of the lexer or the parser, which begins so
+-- the line of a fault of the lexer or the parser: how it begins, the file, and the place in decimal digits
 abbrev pub fault_line : List ℕ → List ℕ → List ℕ → List ℕ
 fault_line prefix file place = three prefix file (codes ":") ++ (place ++ codes "\n")
 
--- the line that is printed of the ending of a deployment
-abbrev pub line_of : Deploy → Ending → List ℕ
+-- the line of an outcome
+abbrev pub line_of : Deploy → Outcome → List ℕ
 line_of d Succeeded = three (codes "Succeeded ") d.name (codes "\n")
 line_of d (Refused code id) = refused_line d.name (encode_utf8_all code) (encode_utf8_all id)
 line_of d Missing = three (codes "error ModuleMissing: ") d.file (codes "\n")
@@ -57,12 +57,8 @@ line_of d TreeFault = codes "fault tree\n"
 line_of d ProviderFault = codes "fault provider 0\n"
 line_of d OutOfMemory = codes "fault memory\n"
 
--- what is printed where the words are no command
-unfoldable pub usage : List ℕ
-usage = codes "usage: armdeploy deploy FILE --group GROUP --name NAME\n"
-
--- the status of an ending, where its line was printed
-abbrev pub status_of : Ending → ℕ
+-- the status of an outcome
+abbrev pub status_of : Outcome → ℕ
 status_of Succeeded = 0
 status_of (Refused code id) = 3
 status_of Missing = 1
@@ -77,23 +73,54 @@ status_of TreeFault = 4
 status_of ProviderFault = 7
 status_of OutOfMemory = 9
 
--- the status where the output failed: 5 in the place of 0 to 3
-abbrev pub status_unsaid : ℕ → ℕ
-status_unsaid status = if nat_le status 3 then 5 else status
+-- a line, and the status with which the program ends where the output takes the whole line
+pub record Report : Type 0 where
+  pub line : List ℕ
+  pub status : ℕ
 
--- after the old bytes stands a front of the text, and nothing else
+-- what is reported of an outcome
+abbrev pub report_of : Deploy → Outcome → Report
+report_of d e = record { line = line_of d e; status = status_of e }
+
+-- what is printed where the words are no command
+unfoldable pub usage : List ℕ
+usage = codes "usage: armdeploy deploy FILE --group GROUP --name NAME\n"
+
+-- what is reported where the words are no command
+abbrev pub usage_report : Report
+usage_report = record { line = usage; status = 2 }
+
+-- the status where the output failed: 5 in place of 0 to 3
+abbrev pub status_unprinted : ℕ → ℕ
+status_unprinted status = if nat_le status 3 then 5 else status
+
+-- the old bytes, and after them a beginning of the text and nothing else
 abbrev pub IsPart : List ℕ → List ℕ → List ℕ → Type 0
 IsPart old text new = (n : ℕ) × (new ≡ old ++ take n text)
 
--- an output that had this written, and now has that, was given the text: it took the text where the result is Ok, and
--- else a front of it
+-- what an output has written after it was given the text: the whole text after Ok, else a beginning of it
 abbrev pub Wrote : Bool → List ℕ → List ℕ → List ℕ → Result (Unit {0}) Failed → Type 0
 Wrote tells old new text (Ok done) = tells ≡ true → new ≡ old ++ text
 Wrote tells old new text (Err failed) = tells ≡ true → IsPart old text new
 
--- an output that had this written and so many faults, and now has that and so many, was given the text, and the
--- status that was wanted became this one: it took the text, or it took a front of it and failed
-abbrev pub Reported : Bool → List ℕ → List ℕ → ℕ → ℕ → List ℕ → ℕ → ℕ → Type 0
-Reported tells old new before now line wanted status =
-    ((status ≡ wanted) × (now ≡ before) × (tells ≡ true → new ≡ old ++ line))
-    ⊎ ((status ≡ status_unsaid wanted) × Rose before now × (tells ≡ true → IsPart old line new))
+-- an output at a moment: whether outputs of its type report what was written, what was written, and the count of faults
+pub record Output : Type 0 where
+  pub tells : Bool
+  pub written : List ℕ
+  pub faults : ℕ
+
+-- the output took the whole line, and the status is that of the report
+pub record Printed (before now : Output) (r : Report) (status : ℕ) : Type 0 where
+  pub reported : status ≡ r.status
+  pub faults : now.faults ≡ before.faults
+  pub whole : before.tells ≡ true → now.written ≡ before.written ++ r.line
+
+-- the output failed after a beginning of the line, and 5 replaces a status of 0 to 3
+pub record CutShort (before now : Output) (r : Report) (status : ℕ) : Type 0 where
+  pub replaced : status ≡ status_unprinted r.status
+  pub fault : Rose before.faults now.faults
+  pub part : before.tells ≡ true → IsPart before.written r.line now.written
+
+-- the report was given to the output, and the program ends with this status
+abbrev pub Reported : Output → Output → Report → ℕ → Type 0
+Reported before now r status = Printed before now r status ⊎ CutShort before now r status

@@ -1,4 +1,4 @@
--- What a call of the program's top function comes to.
+-- What a call of `run` comes to: the deployment theorem.
 use Rattle.std.specs.Prelude.{◌≡◌, ℕ, Bool, true, List, [], ◌∷◌, ◌++◌, map, length, slice_get, Option, Some, None, Ok}
 use Rattle.std.specs.Prelude.{codes, encode_utf8_all, ◌⊎◌}
 use Rattle.arm_edges.specs.Faults.{Rose}
@@ -10,22 +10,23 @@ use Rattle.provider_trait.specs.declared.call.Call.{Call}
 use Rattle.provider_trait.specs.declared.seat.Seat.{Seat}
 use Rattle.deploy_cli.specs.Words.{Deploy, command_of}
 use Rattle.deploy_cli.specs.Puts.{place_of, puts, calls_of, id_of}
-use Rattle.deploy_cli.specs.Course.{May, MayAnswer, MayStore, ComeTo, stored_in, gave_by, CountsTo}
+use Rattle.deploy_cli.specs.Outcomes.{May, MayAnswer, MayStore, PutsHaveOutcome, stored_in, gave_by, CountsTo}
 use Rattle.deploy_cli.specs.Prepared.{Folder, IsReady, IsPrepared, IsNotPrepared, TreeCounts}
 use Rattle.deploy_cli.specs.Desired.{desired, Satisfies, SourceSatisfies}
-use Rattle.deploy_cli.specs.Report.{Reported, three, refused_line, line_of, usage as usage_text, status_of}
-use Rattle.deploy_cli.specs.declared.ending.Ending.{Ending}
+use Rattle.deploy_cli.specs.Report.{Output, Report, Reported, three, refused_line, line_of, status_of, report_of}
+use Rattle.deploy_cli.specs.Report.{usage_report}
+use Rattle.deploy_cli.specs.declared.outcome.Outcome.{Outcome}
 
--- what is outside the program, and does not change: the files, what the provider may answer, and whether provider and
--- output tell what was asked of them and written
+-- what is outside the program and does not change: the files, which answers the provider may give, and whether objects
+-- of these types report the provider's calls and what was written to the output
 pub record Outside : Type 1 where
   pub folder : Folder
   pub may : May
   pub tells_calls : Bool
   pub tells_written : Bool
 
--- what the objects outside have counted and told at a moment: the tree's faults, those of the provider of seat 0 and
--- its calls, those of the output and what was written to it
+-- what the objects outside have counted and reported at a moment: the faults of the tree, the faults and the calls of
+-- the first seat's provider, the faults of the output and what was written to it
 pub record Moment : Type 0 where
   pub tree_faults : ℕ
   pub provider_faults : ℕ
@@ -33,107 +34,139 @@ pub record Moment : Type 0 where
   pub out_faults : ℕ
   pub written : List ℕ
 
--- the calls of seat 0 in this call are these
+-- the two records of their fields, in this order
+abbrev pub outside : Folder → May → Bool → Bool → Outside
+outside folder may tells_calls tells_written =
+    record { folder = folder; may = may; tells_calls = tells_calls; tells_written = tells_written }
+
+abbrev pub moment : ℕ → ℕ → List Call → ℕ → List ℕ → Moment
+moment tree_faults provider_faults calls out_faults written =
+    record {
+      tree_faults = tree_faults;
+      provider_faults = provider_faults;
+      calls = calls;
+      out_faults = out_faults;
+      written = written;
+    }
+
+-- the output at a moment
+abbrev pub output_at : Outside → Moment → Output
+output_at o m = record { tells = o.tells_written; written = m.written; faults = m.out_faults }
+
+-- the calls of the first seat's provider between the two moments are these
 abbrev pub CallsAre : Outside → Moment → Moment → List Call → Type 0
 CallsAre o before now calls = o.tells_calls ≡ true → now.calls ≡ before.calls ++ calls
 
--- nothing was put: this is why, and no seat has a call
-pub record NothingPut (o : Outside) (before now : Moment) (d : Deploy) (states : List Json) (e : Ending) : Type 0 where
+-- nothing was put, with the cause; the provider has no call
+pub record NothingPut (o : Outside) (before now : Moment) (d : Deploy) (states : List Json) (e : Outcome) : Type 0 where
   pub cause : IsNotPrepared o.folder before.tree_faults now.tree_faults d e
   pub none : states ≡ []
   pub calls : CallsAre o before now []
   pub tree : TreeCounts before.tree_faults now.tree_faults e
   pub provider : now.provider_faults ≡ before.provider_faults
 
--- the resources were put one after the other, up to the first that was not stored; these are the calls of seat 0, in
--- their order
-pub record WerePut (o : Outside) (before now : Moment) (d : Deploy) (rs : List Resource) (states : List Json)
-    (e : Ending) : Type 0 where
-  pub prepared : IsPrepared o.folder d rs
-  pub course : ComeTo o.may (place_of d) rs states e
-  pub calls : CallsAre o before now (calls_of (puts (place_of d) 1 rs) (gave_by states e))
+-- the resources were put one after another, up to the first that was not stored; these are the calls, in their order
+pub record WerePut (o : Outside) (before now : Moment) (d : Deploy) (states : List Json) (e : Outcome) : Type 0 where
+  pub resources : List Resource
+  pub prepared : IsPrepared o.folder d resources
+  pub outcome : PutsHaveOutcome o.may (place_of d) resources states e
+  pub calls : CallsAre o before now (calls_of (puts (place_of d) 1 resources) (gave_by states e))
   pub tree : now.tree_faults ≡ before.tree_faults
   pub provider : CountsTo before.provider_faults now.provider_faults e
 
--- the command came to this ending, with these states stored
-abbrev pub ComesTo : Outside → Moment → Moment → Deploy → List Json → Ending → Type 0
-ComesTo o before now d states e = NothingPut o before now d states e
-    ⊎ ((rs : List Resource) × WerePut o before now d rs states e)
+-- the command has this outcome, and these states were stored
+abbrev pub HasOutcome : Outside → Moment → Moment → Deploy → List Json → Outcome → Type 0
+HasOutcome o before now d states e = NothingPut o before now d states e ⊎ WerePut o before now d states e
 
--- the line was given to the output, and the status is this one, where that one was wanted
-abbrev pub Says : Outside → Moment → Moment → List ℕ → ℕ → ℕ → Type 0
-Says o before now line wanted status =
-    Reported o.tells_written before.written now.written before.out_faults now.out_faults line wanted status
+-- the report was given to the output, and the program ends with this status
+abbrev pub Says : Outside → Moment → Moment → Report → ℕ → Type 0
+Says o before now report status = Reported (output_at o before) (output_at o now) report status
 
--- where the words are no command, the usage is printed and nothing is done
+-- the words are no command: the usage is printed, and nothing is done
 pub record IsUsage (o : Outside) (before now : Moment) (status : ℕ) : Type 0 where
-  pub says : Says o before now usage_text 2 status
+  pub says : Says o before now usage_report status
   pub calls : CallsAre o before now []
   pub tree : now.tree_faults ≡ before.tree_faults
   pub provider : now.provider_faults ≡ before.provider_faults
 
--- a command comes to an ending, whose line is printed
-abbrev pub IsDeployed : Outside → Moment → Moment → Deploy → ℕ → Type 0
-IsDeployed o before now d status =
-    (states : List Json) × (e : Ending) × ComesTo o before now d states e
-    × Says o before now (line_of d e) (status_of e) status
+-- a command has an outcome, whose line is printed
+pub record IsDeployed (o : Outside) (before now : Moment) (d : Deploy) (status : ℕ) : Type 0 where
+  pub states : List Json
+  pub outcome : Outcome
+  pub comes : HasOutcome o before now d states outcome
+  pub says : Says o before now (report_of d outcome) status
 
 abbrev pub RunsAs : Outside → Moment → Moment → Option Deploy → ℕ → Type 0
 RunsAs o before now None status = IsUsage o before now status
 RunsAs o before now (Some d) status = IsDeployed o before now d status
 
--- a call with these words came to this status
+-- what happened in a call with these words that returned this status
 abbrev pub Runs : Outside → Moment → Moment → List (List ℕ) → ℕ → Type 0
 Runs o before now words status = RunsAs o before now (command_of words) status
 
--- the output took this text, where it tells
+-- the output took the whole text, where outputs of its type report what was written
 abbrev pub WasPrinted : Outside → Moment → Moment → List ℕ → Type 0
 WasPrinted o before now line = o.tells_written ≡ true → now.written ≡ before.written ++ line
 
--- all resources were stored: the bytes that were read are a program that declares them, the template that it gives
--- states them, each was put, in their order, and stored; so the desired state that these answers make is one that the
--- source means and satisfies the template; and the line was printed
-pub record Succeeds (o : Outside) (before now : Moment) (d : Deploy) (bytes : List ℕ) (rs : List Resource)
-    (states : List Json) : Type 0 where
-  pub ready : IsReady o.folder d bytes rs
-  pub calls : CallsAre o before now (calls_of (puts (place_of d) 1 rs) (map stored_in states))
-  pub all : length states ≡ length rs
-  pub source : SourceSatisfies o.may (place_of d) bytes (desired (place_of d) rs states)
-  pub template : Satisfies o.may (place_of d) (template_bytes rs) (desired (place_of d) rs states)
-  pub line : WasPrinted o before now (three (codes "Succeeded ") d.name (codes "\n"))
+-- success: all resources were stored
+pub record Success (o : Outside) (before now : Moment) (words : List (List ℕ)) : Type 0 where
+  -- the command, the bytes that were read, the resources and the states in which they were stored
+  pub command : Deploy
+  pub bytes : List ℕ
+  pub resources : List Resource
+  pub states : List Json
+  pub asked : command_of words ≡ Some command
+  -- the bytes are a program of the resources, and its template states them
+  pub ready : IsReady o.folder command bytes resources
+  -- each resource was put, in the order of the file, and stored
+  pub calls : CallsAre o before now (calls_of (puts (place_of command) 1 resources) (map stored_in states))
+  pub all : length states ≡ length resources
+  -- so the desired state of these answers is one that the source means, and it satisfies the template
+  pub source : SourceSatisfies o.may (place_of command) bytes (desired (place_of command) resources states)
+  pub template : Satisfies o.may (place_of command) (template_bytes resources)
+      (desired (place_of command) resources states)
+  pub line : WasPrinted o before now (three (codes "Succeeded ") command.name (codes "\n"))
 
--- a put was refused: those before it were stored, none was made after it, and the line names the code and the
--- resource's id
-pub record Fails (o : Outside) (before now : Moment) (d : Deploy) (bytes : List ℕ) (rs : List Resource)
-    (states : List Json) (r : Resource) (code : List ℕ) : Type 0 where
-  pub ready : IsReady o.folder d bytes rs
-  pub next : slice_get rs (length states) ≡ Some r
-  pub stored : MayStore o.may (place_of d) rs states
-  pub refused : MayAnswer o.may (place_of d) r (Refused code)
-  pub calls : CallsAre o before now (calls_of (puts (place_of d) 1 rs) (map stored_in states ++ Ok (Refused code) ∷ []))
+-- failure: a put was refused
+pub record Failure (o : Outside) (before now : Moment) (words : List (List ℕ)) : Type 0 where
+  -- the command, the bytes that were read, the resources, the states of those that were stored, the resource whose put
+  -- was refused, and the code
+  pub command : Deploy
+  pub bytes : List ℕ
+  pub resources : List Resource
+  pub states : List Json
+  pub resource : Resource
+  pub code : List ℕ
+  pub asked : command_of words ≡ Some command
+  pub ready : IsReady o.folder command bytes resources
+  -- the resources before it were stored, it was refused, and no further put was made
+  pub next : slice_get resources (length states) ≡ Some resource
+  pub stored : MayStore o.may (place_of command) resources states
+  pub refused : MayAnswer o.may (place_of command) resource (Refused code)
+  pub calls : CallsAre o before now
+      (calls_of (puts (place_of command) 1 resources) (map stored_in states ++ Ok (Refused code) ∷ []))
+  -- the line names the code and the id of the resource
   pub line : WasPrinted o before now
-      (refused_line d.name (encode_utf8_all code) (encode_utf8_all (id_of (place_of d) r)))
+      (refused_line command.name (encode_utf8_all code) (encode_utf8_all (id_of (place_of command) resource)))
 
--- the file or a name of the command was refused: nothing was put, and the line names the reason
-pub record IsTurnedDown (o : Outside) (before now : Moment) (d : Deploy) (e : Ending) : Type 0 where
-  pub cause : IsNotPrepared o.folder before.tree_faults now.tree_faults d e
-  pub named : status_of e ≡ 1
+-- the file or a name of the command was refused: nothing was put, and the line names the cause
+pub record TurnedDown (o : Outside) (before now : Moment) (words : List (List ℕ)) : Type 0 where
+  pub command : Deploy
+  pub outcome : Outcome
+  pub asked : command_of words ≡ Some command
+  pub cause : IsNotPrepared o.folder before.tree_faults now.tree_faults command outcome
+  pub named : status_of outcome ≡ 1
   pub calls : CallsAre o before now []
-  pub line : WasPrinted o before now (line_of d e)
+  pub line : WasPrinted o before now (line_of command outcome)
 
 -- the deployment theorem
 pub record DeploymentTheorem (o : Outside) (before now : Moment) (words : List (List ℕ)) (status : ℕ) : Type 0 where
   -- what happened, for every status
   pub runs : Runs o before now words status
-  -- success
-  pub success : status ≡ 0 → (d : Deploy) × (bytes : List ℕ) × (rs : List Resource) × (states : List Json)
-      × (command_of words ≡ Some d) × Succeeds o before now d bytes rs states
-  -- failure
-  pub failure : status ≡ 3 → (d : Deploy) × (bytes : List ℕ) × (rs : List Resource) × (states : List Json)
-      × (r : Resource) × (code : List ℕ) × (command_of words ≡ Some d) × Fails o before now d bytes rs states r code
+  pub success : status ≡ 0 → Success o before now words
+  pub failure : status ≡ 3 → Failure o before now words
   -- refusals of the source and of names
-  pub turned_down : status ≡ 1 → (d : Deploy) × (e : Ending) × (command_of words ≡ Some d)
-      × IsTurnedDown o before now d e
+  pub turned_down : status ≡ 1 → TurnedDown o before now words
   -- words that are no command
   pub usage : status ≡ 2 → command_of words ≡ None
   pub no_command : command_of words ≡ None → (status ≡ 2) ⊎ (status ≡ 5)
@@ -142,7 +175,7 @@ pub record DeploymentTheorem (o : Outside) (before now : Moment) (words : List (
   pub output : status ≡ 5 → Rose before.out_faults now.out_faults
   pub provider : status ≡ 7 → Rose before.provider_faults now.provider_faults
 
--- the provider of the first seat changed so, and nothing else of the seats
+-- the provider of the first seat changed as this relation says, and nothing else of the seats changed
 abbrev pub OfFirstSeat : {P : Type 0} → (P → P → Type 0) → List (Seat P) → List (Seat P) → Type 0
 OfFirstSeat {P = P} changed old new =
     (seat : Seat P) (others : List (Seat P)) → old ≡ seat ∷ others → (after : P)

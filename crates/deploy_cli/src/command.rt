@@ -1,19 +1,20 @@
-//! A command, from its words to the line that is printed and the status, without threads and without waiting.
+//! A command, from its words to the line that is printed and the status. It can neither wait nor start a thread.
 
 ghost use Rattle.std.specs.Prelude.{◌≡◌, map, string_bytes};
 ghost use Rattle.deploy_cli.specs.Words.{deploy_of};
-ghost use Rattle.deploy_cli.specs.Report.{Reported, usage};
-ghost use Rattle.deploy_cli.specs.Run.{Outside, Moment, Runs, IsDeployed};
+ghost use Rattle.deploy_cli.specs.Prepared.{folder_of};
+ghost use Rattle.deploy_cli.specs.Report.{Output, Reported, usage_report};
+ghost use Rattle.deploy_cli.specs.Run.{outside, moment, Runs, IsDeployed};
 
 use crate::deploy::deploy;
 use crate::report::{print, print_usage};
-use crate::status::status;
+use crate::status::{exit_status, status};
 use crate::words::{Command, command_of};
 use arm_edges::{Sink, Tree};
 use provider_trait::Provider;
 use std::alloc::Global;
 
-/// Does what the words say, and answers the status.
+/// Does what the words say, prints how it ended, and returns the status.
 pub(crate) fn command<T: Tree, P: Provider, O: Sink>(
     alloc: Global,
     words: &[String],
@@ -22,29 +23,11 @@ pub(crate) fn command<T: Tree, P: Provider, O: Sink>(
     out: &mut O,
 ) -> u8
     ensures { Runs
-        (record {
-          folder = record {
-            tells = T.tells_files;
-            file = T.file tree.old;
-          };
-          may = P.may;
-          tells_calls = P.tells;
-          tells_written = O.tells_written;
-        })
-        (record {
-          tree_faults = T.faults tree.old;
-          provider_faults = P.faults provider.old;
-          calls = P.calls provider.old;
-          out_faults = O.faults out.old;
-          written = O.written out.old;
-        })
-        (record {
-          tree_faults = T.faults tree.new;
-          provider_faults = P.faults provider.new;
-          calls = P.calls provider.new;
-          out_faults = O.faults out.new;
-          written = O.written out.new;
-        })
+        (outside (folder_of T.tells_files (T.file tree.old)) P.may P.tells O.tells_written)
+        (moment (T.faults tree.old) (P.faults provider.old) (P.calls provider.old)
+        (O.faults out.old) (O.written out.old))
+        (moment (T.faults tree.new) (P.faults provider.new) (P.calls provider.new)
+        (O.faults out.new) (O.written out.new))
         (map string_bytes words.now) result }
 {
     match command_of(words) {
@@ -53,7 +36,7 @@ pub(crate) fn command<T: Tree, P: Provider, O: Sink>(
     }
 }
 
-// Deploys what the command says, and prints how that ended.
+// Deploys what the command says, and prints the line of the outcome.
 fn deployed<T: Tree, P: Provider, O: Sink>(
     alloc: Global,
     command: &Command,
@@ -62,42 +45,25 @@ fn deployed<T: Tree, P: Provider, O: Sink>(
     out: &mut O,
 ) -> u8
     ensures { IsDeployed
-        (record {
-          folder = record {
-            tells = T.tells_files;
-            file = T.file tree.old;
-          };
-          may = P.may;
-          tells_calls = P.tells;
-          tells_written = O.tells_written;
-        })
-        (record {
-          tree_faults = T.faults tree.old;
-          provider_faults = P.faults provider.old;
-          calls = P.calls provider.old;
-          out_faults = O.faults out.old;
-          written = O.written out.old;
-        })
-        (record {
-          tree_faults = T.faults tree.new;
-          provider_faults = P.faults provider.new;
-          calls = P.calls provider.new;
-          out_faults = O.faults out.new;
-          written = O.written out.new;
-        })
+        (outside (folder_of T.tells_files (T.file tree.old)) P.may P.tells O.tells_written)
+        (moment (T.faults tree.old) (P.faults provider.old) (P.calls provider.old)
+        (O.faults out.old) (O.written out.old))
+        (moment (T.faults tree.new) (P.faults provider.new) (P.calls provider.new)
+        (O.faults out.new) (O.written out.new))
         (deploy_of command.now) result }
 {
-    let course = deploy(alloc, command, tree, provider);
-    let said = print(out, command, &course.ending);
-    status(&course.ending, said)
+    let deployment = deploy(alloc, command, tree, provider);
+    let printed = print(out, command, &deployment.outcome);
+    status(&deployment.outcome, printed)
 }
 
 // Prints the usage.
 fn usage<O: Sink>(out: &mut O) -> u8
-    ensures { Reported O.tells_written (O.written out.old) (O.written out.new) (O.faults out.old) (O.faults out.new) usage 2 result }
+    ensures { Reported
+        (record { tells = O.tells_written; written = O.written out.old; faults = O.faults out.old })
+        (record { tells = O.tells_written; written = O.written out.new; faults = O.faults out.new })
+        usage_report result }
 {
-    match print_usage(out) {
-        Ok(()) => 2,
-        Err(_) => 5,
-    }
+    let printed = print_usage(out);
+    exit_status(2, printed)
 }

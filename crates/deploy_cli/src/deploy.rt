@@ -2,12 +2,13 @@
 
 ghost use Rattle.std.specs.Prelude.{◌≡◌, ℕ, Bool, List, [], IfOk};
 ghost use Rattle.deploy_cli.specs.Words.{deploy_of};
+ghost use Rattle.deploy_cli.specs.Prepared.{folder_of};
 ghost use Rattle.deploy_cli.specs.Puts.{place_of};
-ghost use Rattle.deploy_cli.specs.Run.{Outside, Moment, ComesTo};
+ghost use Rattle.deploy_cli.specs.Run.{outside, moment, HasOutcome};
 
-use crate::ending::Ending;
+use crate::outcome::Outcome;
 use crate::prepare::prepared;
-use crate::puts::{Course, put_all};
+use crate::puts::{Deployment, put_all};
 use crate::words::Command;
 use arm_edges::Tree;
 use arm_ids::Place;
@@ -21,51 +22,31 @@ pub(crate) fn deploy<T: Tree, P: Provider>(
     command: &Command,
     tree: &mut T,
     provider: &mut P,
-) -> Course
+) -> Deployment
     ensures { (tells_written : Bool) (out_before out_now : ℕ) (written_before written_now : List ℕ) →
-        ComesTo
-        (record {
-          folder = record {
-            tells = T.tells_files;
-            file = T.file tree.old;
-          };
-          may = P.may;
-          tells_calls = P.tells;
-          tells_written = tells_written;
-        })
-        (record {
-          tree_faults = T.faults tree.old;
-          provider_faults = P.faults provider.old;
-          calls = P.calls provider.old;
-          out_faults = out_before;
-          written = written_before;
-        })
-        (record {
-          tree_faults = T.faults tree.new;
-          provider_faults = P.faults provider.new;
-          calls = P.calls provider.new;
-          out_faults = out_now;
-          written = written_now;
-        })
-        (deploy_of command.now) result.states.items result.ending }
+        HasOutcome
+        (outside (folder_of T.tells_files (T.file tree.old)) P.may P.tells tells_written)
+        (moment (T.faults tree.old) (P.faults provider.old) (P.calls provider.old) out_before written_before)
+        (moment (T.faults tree.new) (P.faults provider.new) (P.calls provider.new) out_now written_now)
+        (deploy_of command.now) result.states.items result.outcome }
 {
     let resources = match prepared(alloc, command, tree) {
         Ok(resources) => resources,
-        Err(ending) => return nothing(alloc, ending),
+        Err(outcome) => return nothing(alloc, outcome),
     };
     match place_of(alloc, command) {
         Ok(place) => put_all(alloc, &place, resources.as_slice(), provider),
-        Err(_) => nothing(alloc, Ending::OutOfMemory),
+        Err(_) => nothing(alloc, Outcome::OutOfMemory),
     }
 }
 
-// Nothing was put.
-fn nothing(alloc: Global, ending: Ending) -> Course
-    ensures ending { result.ending ≡ ending }
+// A deployment that put nothing.
+fn nothing(alloc: Global, outcome: Outcome) -> Deployment
+    ensures outcome { result.outcome ≡ outcome }
     ensures states { result.states.items ≡ [] }
 {
-    Course {
-        ending,
+    Deployment {
+        outcome,
         states: Vec::new(alloc),
     }
 }

@@ -1,4 +1,4 @@
-//! The command line of `armdeploy`: from words to what is deployed, printed and answered.
+//! The command line of `armdeploy`: from the words of a command to the line that is printed and the status.
 //!
 //! A caller may rely on the deployment theorem, the contract of `run`. Its parts are in `specs/Run.antt`, over the
 //! puts of `specs/Puts.antt`, the desired states of `specs/Desired.antt` and the lines of `specs/Report.antt`.
@@ -6,15 +6,15 @@
 
 mod command;
 mod deploy;
-mod ending;
 mod job;
 mod names;
+mod outcome;
 mod prepare;
 mod program;
 mod puts;
 mod report;
+mod running;
 mod status;
-mod top;
 mod words;
 
-pub use top::{Ran, run};
+pub use running::{Ran, run};

@@ -1,4 +1,4 @@
-//! What a command deploys.
+//! The resources that a command deploys.
 
 ghost use Rattle.std.specs.Prelude.{◌≡◌, IfOk, IfErr};
 ghost use Rattle.std.specs.List.{AllByRecursion};
@@ -6,10 +6,11 @@ ghost use Rattle.literal_template.specs.Resources.{IsLiteral};
 ghost use Rattle.literal_template.specs.Template.{StatedBy, template_bytes};
 ghost use Rattle.deploy_cli.specs.Words.{deploy_of};
 ghost use Rattle.deploy_cli.specs.Program.{IsProgram};
-ghost use Rattle.deploy_cli.specs.Prepared.{Folder, WasRead, IsRefused, IsPrepared, IsNotPrepared, TreeCounts, IsRead, FileEnds};
+ghost use Rattle.deploy_cli.specs.Prepared.{folder_of, WasRead, IsRefused, IsPrepared, IsNotPrepared};
+ghost use Rattle.deploy_cli.specs.Prepared.{TreeCounts, IsRead, IsNotRead};
 
-use crate::ending::Ending;
 use crate::names::{is_deployment_name, is_group_name};
+use crate::outcome::Outcome;
 use crate::program::program;
 use crate::words::Command;
 use arm_edges::{Tree, TreeFault};
@@ -17,19 +18,20 @@ use arm_value::Bytes;
 use literal_template::Resource;
 use std::alloc::Global;
 
-// The bytes of the file of that name.
-fn bytes_of<T: Tree>(alloc: Global, name: &str, tree: &mut T) -> Result<Bytes, Ending>
-    ensures read { IfOk result (WasRead (record { tells = T.tells_files; file = T.file tree.old }) name.now) }
-    ensures not_read { IfErr result (FileEnds (record { tells = T.tells_files; file = T.file tree.old }) (T.faults tree.old) (T.faults tree.new) name.now) }
+// Reads the file of that name.
+fn bytes_of<T: Tree>(alloc: Global, name: &str, tree: &mut T) -> Result<Bytes, Outcome>
+    ensures read { IfOk result (WasRead (folder_of T.tells_files (T.file tree.old)) name.now) }
+    ensures not_read { IfErr result (IsNotRead (folder_of T.tells_files (T.file tree.old))
+        (T.faults tree.old) (T.faults tree.new) name.now) }
     ensures stays { IfOk result (λ _. T.faults tree.new ≡ T.faults tree.old) }
     ensures count { IfErr result (TreeCounts (T.faults tree.old) (T.faults tree.new)) }
 {
     match tree.read_file(alloc, name) {
         Ok(Some(bytes)) => Ok(bytes),
-        Ok(None) => Err(Ending::Missing),
-        Err(TreeFault::TooLarge) => Err(Ending::TooLarge),
-        Err(TreeFault::Fault) => Err(Ending::TreeFault),
-        Err(TreeFault::OutOfMemory) => Err(Ending::OutOfMemory),
+        Ok(None) => Err(Outcome::Missing),
+        Err(TreeFault::TooLarge) => Err(Outcome::TooLarge),
+        Err(TreeFault::Fault) => Err(Outcome::TreeFault),
+        Err(TreeFault::OutOfMemory) => Err(Outcome::OutOfMemory),
     }
 }
 
@@ -38,26 +40,28 @@ pub(crate) fn prepared<T: Tree>(
     alloc: Global,
     command: &Command,
     tree: &mut T,
-) -> Result<Vec<Resource>, Ending>
-    ensures ready { IfOk result (λ rs. IsPrepared (record { tells = T.tells_files; file = T.file tree.old }) (deploy_of command.now) rs.items) }
+) -> Result<Vec<Resource>, Outcome>
+    ensures ready { IfOk result (λ rs. IsPrepared (folder_of T.tells_files (T.file tree.old))
+        (deploy_of command.now) rs.items) }
     ensures literal { IfOk result (λ rs. AllByRecursion IsLiteral rs.items) }
-    ensures not_ready { IfErr result (IsNotPrepared (record { tells = T.tells_files; file = T.file tree.old }) (T.faults tree.old) (T.faults tree.new) (deploy_of command.now)) }
+    ensures not_ready { IfErr result (IsNotPrepared (folder_of T.tells_files (T.file tree.old))
+        (T.faults tree.old) (T.faults tree.new) (deploy_of command.now)) }
     ensures stays { IfOk result (λ _. T.faults tree.new ≡ T.faults tree.old) }
     ensures count { IfErr result (TreeCounts (T.faults tree.old) (T.faults tree.new)) }
 {
     let bytes = match bytes_of(alloc, command.file, tree) {
         Ok(bytes) => bytes,
-        Err(ending) => return Err(ending),
+        Err(outcome) => return Err(outcome),
     };
     let resources = match program(alloc, &bytes) {
         Ok(resources) => resources,
-        Err(ending) => return Err(ending),
+        Err(outcome) => return Err(outcome),
     };
     if !is_group_name(command.group) {
-        return Err(Ending::BadGroup);
+        return Err(Outcome::BadGroup);
     }
     if !is_deployment_name(command.name) {
-        return Err(Ending::BadDeployment);
+        return Err(Outcome::BadDeployment);
     }
     Ok(resources)
 }

@@ -9,19 +9,17 @@ ghost use Rattle.bicep_literal.specs.Refused.{IsRefused as IsNoSource};
 ghost use Rattle.deploy_cli.specs.Program.{IsProgram, place_of_fault, place_of_syntax};
 ghost use Rattle.deploy_cli.specs.Prepared.{IsRefused};
 
-use crate::ending::Ending;
+use crate::outcome::Outcome;
 use arm_value::{Bytes, Text};
 use bicep_lexer::LexFault;
 use bicep_literal::{SourceFault, a_source_declares_one_list, resources};
 use bicep_parser::ParseFault;
+use foundation::limits::MAX_TEMPLATE_BYTES;
 use literal_template::{Resource, TemplateFault, read, write};
 use std::alloc::Global;
 
-/// The most bytes that a template may have.
-const LARGEST_TEMPLATE: usize = 4_194_304;
-
-/// The resources that the template of a program states: what is planned is read back from its bytes.
-pub(crate) fn program(alloc: Global, bytes: &Bytes) -> Result<Vec<Resource>, Ending>
+/// The resources that the template of a program states. They are read back from the bytes of the template.
+pub(crate) fn program(alloc: Global, bytes: &Bytes) -> Result<Vec<Resource>, Outcome>
     ensures program { IfOk result (λ rs. IsProgram bytes.now rs.items) }
     ensures literal { IfOk result (λ rs. AllByRecursion IsLiteral rs.items) }
     ensures stated { IfOk result (λ rs. StatedBy (template_bytes rs.items) rs.items) }
@@ -29,28 +27,28 @@ pub(crate) fn program(alloc: Global, bytes: &Bytes) -> Result<Vec<Resource>, End
 {
     let source = match str::from_utf8(bytes.as_slice()) {
         Ok(source) => source,
-        Err(_) => return Err(Ending::NotText),
+        Err(_) => return Err(Outcome::NotText),
     };
     let declared = match resources(alloc, source) {
         Ok(declared) => declared,
         Err(fault) => return Err(refusal(alloc, fault)),
     };
     let Ok(template) = write(alloc, declared.as_slice()) else {
-        return Err(Ending::OutOfMemory);
+        return Err(Outcome::OutOfMemory);
     };
-    if template.as_slice().len() > LARGEST_TEMPLATE {
+    if template.as_slice().len() > MAX_TEMPLATE_BYTES {
         a_source_declares_one_list();
-        return Err(Ending::NotBuilt);
+        return Err(Outcome::NotBuilt);
     }
     match read(alloc, template.as_slice()) {
         Ok(planned) => Ok(planned),
-        Err(TemplateFault::OutOfMemory) => Err(Ending::OutOfMemory),
+        Err(TemplateFault::OutOfMemory) => Err(Outcome::OutOfMemory),
         Err(TemplateFault::NotLiteral) => unreachable!(),
     }
 }
 
-// How a source that declares no resources ends the deployment.
-fn refusal(alloc: Global, fault: SourceFault) -> Ending
+// The outcome of a source that declares no resources.
+fn refusal(alloc: Global, fault: SourceFault) -> Outcome
     ensures { (source : List ℕ) →
         IsUtf8 source →
         IsNoSource source fault →
@@ -58,15 +56,15 @@ fn refusal(alloc: Global, fault: SourceFault) -> Ending
 {
     match fault {
         SourceFault::Lexical(fault) => match digits(alloc, place_of_fault(fault)) {
-            Some(place) => Ending::Lexical(fault, place),
-            None => Ending::OutOfMemory,
+            Some(place) => Outcome::Lexical(fault, place),
+            None => Outcome::OutOfMemory,
         },
         SourceFault::Syntax(fault) => match digits(alloc, place_of_syntax(fault)) {
-            Some(place) => Ending::Syntax(fault, place),
-            None => Ending::OutOfMemory,
+            Some(place) => Outcome::Syntax(fault, place),
+            None => Outcome::OutOfMemory,
         },
-        SourceFault::NotLiteral => Ending::NotBuilt,
-        SourceFault::OutOfMemory => Ending::OutOfMemory,
+        SourceFault::NotLiteral => Outcome::NotBuilt,
+        SourceFault::OutOfMemory => Outcome::OutOfMemory,
     }
 }
 
@@ -80,7 +78,7 @@ fn digits(alloc: Global, number: usize) -> Option<Text>
     }
 }
 
-// Where in its source a fault of the lexer stands.
+// The place of a fault of the lexer in its source, in bytes.
 fn place_of_fault(fault: LexFault) -> usize
     ensures { result ≡ place_of_fault fault }
 {
@@ -94,7 +92,7 @@ fn place_of_fault(fault: LexFault) -> usize
     }
 }
 
-// Where in its source a fault of the parser stands.
+// The place of a fault of the parser in its source, in bytes.
 fn place_of_syntax(fault: ParseFault) -> usize
     ensures { result ≡ place_of_syntax fault }
 {

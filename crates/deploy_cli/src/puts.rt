@@ -1,44 +1,46 @@
-//! The puts of resources, one after the other.
+//! The puts of resources, one after another.
 
 ghost use Rattle.std.specs.Prelude.{◌≡◌, ◌≤◌, ◌++◌, ◌∷◌, ◌<◌, [], true, length, IfOk, IfErr};
 ghost use Rattle.std.specs.List.{AllByRecursion};
 ghost use Rattle.std.specs.Vec.{vec_capacity};
 ghost use Rattle.provider_trait.specs.declared.answer.Answer.TheVariants.{Stored};
-ghost use Rattle.deploy_cli.specs.declared.ending.Ending.TheVariants.{OutOfMemory};
+ghost use Rattle.deploy_cli.specs.declared.outcome.Outcome.TheVariants.{OutOfMemory};
 ghost use Rattle.deploy_cli.specs.Puts.{put_of, puts, calls_of};
-ghost use Rattle.deploy_cli.specs.Course.{MayAnswer, StoresNothing, gave_one, CountsOne, CanPut, ComeTo, gave_by, CountsTo};
+ghost use Rattle.deploy_cli.specs.Outcomes.{MayAnswer, StoresNothing, gave_one, CountsOne, CanPut};
+ghost use Rattle.deploy_cli.specs.Outcomes.{PutsHaveOutcome, gave_by, CountsTo};
 
-use crate::ending::Ending;
 use crate::job::{id_of, put_of};
+use crate::outcome::Outcome;
 use arm_ids::Place;
 use literal_template::Resource;
 use provider_trait::{Answer, Provider, ProviderFault, Seat, State};
 use std::alloc::Global;
 
-/// How the puts of resources went.
+/// A deployment that was made.
 #[derive(Drop)]
-pub(crate) struct Course {
-    /// How they ended.
-    pub ending: Ending,
-    /// The states in which the first of the resources were stored, in their order.
+pub(crate) struct Deployment {
+    /// How it ended.
+    pub outcome: Outcome,
+    /// The states in which the first resources were stored, in the order of the resources.
     pub states: Vec<State>,
 }
 
-/// Puts the resources one after the other, up to the first that is not stored, as the tasks from 1 on.
+/// Puts the resources one after another, up to the first that is not stored, as the tasks from 1 on.
 ///
-/// No memory is wanted once the last was stored.
+/// It takes no memory after the last put.
 pub(crate) fn put_all<P: Provider>(
     alloc: Global,
     place: &Place,
     resources: &[Resource],
     provider: &mut P,
-) -> Course
+) -> Deployment
     requires can { AllByRecursion (CanPut place.now) resources.now }
     requires few { length resources.now ≤ 800 }
-    ensures comes { ComeTo P.may place.now resources.now result.states.items result.ending }
-    ensures told { P.tells ≡ true →
-        P.calls provider.new ≡ P.calls provider.old ++ calls_of (puts place.now 1 resources.now) (gave_by result.states.items result.ending) }
-    ensures count { CountsTo (P.faults provider.old) (P.faults provider.new) result.ending }
+    ensures comes { PutsHaveOutcome P.may place.now resources.now result.states.items result.outcome }
+    ensures calls { P.tells ≡ true → P.calls provider.new
+        ≡ P.calls provider.old
+        ++ calls_of (puts place.now 1 resources.now) (gave_by result.states.items result.outcome) }
+    ensures count { CountsTo (P.faults provider.old) (P.faults provider.new) result.outcome }
 {
     let Ok(mut states) = Vec::with_capacity(alloc, resources.len()) else {
         return none_put(alloc);
@@ -47,28 +49,28 @@ pub(crate) fn put_all<P: Provider>(
     while let Some(resource) = resources.get(states.len()) {
         match put_one(alloc, place, task, resource, provider) {
             Ok(state) => add(&mut states, state),
-            Err(ending) => return Course { ending, states },
+            Err(outcome) => return Deployment { outcome, states },
         }
         task += 1;
     }
-    Course {
-        ending: Ending::Succeeded,
+    Deployment {
+        outcome: Outcome::Succeeded,
         states,
     }
 }
 
-// Want of memory before the first put.
-fn none_put(alloc: Global) -> Course
-    ensures ending { result.ending ≡ OutOfMemory }
+// A deployment that was out of memory before its first put.
+fn none_put(alloc: Global) -> Deployment
+    ensures outcome { result.outcome ≡ OutOfMemory }
     ensures states { result.states.items ≡ [] }
 {
-    Course {
-        ending: Ending::OutOfMemory,
+    Deployment {
+        outcome: Outcome::OutOfMemory,
         states: Vec::new(alloc),
     }
 }
 
-// Adds a state, for which there is room.
+// Adds a state to a list that has room for it.
 fn add(states: &mut Vec<State>, state: State)
     requires { length states.old.items < vec_capacity states.old }
     ensures items { states.new.items ≡ states.old.items ++ state ∷ [] }
@@ -79,35 +81,35 @@ fn add(states: &mut Vec<State>, state: State)
     }
 }
 
-// Puts a resource, as that task, and answers the state in which it was stored, or how the deployment ended.
+// Puts a resource, as that task. Returns the state in which it was stored, or the outcome of the deployment.
 fn put_one<P: Provider>(
     alloc: Global,
     place: &Place,
     task: u32,
     resource: &Resource,
     provider: &mut P,
-) -> Result<State, Ending>
+) -> Result<State, Outcome>
     requires { CanPut place.now resource.now }
     ensures stored { IfOk result (λ s. MayAnswer P.may place.now resource.now (Stored s)) }
     ensures not_stored { IfErr result (StoresNothing P.may place.now resource.now) }
-    ensures told { P.tells ≡ true →
-        P.calls provider.new ≡ P.calls provider.old ++ calls_of (put_of place.now task resource.now ∷ []) (gave_one result) }
+    ensures calls { P.tells ≡ true → P.calls provider.new
+        ≡ P.calls provider.old ++ calls_of (put_of place.now task resource.now ∷ []) (gave_one result) }
     ensures count { CountsOne (P.faults provider.old) (P.faults provider.new) result }
 {
     let Ok(id) = id_of(alloc, place, resource) else {
-        return Err(Ending::OutOfMemory);
+        return Err(Outcome::OutOfMemory);
     };
     let Ok(shown) = id.copy(alloc) else {
-        return Err(Ending::OutOfMemory);
+        return Err(Outcome::OutOfMemory);
     };
     let Ok(job) = put_of(alloc, task, id, resource) else {
-        return Err(Ending::OutOfMemory);
+        return Err(Outcome::OutOfMemory);
     };
     match provider.put(alloc, &job) {
         Ok(Answer::Stored(state)) => Ok(state),
-        Ok(Answer::Refused(code)) => Err(Ending::Refused(code, shown)),
+        Ok(Answer::Refused(code)) => Err(Outcome::Refused(code, shown)),
         Ok(Answer::Gone) => unreachable!(),
-        Err(ProviderFault::Fault) => Err(Ending::ProviderFault),
-        Err(ProviderFault::OutOfMemory) => Err(Ending::OutOfMemory),
+        Err(ProviderFault::Fault) => Err(Outcome::ProviderFault),
+        Err(ProviderFault::OutOfMemory) => Err(Outcome::OutOfMemory),
     }
 }

@@ -1,20 +1,22 @@
-//! What is printed of an ending.
+//! The line of an outcome, and how it is printed.
 
 ghost use Rattle.std.specs.Prelude.{◌≡◌, ◌++◌, codes};
 ghost use Rattle.arm_edges.specs.Faults.{HasCause};
-ghost use Rattle.deploy_cli.specs.Report.{Wrote, three, refused_line, fault_line, lexical_prefix, syntax_prefix, line_of, usage};
+ghost use Rattle.deploy_cli.specs.Report.{Wrote, three, refused_line, fault_line, lexical_prefix};
+ghost use Rattle.deploy_cli.specs.Report.{syntax_prefix, line_of, usage};
 ghost use Rattle.deploy_cli.specs.Words.{deploy_of};
 
-use crate::ending::Ending;
+use crate::outcome::Outcome;
 use crate::words::Command;
 use arm_edges::{Failed, Sink};
 use bicep_lexer::LexFault;
 use bicep_parser::ParseFault;
 
-// Writes the whole text, or a front of it where the output fails.
+// Writes the whole text, or a beginning of it where the output fails.
 #[tactic(auto, using(crate::proofs::Parts::part_next))]
 fn write_all<O: Sink>(out: &mut O, text: &str) -> Result<(), Failed>
-    ensures wrote { Wrote O.tells_written (O.written out.old) (O.written out.new) text.now result }
+    ensures wrote { Wrote O.tells_written (O.written out.old) (O.written out.new)
+        text.now result }
     ensures cause { HasCause (O.faults out.old) (O.faults out.new) result }
 {
     let bytes = text.as_bytes();
@@ -28,9 +30,10 @@ fn write_all<O: Sink>(out: &mut O, text: &str) -> Result<(), Failed>
     Ok(())
 }
 
-// Writes these two texts one after the other, or a front of them where the output fails.
+// Writes these two texts one after another, or a beginning of them where the output fails.
 fn write_both<O: Sink>(out: &mut O, first: &str, second: &str) -> Result<(), Failed>
-    ensures wrote { Wrote O.tells_written (O.written out.old) (O.written out.new) (first.now ++ second.now) result }
+    ensures wrote { Wrote O.tells_written (O.written out.old) (O.written out.new)
+        (first.now ++ second.now) result }
     ensures cause { HasCause (O.faults out.old) (O.faults out.new) result }
 {
     match write_all(out, first) {
@@ -39,9 +42,10 @@ fn write_both<O: Sink>(out: &mut O, first: &str, second: &str) -> Result<(), Fai
     }
 }
 
-// Writes these three texts one after the other, or a front of them where the output fails.
+// Writes these three texts one after another, or a beginning of them where the output fails.
 fn write_three<O: Sink>(out: &mut O, first: &str, second: &str, third: &str) -> Result<(), Failed>
-    ensures wrote { Wrote O.tells_written (O.written out.old) (O.written out.new) (three first.now second.now third.now) result }
+    ensures wrote { Wrote O.tells_written (O.written out.old) (O.written out.new)
+        (three first.now second.now third.now) result }
     ensures cause { HasCause (O.faults out.old) (O.faults out.new) result }
 {
     match write_all(out, first) {
@@ -52,7 +56,8 @@ fn write_three<O: Sink>(out: &mut O, first: &str, second: &str, third: &str) -> 
 
 // Writes the end of the line of a refused put.
 fn write_refusal<O: Sink>(out: &mut O, code: &str, id: &str) -> Result<(), Failed>
-    ensures wrote { Wrote O.tells_written (O.written out.old) (O.written out.new) (three code.now (codes ": ") id.now ++ codes "\n") result }
+    ensures wrote { Wrote O.tells_written (O.written out.old) (O.written out.new)
+        (three code.now (codes ": ") id.now ++ codes "\n") result }
     ensures cause { HasCause (O.faults out.old) (O.faults out.new) result }
 {
     match write_three(out, code, ": ", id) {
@@ -63,7 +68,8 @@ fn write_refusal<O: Sink>(out: &mut O, code: &str, id: &str) -> Result<(), Faile
 
 // Writes the line of a refused put.
 fn write_refused<O: Sink>(out: &mut O, name: &str, code: &str, id: &str) -> Result<(), Failed>
-    ensures wrote { Wrote O.tells_written (O.written out.old) (O.written out.new) (refused_line name.now code.now id.now) result }
+    ensures wrote { Wrote O.tells_written (O.written out.old) (O.written out.new)
+        (refused_line name.now code.now id.now) result }
     ensures cause { HasCause (O.faults out.old) (O.faults out.new) result }
 {
     match write_three(out, "Failed ", name, ": ") {
@@ -99,7 +105,8 @@ fn syntax_prefix(fault: ParseFault) -> &'static str
 
 // Writes the line of a fault of the lexer or the parser.
 fn write_fault<O: Sink>(out: &mut O, prefix: &str, file: &str, place: &str) -> Result<(), Failed>
-    ensures wrote { Wrote O.tells_written (O.written out.old) (O.written out.new) (fault_line prefix.now file.now place.now) result }
+    ensures wrote { Wrote O.tells_written (O.written out.old) (O.written out.new)
+        (fault_line prefix.now file.now place.now) result }
     ensures cause { HasCause (O.faults out.old) (O.faults out.new) result }
 {
     match write_three(out, prefix, file, ":") {
@@ -108,37 +115,43 @@ fn write_fault<O: Sink>(out: &mut O, prefix: &str, file: &str, place: &str) -> R
     }
 }
 
-/// Prints the line of an ending, or a front of it where the output fails.
-pub(crate) fn print<O: Sink>(out: &mut O, command: &Command, ending: &Ending) -> Result<(), Failed>
-    ensures wrote { Wrote O.tells_written (O.written out.old) (O.written out.new) (line_of (deploy_of command.now) ending.now) result }
+/// Prints the line of an outcome, or a beginning of it where the output fails.
+pub(crate) fn print<O: Sink>(
+    out: &mut O,
+    command: &Command,
+    outcome: &Outcome,
+) -> Result<(), Failed>
+    ensures wrote { Wrote O.tells_written (O.written out.old) (O.written out.new)
+        (line_of (deploy_of command.now) outcome.now) result }
     ensures cause { HasCause (O.faults out.old) (O.faults out.new) result }
 {
     let Command { file, group, name } = *command;
-    match ending {
-        Ending::Succeeded => write_three(out, "Succeeded ", name, "\n"),
-        Ending::Refused(code, id) => write_refused(out, name, code.as_str(), id.as_str()),
-        Ending::Missing => write_three(out, "error ModuleMissing: ", file, "\n"),
-        Ending::TooLarge => write_three(out, "error TooLarge: ", file, "\n"),
-        Ending::NotText => write_three(out, "error NotText: ", file, "\n"),
-        Ending::Lexical(fault, place) => {
+    match outcome {
+        Outcome::Succeeded => write_three(out, "Succeeded ", name, "\n"),
+        Outcome::Refused(code, id) => write_refused(out, name, code.as_str(), id.as_str()),
+        Outcome::Missing => write_three(out, "error ModuleMissing: ", file, "\n"),
+        Outcome::TooLarge => write_three(out, "error TooLarge: ", file, "\n"),
+        Outcome::NotText => write_three(out, "error NotText: ", file, "\n"),
+        Outcome::Lexical(fault, place) => {
             write_fault(out, lexical_prefix(*fault), file, place.as_str())
         }
-        Ending::Syntax(fault, place) => {
+        Outcome::Syntax(fault, place) => {
             write_fault(out, syntax_prefix(*fault), file, place.as_str())
         }
-        Ending::NotBuilt => write_three(out, "error NotBuilt: ", file, "\n"),
-        Ending::BadGroup => write_three(out, "error InvalidParameter: BadName ", group, "\n"),
-        Ending::BadDeployment => write_three(out, "error InvalidParameter: BadName ", name, "\n"),
-        Ending::TreeFault => write_all(out, "fault tree\n"),
-        Ending::ProviderFault => write_all(out, "fault provider 0\n"),
-        Ending::OutOfMemory => write_all(out, "fault memory\n"),
+        Outcome::NotBuilt => write_three(out, "error NotBuilt: ", file, "\n"),
+        Outcome::BadGroup => write_three(out, "error InvalidParameter: BadName ", group, "\n"),
+        Outcome::BadDeployment => write_three(out, "error InvalidParameter: BadName ", name, "\n"),
+        Outcome::TreeFault => write_all(out, "fault tree\n"),
+        Outcome::ProviderFault => write_all(out, "fault provider 0\n"),
+        Outcome::OutOfMemory => write_all(out, "fault memory\n"),
     }
 }
 
-/// Prints the usage, or a front of it where the output fails.
+/// Prints the usage, or a beginning of it where the output fails.
 #[tactic(auto, unfolding(crate::specs::Report::usage))]
 pub(crate) fn print_usage<O: Sink>(out: &mut O) -> Result<(), Failed>
-    ensures wrote { Wrote O.tells_written (O.written out.old) (O.written out.new) usage result }
+    ensures wrote { Wrote O.tells_written (O.written out.old) (O.written out.new)
+        usage result }
     ensures cause { HasCause (O.faults out.old) (O.faults out.new) result }
 {
     write_all(

@@ -154,7 +154,7 @@ holds_within records at file h =
       length-front records at h.place,
     )
 
--- the file with a record's bytes behind its closed gate
+-- the file with a record's bytes after its closed gate
 pub staged : (records : List Record) (at : ℕ) (r : Record) (old : List ℕ) (h : Holds records at old)
     → (rest : List ℕ) × (patched (at + 1) (body r (0 ∷ [])) old ≡ front_of records ++ (h.gate ∷ body r (0 ∷ rest)))
 staged records at r old h =

@@ -26,7 +26,7 @@ length_put done k buf part all size =
       length-drop done buf,
     )
 
--- a read behind what was read
+-- a read after what was read
 pub read_more : (done k n : ℕ) (buf part file : List ℕ) → done + k ≡ length buf → length part ≡ k → n ≤ k
     → take done buf ≡ take done file → take n part ≡ take n (drop done file)
     → take (done + n) (put_mid done k buf part) ≡ take (done + n) file

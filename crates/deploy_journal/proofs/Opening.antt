@@ -41,7 +41,7 @@ ended records at file place so_far gate k closed here = record {
   place = place;
 }
 
--- damage where a gate is to stand, or a record
+-- damage in the place of a gate, or of a record
 pub no_gate : (records : List Record) (at : ℕ) (file : List ℕ) → beginning ++ spelled records (drop at file) ≡ file
     → at ≡ length file → IsDamagedAt file at
 no_gate records at file so_far end =

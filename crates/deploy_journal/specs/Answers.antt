@@ -1,4 +1,4 @@
--- What the adding of a record answers, and when.
+-- What an append answers, and when.
 use Rattle.std.specs.Prelude.{◌≡◌, ℕ, ◌<◌, ◌≤◌, min, Bool, true, false, Result, Ok, Err}
 use Rattle.arm_edges.specs.Faults.{Rose}
 use Rattle.deploy_journal.specs.declared.journal.AppendFault.{AppendFault}
@@ -11,12 +11,12 @@ pub record Standing : Type 0 where
   pub length : ℕ
   pub faults : ℕ
 
--- where a journal stands, from its parts
+-- what a caller sees, from its parts
 abbrev pub standing : Bool → ℕ → ℕ → Standing
 standing must_reopen length faults = record { must_reopen = must_reopen; length = length; faults = faults }
 
--- the answer of a journal that stands so to a record with which its length would be sum, under that limit; it then
--- stands anew
+-- the answer of a journal to a record with which its length would be sum, under that limit, by what a caller sees of
+-- the journal before and after
 abbrev pub AppendAnswers : Standing → Standing → ℕ → ℕ → Result (Unit {0}) AppendFault → Type 0
 AppendAnswers old new sum limit (Ok u) = (old.must_reopen ≡ false) × (sum ≤ limit) × (new.must_reopen ≡ false)
     × (new.length ≡ sum) × (new.faults ≡ old.faults)
@@ -26,7 +26,7 @@ AppendAnswers old new sum limit (Err DiskFault) = (old.must_reopen ≡ false) ×
     × Rose old.faults new.faults × (new.must_reopen ≡ true) × (new.length ≡ old.length)
 AppendAnswers old new sum limit (Err MustReopen) = (old.must_reopen ≡ true) × (new ≡ old)
 
--- the answers after which the disk is as it was
+-- the answers after which the disk is unchanged
 abbrev pub DidNothing : Result (Unit {0}) AppendFault → Type 0
 DidNothing (Ok u) = ⊥
 DidNothing (Err (Full length needed)) = Unit {0}

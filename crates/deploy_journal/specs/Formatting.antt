@@ -5,8 +5,8 @@ use Rattle.arm_edges.specs.Faults.{Rose}
 use Rattle.deploy_journal.specs.declared.formatting.FormatFault.{FormatFault}
 use Rattle.deploy_journal.specs.declared.formatting.FormatFault.TheVariants.{NotEmpty, DiskFault}
 
--- when each answer comes, by whether the disk tells its reads, what a read gave before and after, and the count of
--- faults before and after
+-- when each answer comes, by whether the disk reports its reads, what a read returns before and after, and the count
+-- of faults before and after
 abbrev pub FormatAnswers : Bool → Parts → Parts → ℕ → ℕ → Result (Unit {0}) FormatFault → Type 0
 FormatAnswers tells old new before after (Ok u) = (tells ≡ true → length old.a ≡ 0) × (after ≡ before)
 FormatAnswers tells old new before after (Err (NotEmpty n)) = (tells ≡ true → n ≡ length old.a) × (0 < n)

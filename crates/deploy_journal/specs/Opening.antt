@@ -6,8 +6,7 @@ use Rattle.deploy_journal.specs.declared.read.OpenFault.{OpenFault}
 use Rattle.deploy_journal.specs.declared.read.OpenFault.TheVariants.{OutOfMemory, Damaged, DiskFault}
 use Rattle.deploy_journal.specs.Records.{body, IsCutShort, IsDamagedAt}
 
--- at the front of these bytes stands a record behind an open gate, a closed gate, or an open gate and less than a
--- record
+-- these bytes begin with an open gate and a record, with a closed gate, or with an open gate and less than a record
 abbrev pub NextMeans : Next → List ℕ → Type 0
 NextMeans (Entry r) rest = rest ≡ 1 ∷ body r (drop (18 + length r.first + length r.second) rest)
 NextMeans End rest = (gate : ℕ) × (k : List ℕ) × (gate ≢ 1) × (rest ≡ gate ∷ k)
@@ -19,7 +18,7 @@ NextFits left (Entry r) = 18 + length r.first + length r.second ≤ left
 NextFits left End = Unit {0}
 NextFits left Cut = Unit {0}
 
--- where an opening says that the file is damaged, it is
+-- where an opening answers that the file is damaged, it is
 abbrev pub DamageMeans : List ℕ → OpenFault → Type 0
 DamageMeans file OutOfMemory = Unit {0}
 DamageMeans file (Damaged at) = IsDamagedAt file at

@@ -1,4 +1,4 @@
--- What calls that only read leave as it was.
+-- What calls that only read leave unchanged.
 use Rattle.std.specs.Prelude.{◌≡◌, ℕ, Bool, true, Result, OnOk, IfErr}
 use Rattle.arm_edges.specs.Disk.{Parts, GoesOn, Unchanged}
 use Rattle.arm_edges.specs.Faults.{Rose}

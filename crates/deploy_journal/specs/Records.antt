@@ -1,4 +1,4 @@
--- A file of records, and what it stands for.
+-- A file of records, and which records it holds.
 use Rattle.std.specs.Prelude.{◌≡◌, ◌≢◌, ◌⊎◌, ℕ, ◌+◌, ◌≤◌, List, [], ◌∷◌, ◌++◌, length, take, drop, codes}
 use Rattle.std.specs.Int.{w64, to_be_bytes}
 use Rattle.arm_edges.specs.Disk.{Parts}
@@ -12,7 +12,7 @@ Record = Entry
 unfoldable pub eight : ℕ → List ℕ
 eight n = to_be_bytes w64 n
 
--- the bytes of a record behind its gate, and then rest
+-- the bytes of a record after its gate, and then rest
 abbrev pub body_bytes : ℕ → List ℕ → List ℕ → List ℕ → List ℕ
 body_bytes kind first second rest =
     kind ∷ (eight (length first) ++ (eight (length second) ++ (first ++ (second ++ rest))))
@@ -21,7 +21,7 @@ body_bytes kind first second rest =
 abbrev pub body : Record → List ℕ → List ℕ
 body r rest = body_bytes r.kind r.first r.second rest
 
--- the records, each behind an open gate, and then rest
+-- the records, each after an open gate, and then rest
 abbrev pub spelled : List Record → List ℕ → List ℕ
 spelled [] rest = rest
 spelled (r ∷ records) rest = 1 ∷ body r (spelled records rest)
@@ -34,7 +34,7 @@ patched at bytes old = take at old ++ (bytes ++ drop (at + length bytes) old)
 abbrev pub beginning : List ℕ
 beginning = codes "armdeploy-jrnl-1"
 
--- the file holds these records: behind them stands a closed gate at this place, and then anything
+-- the file holds these records: after them is a closed gate, at this place, and then anything
 pub record Holds (records : List Record) (gate_at : ℕ) (file : List ℕ) : Type 0 where
   pub gate : ℕ
   pub rest : List ℕ
@@ -46,15 +46,15 @@ pub record Holds (records : List Record) (gate_at : ℕ) (file : List ℕ) : Typ
 abbrev pub HoldsRecords : List Record → List ℕ → Type 0
 HoldsRecords records file = (gate_at : ℕ) × Holds records gate_at file
 
--- the bytes are no record behind an open gate: it ends too soon
+-- the bytes after an open gate are no record: they end too soon
 abbrev pub IsCutShort : List ℕ → Type 0
 IsCutShort rest = (r : Record) (k : List ℕ) → rest ≡ body r k → ⊥
 
--- the bytes end where a gate is to stand, or where the rest of a record is
+-- the bytes end in the place of a gate, or inside a record
 abbrev pub EndsBadly : List ℕ → Type 0
 EndsBadly rest = (rest ≡ []) ⊎ ((cut : List ℕ) × (rest ≡ 1 ∷ cut) × IsCutShort cut)
 
--- the file holds no journal, as this place shows: it begins otherwise, or behind some records it ends badly
+-- the file holds no journal, as this place shows: it does not begin as one, or after some records it ends badly
 abbrev pub IsDamagedAt : List ℕ → ℕ → Type 0
 IsDamagedAt file at =
     ((at ≡ 0) × ((rest : List ℕ) → file ≡ beginning ++ rest → ⊥))
@@ -65,7 +65,7 @@ IsDamagedAt file at =
 abbrev pub KeepsB : Parts → Parts → Type 0
 KeepsB old new = new.b ≡ old.b
 
--- part A begins as it did, up to this place, and part B is unchanged
+-- part A is unchanged up to this place, and part B is unchanged
 pub record KeepsFront (n : ℕ) (old new : Parts) : Type 0 where
   pub front : n ≤ length old.a → (take n new.a ≡ take n old.a) × (n ≤ length new.a)
   pub part_b : KeepsB old new

@@ -1,17 +1,19 @@
 // The device calls of an append. Nothing before the closed gate is written until the body is on the disk.
-ghost use Rattle.std.specs.Prelude.{◌≡◌, ◌<◌, ◌^◌, ◌≢◌, ◌⊎◌, ◌+◌, ◌≤◌, ◌++◌, [], ◌∷◌, ℕ, List, true, length, take, drop, OnOk};
+ghost use Rattle.std.specs.Prelude.{◌≡◌, ◌<◌, ◌^◌, ◌≢◌, ◌⊎◌, ◌+◌, ◌≤◌, ◌++◌, [], ◌∷◌, ℕ, List, true, length, take};
+ghost use Rattle.std.specs.Prelude.{drop, OnOk};
 ghost use Rattle.arm_edges.specs.Disk.{GoesOn, IsKept};
 ghost use Rattle.arm_edges.specs.Faults.{HasCause};
 ghost use Rattle.arm_edges.specs.declared.disk.Part.TheVariants.{A};
-ghost use Rattle.deploy_journal.specs.Records.{eight, patched, body_bytes, KeepsB, KeepsFront, Holds, Record, record_of, Since, IsOneOf};
+ghost use Rattle.deploy_journal.specs.Records.{eight, patched, body_bytes, KeepsB, KeepsFront, Holds, Record};
+ghost use Rattle.deploy_journal.specs.Records.{record_of, Since, IsOneOf};
 
 use arm_edges::{Disk, Failed, Part};
 
-// Writes bytes behind a front that stays.
+// Writes bytes after a front that stays unchanged.
 #[tactic(auto, unfolding(crate::specs::Records::eight))]
-fn write_behind<D: Disk>(disk: &mut D, front: u64, at: u64, bytes: &[u8]) -> Result<(), Failed>
+fn write_past<D: Disk>(disk: &mut D, front: u64, at: u64, bytes: &[u8]) -> Result<(), Failed>
     requires fits { at + length bytes.now ≤ D.reach disk.old }
-    requires behind { front ≤ at }
+    requires past { front ≤ at }
     ensures written { OnOk result (D.tells_reads ≡ true → at ≤ length (D.reads disk.old).a
         → (D.reads disk.new).a ≡ patched at bytes.now (D.reads disk.old).a) }
     ensures part_b { D.tells_reads ≡ true → KeepsB (D.reads disk.old) (D.reads disk.new) }
@@ -32,7 +34,7 @@ fn header_of(kind: u8, first: usize, second: usize) -> [u8; 17]
     [kind, a, b, c, d, e, f, g, h, i, j, k, l, m, n, o, p]
 }
 
-// Writes a record's bytes and a closed gate behind them, and syncs.
+// Writes a record's bytes and a closed gate after them, and syncs.
 fn write_body<D: Disk>(
     disk: &mut D,
     at: u64,
@@ -57,14 +59,15 @@ fn write_body<D: Disk>(
     let first_at = at + 17;
     let second_at = first_at + first.len() as u64;
     let gate_at = second_at + second.len() as u64;
-    write_behind(disk, at, at, &header)?;
-    write_behind(disk, at, first_at, first)?;
-    write_behind(disk, at, second_at, second)?;
-    write_behind(disk, at, gate_at, &[0])?;
+    write_past(disk, at, at, &header)?;
+    write_past(disk, at, first_at, first)?;
+    write_past(disk, at, second_at, second)?;
+    write_past(disk, at, gate_at, &[0])?;
     disk.sync(Part::A)
 }
 
-// Adds a record behind the closed gate at this place. Each call is in place before the next is made.
+// Adds a record after the closed gate at this place, and then opens this gate. A sync comes before the gate is opened,
+// and another one after.
 pub(crate) fn put_record<D: Disk>(
     disk: &mut D,
     gate: u64,

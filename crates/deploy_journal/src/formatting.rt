@@ -1,3 +1,4 @@
+// The writing of a journal without records.
 ghost use Rattle.std.specs.Prelude.{◌≡◌, ◌<◌, ◌-◌, ◌≤◌, [], ◌∷◌, true, length, OnOk};
 ghost use Rattle.arm_edges.specs.Disk.{GoesOn, IsKept};
 ghost use Rattle.arm_edges.specs.declared.disk.Part.TheVariants.{A};
@@ -11,7 +12,7 @@ use arm_edges::{Disk, Part};
 /// Why a journal was not written.
 #[derive(Clone, Copy, Debug, PartialEq, Eq)]
 pub enum FormatFault {
-    /// Part A has bytes already, so many.
+    /// Part A has bytes already; their number.
     NotEmpty(u64),
     /// The disk failed, and its count of faults rose.
     DiskFault,
@@ -21,7 +22,8 @@ pub enum FormatFault {
 const EMPTY: [u8; 17] = *b"armdeploy-jrnl-1\0";
 
 impl<D: Disk> Journal<D> {
-    /// Writes a journal without records to part A, which must be empty, and syncs it. A stop inside leaves a file that the operator deletes.
+    /// Writes a journal without records to part A, which must be empty, and syncs it. A stop inside leaves a file that
+    /// the operator deletes.
     pub fn format(disk: &mut D) -> Result<(), FormatFault>
         requires { 17 ≤ D.reach disk.old }
         ensures answers { FormatAnswers D.tells_reads (D.reads disk.old) (D.reads disk.new)

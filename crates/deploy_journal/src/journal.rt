@@ -1,4 +1,6 @@
-ghost use Rattle.std.specs.Prelude.{◌≡◌, ◌<◌, ◌^◌, ◌⊎◌, ◌+◌, ◌-◌, ◌≤◌, ◌++◌, [], ◌∷◌, ℕ, List, true, false, length, if◌then◌else◌, OnOk, OnErr, IfOk, IfErr, MatchOption};
+// A journal over a disk: opened, and with one record more.
+ghost use Rattle.std.specs.Prelude.{◌≡◌, ◌<◌, ◌^◌, ◌⊎◌, ◌+◌, ◌-◌, ◌≤◌, ◌++◌, [], ◌∷◌, ℕ, List, true, false, length};
+ghost use Rattle.std.specs.Prelude.{if◌then◌else◌, OnOk, OnErr, IfOk, IfErr, MatchOption};
 ghost use Rattle.arm_edges.specs.Disk.{GoesOn, IsKept};
 ghost use Rattle.arm_edges.specs.declared.disk.Part.TheVariants.{A};
 ghost use Rattle.deploy_journal.specs.Records.{Holds, Record as Entry, record_of, KeepsB, Since, IsOneOf, IsDamagedAt};
@@ -16,22 +18,23 @@ use std::alloc::Global;
 /// Why a record was not added.
 #[derive(Clone, Copy, Debug, PartialEq, Eq)]
 pub enum AppendFault {
-    /// The live length with the record exceeds the limit. Nothing was written. Both in bytes; `needed` is the length with the record, or 2^64 - 1 where it is more.
+    /// The live length with the record exceeds the limit. Nothing was written. Both in bytes; `needed` is the length
+    /// with the record, or 2^64 - 1 where it is more.
     Full { length: u64, needed: u64 },
-    /// The disk failed, and its count of faults rose. The record is there or not, and the journal must be reopened.
+    /// The disk failed, and its count of faults rose. The record may be there or not, and the journal must be reopened.
     DiskFault,
-    /// A call has failed by `DiskFault` before. Nothing was written.
+    /// An earlier call failed by `DiskFault`. Nothing was written.
     MustReopen,
 }
 
-/// A journal over a disk. Its records stand in part A.
+/// A journal over a disk. Its records are in part A.
 #[derive(Drop)]
 pub struct Journal<D: Disk> {
     /// The disk.
     pub disk: D,
     /// How long the journal may grow, in bytes.
     pub limit: u64,
-    /// The live length: the bytes up to the closed gate behind the last record, that gate among them.
+    /// The live length: the bytes up to the closed gate after the last record, that gate included.
     pub length: u64,
     /// Whether a call has failed by `DiskFault`.
     pub must_reopen: bool,
@@ -44,7 +47,7 @@ pub struct Journal<D: Disk> {
 /// How far a record may go beyond the limit where it is written from the reserve, in bytes.
 pub const RESERVE: u64 = 4096;
 
-// The length with one record more; none where it is 2 ^ 64 or more.
+// The length in bytes with one record more; None where it is 2^64 or more.
 fn length_with(length: u64, first: usize, second: usize) -> Option<u64>
     ensures { MatchOption result (2 ^ 64 ≤ length + (18 + first + second)) (λ n.
         n ≡ length + (18 + first + second)) }
@@ -55,7 +58,8 @@ fn length_with(length: u64, first: usize, second: usize) -> Option<u64>
 }
 
 impl<D: Disk> Journal<D> {
-    /// Adds one record. It is there in every later image once this has answered Ok. With `reserve` the limit is 4,096 bytes higher.
+    /// Adds one record. Once this has answered Ok, the record is in every later image. With `reserve` the limit is
+    /// 4,096 bytes higher.
     pub fn append(
         &mut self,
         kind: u8,
@@ -125,7 +129,7 @@ impl<D: Disk> Journal<D> {
     }
 }
 
-/// A journal that was not opened. The disk is handed back, and the fault speaks of its count.
+/// A journal that was not opened: its disk, and the reason.
 #[derive(Debug, Drop)]
 pub struct NotOpened<D> {
     pub disk: D,
@@ -171,7 +175,7 @@ impl<D: Disk> Journal<D> {
         }
     }
 
-    /// Gives the disk back.
+    /// Returns the disk.
     pub fn into_disk(self) -> D
         ensures { result ≡ self.disk }
     {

@@ -2,8 +2,8 @@
 ghost use Rattle.std.specs.Prelude.{◌≡◌, ◌<◌, ◌^◌, ℕ, List, length};
 ghost use Rattle.deploy_journal.specs.Records.{Record, Holds, IsDamagedAt};
 
-/// A file holds one list of records at most, and the closed gate behind them stands at one place.
-pub fn records_are_told_by_the_bytes()
+/// A file holds one list of records at most, and the closed gate after them is at one place.
+pub fn records_follow_from_the_bytes()
     ensures { (file : List ℕ) (xs ys : List Record) (m n : ℕ) → length file < 2 ^ 64
         → Holds xs m file → Holds ys n file → (xs ≡ ys) × (m ≡ n) }
 {}

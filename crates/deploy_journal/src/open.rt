@@ -1,5 +1,6 @@
 // The records of a file, from its first byte to its first closed gate.
-ghost use Rattle.std.specs.Prelude.{◌≡◌, ◌≢◌, ◌<◌, ◌^◌, ◌+◌, ◌-◌, ◌≤◌, ◌++◌, [], ◌∷◌, ℕ, List, true, false, length, take, drop, IfOk, IfErr, OnOk};
+ghost use Rattle.std.specs.Prelude.{◌≡◌, ◌≢◌, ◌<◌, ◌^◌, ◌+◌, ◌-◌, ◌≤◌, ◌++◌, [], ◌∷◌, ℕ, List, true, false, length};
+ghost use Rattle.std.specs.Prelude.{take, drop, IfOk, IfErr, OnOk};
 ghost use Rattle.deploy_journal.specs.Records.{Record, beginning, Holds};
 ghost use Rattle.arm_edges.specs.Disk.{IsKept};
 ghost use Rattle.arm_edges.specs.declared.disk.Part.TheVariants.{A};
@@ -11,7 +12,7 @@ use crate::record::Record;
 use arm_edges::{Disk, Failed, Part};
 use std::alloc::Global;
 
-// What stands at a place: a record behind an open gate, a closed gate, or an open gate and less than a record.
+// What is at a place: an open gate and a record, a closed gate, or an open gate and less than a record.
 #[derive(Drop)]
 pub enum Next {
     Entry(Record),
@@ -19,7 +20,7 @@ pub enum Next {
     Cut,
 }
 
-// Reads what stands at a place that is within the file.
+// Reads what is at a place that is within the file.
 fn read_next<D: Disk>(alloc: Global, disk: &mut D, at: u64, left: u64) -> Result<Next, OpenFault>
     requires fits { at + left < 2 ^ 64 }
     requires within { 0 < left }
@@ -44,7 +45,7 @@ fn read_next<D: Disk>(alloc: Global, disk: &mut D, at: u64, left: u64) -> Result
     }
 }
 
-// The records behind the beginning, and how far they go with the closed gate behind them.
+// The records after the beginning, and the place after the closed gate that ends them.
 fn read_records<D: Disk>(
     alloc: Global,
     disk: &mut D,

@@ -1,5 +1,6 @@
 // Reads of part A, which change nothing.
-ghost use Rattle.std.specs.Prelude.{◌≡◌, ◌<◌, ◌^◌, ◌+◌, ◌≤◌, ◌++◌, [], ◌∷◌, ℕ, List, true, length, take, drop, IfOk, MatchOption, ⊤};
+ghost use Rattle.std.specs.Prelude.{◌≡◌, ◌<◌, ◌^◌, ◌+◌, ◌≤◌, ◌++◌, [], ◌∷◌, ℕ, List, true, length, take, drop, IfOk};
+ghost use Rattle.std.specs.Prelude.{MatchOption, ⊤};
 ghost use Rattle.deploy_journal.specs.Records.{Record, body, eight, IsCutShort};
 ghost use Rattle.arm_edges.specs.Faults.{HasCause};
 ghost use Rattle.deploy_journal.specs.Reading.{Still, ReadCause};
@@ -12,9 +13,10 @@ use std::alloc::Global;
 /// Why a journal was not opened.
 #[derive(Clone, Copy, Debug, PartialEq, Eq)]
 pub enum OpenFault {
-    /// There was not memory enough for its records.
+    /// Out of memory for its records.
     OutOfMemory,
-    /// Part A holds no journal, as the byte at this place shows: 0 where it begins otherwise, its length where a gate is missing, the place of an open gate whose record is cut short.
+    /// Part A holds no journal, as the byte at this place shows: 0 where the part does not begin as a journal does, its
+    /// length where a gate is missing, the place of an open gate whose record is cut short.
     Damaged(u64),
     /// The disk failed, and its count of faults rose.
     DiskFault,
@@ -64,7 +66,7 @@ fn read_bytes<D: Disk>(
     }
 }
 
-// The record behind an open gate. None where the part ends inside it.
+// The record after an open gate. None where the part ends inside it.
 pub(crate) fn read_record<D: Disk>(
     alloc: Global,
     disk: &mut D,

@@ -16,7 +16,7 @@ pub const FIRST: &str = "deploy main.bicep --group g --name first";
 
 const USAGE: &str = "2 usage: armdeploy deploy FILE --group GROUP --name NAME\n";
 
-// The words, which stand apart by spaces.
+// The words of a text, which spaces separate.
 fn apart(alloc: Global, text: &str) -> Result<Vec<String>, Fail> {
     let mut words = Vec::new(alloc);
     for word in text.split(' ') {
@@ -35,7 +35,7 @@ fn tree_of(alloc: Global, main: &str, fails: &[u64]) -> Result<MemTree, Fail> {
     Ok(MemTree::new(alloc, files, fails.to_vec(alloc)?))
 }
 
-// A disk without room, which is not touched.
+// A disk without room, on which no call is made.
 fn no_disk(alloc: Global) -> Result<MemDisk, Fail> {
     let contents = Contents {
         a: Vec::new(alloc),
@@ -45,7 +45,8 @@ fn no_disk(alloc: Global) -> Result<MemDisk, Fail> {
     Ok(MemDisk::new(alloc, &contents, Vec::new(alloc), Vec::new(alloc), room)?)
 }
 
-// What the words come to over that tree and those seats: the status, and what is printed into so much room.
+// The status of these words over that tree and those seats, and what was printed into an output with room for `room`
+// bytes.
 fn outcome<R: Threads + Wait + Sync, P: Provider>(
     rt: &R,
     alloc: Global,
@@ -59,7 +60,7 @@ fn outcome<R: Threads + Wait + Sync, P: Provider>(
     }
     let words = apart(alloc, words)?;
     let mut disk = no_disk(alloc)?;
-    let mut link = MemLink::new(Vec::new(alloc), Vec::new(alloc), Vec::new(alloc));
+    let mut link = MemLink::new(alloc, Vec::new(alloc), Vec::new(alloc));
     let mut out = MemSink::new(alloc, [7].to_vec(alloc)?, Vec::new(alloc), room)?;
     let ran = run(
         rt, alloc, &words, tree, &mut disk, crew, &mut link, &mut out,
@@ -91,8 +92,8 @@ fn provider_at<P: Provider>(crew: &[Seat<P>], place: usize) -> Result<&P, Fail> 
     }
 }
 
-// What words and a file come to over the catalogue.
-pub fn told<R: Threads + Wait + Sync>(
+// The status of these words and this file over the catalogue, and what was printed.
+pub fn deployed<R: Threads + Wait + Sync>(
     rt: &R,
     alloc: Global,
     main: &str,
@@ -103,7 +104,7 @@ pub fn told<R: Threads + Wait + Sync>(
     outcome(rt, alloc, words, &mut tree, &mut crew, 1000)
 }
 
-// A call: its id, the body and what was stored, each in a line.
+// A call: the body, the first part of its record and what was stored, each in a line.
 fn lines_of(alloc: Global, call: &Call) -> Result<String, Fail> {
     let body = String::from_utf8(call.job.body().to_json(alloc)?.into_vec())?;
     let first = String::from_utf8(call.job.first().as_slice().to_vec(alloc)?)?;
@@ -114,7 +115,7 @@ fn lines_of(alloc: Global, call: &Call) -> Result<String, Fail> {
     Ok(format!(in alloc; "{body}\n{first}\n{state}")?)
 }
 
-// The names behind the last slash of the calls' ids.
+// The names after the last slash of the calls' ids, one after another.
 fn names_put(alloc: Global, calls: &[Call]) -> Result<String, Fail> {
     let mut names = String::new(alloc);
     for call in calls {
@@ -139,8 +140,15 @@ fn one_resource_is_put_and_stored(rt: HostRuntime) -> Result<(), Fail> {
         lines.as_str(),
         concat!(
             "{\"size\":2}\n",
-            "{\"api\":\"2024-01-01\",\"body\":{\"size\":2},\"id\":\"/subscriptions/00000000-0000-0000-0000-000000000000/resourceGroups/g/providers/Demo.Lab/things/a\",\"task\":1,\"worker\":0}\n",
-            "{\"apiVersion\":\"2024-01-01\",\"id\":\"/subscriptions/00000000-0000-0000-0000-000000000000/resourceGroups/g/providers/Demo.Lab/things/a\",\"name\":\"a\",\"properties\":{\"provisioningState\":\"Succeeded\"},\"size\":2,\"type\":\"Demo.Lab/things\"}",
+            "{\"api\":\"2024-01-01\",\"body\":{\"size\":2},",
+            "\"id\":\"/subscriptions/00000000-0000-0000-0000-000000000000",
+            "/resourceGroups/g/providers/Demo.Lab/things/a\",",
+            "\"task\":1,\"worker\":0}\n",
+            "{\"apiVersion\":\"2024-01-01\",",
+            "\"id\":\"/subscriptions/00000000-0000-0000-0000-000000000000",
+            "/resourceGroups/g/providers/Demo.Lab/things/a\",\"name\":\"a\",",
+            "\"properties\":{\"provisioningState\":\"Succeeded\"},",
+            "\"size\":2,\"type\":\"Demo.Lab/things\"}",
         )
     );
     assert_eq!(rt; provider_at(&crew, 1)?.calls().len(), 0);
@@ -201,7 +209,7 @@ fn files_and_words_come_to_their_lines(rt: HostRuntime) -> Result<(), Fail> {
             "1 error NotBuilt: main.bicep\n",
         ),
     ] {
-        let said = told(&rt, alloc, main, words)?;
+        let said = deployed(&rt, alloc, main, words)?;
         assert_eq!(rt; said.as_str(), wanted);
     }
     Ok(())
@@ -220,7 +228,7 @@ fn other_words_are_answered_by_the_usage(rt: HostRuntime) -> Result<(), Fail> {
         "deploy -f --group g --name first",
         "deploy  --group g --name first",
     ] {
-        let said = told(&rt, alloc, THING, words)?;
+        let said = deployed(&rt, alloc, THING, words)?;
         assert_eq!(rt; said.as_str(), USAGE);
     }
     Ok(())
@@ -229,8 +237,11 @@ fn other_words_are_answered_by_the_usage(rt: HostRuntime) -> Result<(), Fail> {
 #[test]
 fn a_refused_put_is_the_last(rt: HostRuntime) -> Result<(), Fail> {
     let alloc = rt.alloc();
-    let three =
-        "resource a 'Demo.Lab/things@1' = { name: 'a' }\nresource b 'Demo.Lab/things@1' = { name: 'b' }\nresource c 'Demo.Lab/things@1' = { name: 'c' }\n";
+    let three = concat!(
+        "resource a 'Demo.Lab/things@1' = { name: 'a' }\n",
+        "resource b 'Demo.Lab/things@1' = { name: 'b' }\n",
+        "resource c 'Demo.Lab/things@1' = { name: 'c' }\n",
+    );
     let mut tree = tree_of(alloc, three, &[])?;
     let mut steps = Vec::new(alloc);
     steps.push(Step::Store)?;
@@ -239,7 +250,10 @@ fn a_refused_put_is_the_last(rt: HostRuntime) -> Result<(), Fail> {
     let said = outcome(&rt, alloc, FIRST, &mut tree, &mut crew, 1000)?;
     assert_eq!(rt;
         said.as_str(),
-        "3 Failed first: Quota: /subscriptions/00000000-0000-0000-0000-000000000000/resourceGroups/g/providers/Demo.Lab/things/b\n"
+        concat!(
+            "3 Failed first: Quota: /subscriptions/00000000-0000-0000-0000-000000000000",
+            "/resourceGroups/g/providers/Demo.Lab/things/b\n",
+        )
     );
     let names = names_put(alloc, provider_at(&crew, 0)?.calls())?;
     assert_eq!(rt; names.as_str(), "ab");
@@ -284,8 +298,10 @@ fn an_output_that_fails_turns_success_into_its_fault(rt: HostRuntime) -> Result<
 #[test]
 fn every_kind_of_value_comes_through(rt: HostRuntime) -> Result<(), Fail> {
     let alloc = rt.alloc();
-    let main =
-        "resource a 'Demo.Lab/things@1' = {\n  z: ['[a]', '[[b]', '[', 'c\\n']\n  name: '[x]'\n  o: { t: true, f: false, n: null, d: 7 }\n}\n";
+    let main = concat!(
+        "resource a 'Demo.Lab/things@1' = {\n  z: ['[a]', '[[b]', '[', 'c\\n']\n  name: '[x]'\n",
+        "  o: { t: true, f: false, n: null, d: 7 }\n}\n",
+    );
     let mut tree = tree_of(alloc, main, &[])?;
     let mut crew = catalog_crew(alloc)?;
     let said = outcome(&rt, alloc, FIRST, &mut tree, &mut crew, 1000)?;

@@ -85,7 +85,7 @@ fn random_graphs_answer_as_the_plain_one_does(rt: HostRuntime) -> Result<(), Fai
             let to = next_random(&mut seed, NODES);
             edges.push((from, to))?;
             if from < graph.count() && to < graph.count() {
-                graph.add_edge(from, to)?;
+                graph.add_edge(alloc, from, to)?;
             }
         }
         compare(&rt, alloc, &graph, &edges, &done)?;
@@ -104,9 +104,9 @@ fn random_graphs_answer_as_the_plain_one_does(rt: HostRuntime) -> Result<(), Fai
 }
 
 // Says that the node needs the other, where both are nodes.
-fn add(graph: &mut Graph, from: u32, to: u32) -> Result<(), Fail> {
+fn add(alloc: Global, graph: &mut Graph, from: u32, to: u32) -> Result<(), Fail> {
     if from < graph.count() && to < graph.count() {
-        graph.add_edge(from, to)?;
+        graph.add_edge(alloc, from, to)?;
     }
     Ok(())
 }
@@ -128,10 +128,10 @@ fn unmet(graph: &Graph, node: u32) -> Option<u32> {
 }
 
 // The first of three nodes needs the second, twice, and the third.
-fn add_needs(graph: &mut Graph) -> Result<(), Fail> {
-    add(graph, 0, 1)?;
-    add(graph, 0, 1)?;
-    add(graph, 0, 2)
+fn add_needs(alloc: Global, graph: &mut Graph) -> Result<(), Fail> {
+    add(alloc, graph, 0, 1)?;
+    add(alloc, graph, 0, 1)?;
+    add(alloc, graph, 0, 2)
 }
 
 // Compares how many needs of the node are not done.
@@ -168,7 +168,7 @@ fn check_needs(alloc: Global, graph: &Graph) -> Result<(), Fail> {
 }
 
 fn add_and_check(alloc: Global, graph: &mut Graph) -> Result<(), Fail> {
-    add_needs(graph)?;
+    add_needs(alloc, graph)?;
     check_needs(alloc, graph)
 }
 
@@ -178,8 +178,29 @@ fn each_need_counts_once(rt: HostRuntime) -> Result<(), Fail> {
     add_and_check(rt.alloc(), &mut graph)
 }
 
+// Compares the nodes that need the node.
+fn check_dependents(graph: &Graph, node: u32, wanted: &[u32]) -> Result<(), Fail> {
+    if graph.dependents(node) == wanted {
+        return Ok(());
+    }
+    Err(Fail::from("other nodes need the node"))
+}
+
+fn add_and_check_dependents(alloc: Global, graph: &mut Graph) -> Result<(), Fail> {
+    add_needs(alloc, graph)?;
+    check_dependents(graph, 1, &[0])?;
+    check_dependents(graph, 0, &[])?;
+    check_dependents(graph, 3, &[])
+}
+
+#[test]
+fn a_node_is_listed_once_for_each_of_its_needs(rt: HostRuntime) -> Result<(), Fail> {
+    let mut graph = Graph::new(rt.alloc(), 3)?;
+    add_and_check_dependents(rt.alloc(), &mut graph)
+}
+
 fn mark_and_check(alloc: Global, graph: &mut Graph) -> Result<(), Fail> {
-    add_needs(graph)?;
+    add_needs(alloc, graph)?;
     mark(graph, 1);
     check_unmet(graph, 0, Some(1))?;
     mark(graph, 1);
@@ -205,7 +226,7 @@ fn has_circle(
 ) -> Result<bool, Fail> {
     let mut graph = Graph::new(alloc, 8)?;
     for (from, to) in edges {
-        add(&mut graph, *from, *to)?;
+        add(alloc, &mut graph, *from, *to)?;
     }
     for node in done {
         mark(&mut graph, *node);
@@ -250,10 +271,10 @@ fn check_circle(alloc: Global, graph: &Graph, wanted: usize) -> Result<(), Fail>
 
 fn check_chain(alloc: Global, chain: &mut Graph) -> Result<(), Fail> {
     for node in 1..MANY {
-        add(chain, node - 1, node)?;
+        add(alloc, chain, node - 1, node)?;
     }
     check_circle(alloc, chain, 0)?;
-    add(chain, MANY - 1, 0)?;
+    add(alloc, chain, MANY - 1, 0)?;
     check_circle(alloc, chain, 100_000)
 }
 
@@ -265,8 +286,8 @@ fn a_chain_of_100000_nodes_is_gone_through(rt: HostRuntime) -> Result<(), Fail> 
 
 fn check_star(alloc: Global, star: &mut Graph) -> Result<(), Fail> {
     for node in 1..MANY {
-        add(star, 0, MANY - node)?;
-        add(star, node, MANY - 1)?;
+        add(alloc, star, 0, MANY - node)?;
+        add(alloc, star, node, MANY - 1)?;
     }
     check_unmet(star, 0, Some(99_999))?;
     mark(star, MANY - 1);

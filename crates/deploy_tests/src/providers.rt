@@ -4,7 +4,7 @@ ghost use Rattle.arm_value.specs.View.{json};
 ghost use Rattle.provider_trait.specs.Act.{FitsAct};
 ghost use Rattle.provider_trait.specs.declared.act.Act.TheVariants.{Delete, Put};
 
-use arm_value::{Bytes, Fields, Text, Value};
+use arm_value::{Fields, Text, Value};
 use provider_trait::{
     Act, Answer, Catalog, Job, JobParts, Provider, ProviderFault, Script, Seat, State, StateFault,
     Step,
@@ -29,7 +29,7 @@ fn body_of(members: Fields) -> Value
     Value::Object(Fields::new())
 }
 
-// The job of a put with this body.
+// The job of a put with this body, as task 1 of worker 3.
 fn put_job(alloc: Global, id: &str, body: &str) -> Result<Job, Fail>
     ensures { IfOk result (λ job. job.act ≡ Put) }
 {
@@ -37,29 +37,30 @@ fn put_job(alloc: Global, id: &str, body: &str) -> Result<Job, Fail>
         Value::Object(members) => members,
         _ => Fields::new(),
     };
-    Ok(Job::new(JobParts {
+    let parts = JobParts {
         task: 1,
-        worker: 0,
+        worker: 3,
         act: Act::Put,
         id: Text::of(alloc, id)?,
         api: Text::of(alloc, "2023-01-01")?,
         body: body_of(members),
-        first: Bytes::from_vec(Vec::new(alloc)),
-    }))
+    };
+    Ok(Job::new(alloc, parts)?)
 }
 
+// The job of a deletion, as task 2 of worker 0.
 fn delete_job(alloc: Global, id: &str) -> Result<Job, Fail>
     ensures { IfOk result (λ job. job.act ≡ Delete) }
 {
-    Ok(Job::new(JobParts {
+    let parts = JobParts {
         task: 2,
         worker: 0,
         act: Act::Delete,
         id: Text::of(alloc, id)?,
         api: Text::of(alloc, "")?,
         body: Value::Null,
-        first: Bytes::from_vec(Vec::new(alloc)),
-    }))
+    };
+    Ok(Job::new(alloc, parts)?)
 }
 
 // Fails where something else is answered than wanted.
@@ -91,6 +92,30 @@ fn compare_answer(
         Err(ProviderFault::Fault) => compare(id, "Fault", wanted),
         Err(ProviderFault::OutOfMemory) => compare(id, "OutOfMemory", wanted),
     }
+}
+
+// Compares the first part of the job's record with the wanted one.
+fn check_first(alloc: Global, job: &Job, wanted: &str) -> Result<(), Fail> {
+    let first = String::from_utf8(Vec::from_slice(alloc, job.first().as_slice())?)?;
+    compare("first part", first.as_str(), wanted)
+}
+
+const PUT_FIRST: &str = concat!(
+    r#"{"api":"2023-01-01","body":{"a":1},"#,
+    r#""id":"/subscriptions/s/resourceGroups/g/providers/Demo.Lab/things/x","task":1,"worker":3}"#,
+);
+
+const DELETE_FIRST: &str = concat!(
+    r#"{"api":"","body":null,"#,
+    r#""id":"/subscriptions/s/resourceGroups/g/providers/Demo.Lab/things/x","task":2,"worker":0}"#,
+);
+
+#[test]
+fn the_first_part_of_a_record_has_task_and_worker(rt: HostRuntime) -> Result<(), Fail> {
+    let put = put_job(rt.alloc(), THING, r#"{"a":1}"#)?;
+    check_first(rt.alloc(), &put, PUT_FIRST)?;
+    let delete = delete_job(rt.alloc(), THING)?;
+    check_first(rt.alloc(), &delete, DELETE_FIRST)
 }
 
 fn check_put<P: Provider>(

@@ -30,7 +30,7 @@ fn records_in(
 }
 
 #[test]
-fn damage_is_told_with_its_place(rt: HostRuntime) -> Result<(), Fail> {
+fn damage_is_answered_with_its_place(rt: HostRuntime) -> Result<(), Fail> {
     let alloc = rt.alloc();
     // How many bytes of the example are there, one byte that is changed to a value, and the place.
     for (count, place, byte, damaged) in [

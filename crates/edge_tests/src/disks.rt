@@ -6,7 +6,7 @@ use mem_disk::{Contents, MemDisk, RamDisk, Room};
 use std::alloc::Global;
 use std::test::Fail;
 
-// Writes to both parts and cuts one, and says the lengths and what a read from the second byte on gives.
+// Writes to both parts and cuts one, and returns the lengths and what a read from the second byte on gives.
 pub(crate) fn write_and_read<D: Disk + Drop>(disk: D) -> Result<(u64, u64, [u8; 4]), Failed>
     requires { 16 ≤ D.reach disk }
 {

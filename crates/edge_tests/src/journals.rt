@@ -146,7 +146,7 @@ fn a_record_fits_exactly_up_to_the_limit(rt: HostRuntime) -> Result<(), Fail> {
     Ok(())
 }
 
-// Adds a record to the journal of that disk, and says how many it had before.
+// Adds a record to the journal of that disk, and returns how many it had before.
 fn add_one<D: Disk + Drop>(alloc: Global, disk: D) -> Result<usize, Fail>
     requires { 4196 ≤ D.reach disk }
 {

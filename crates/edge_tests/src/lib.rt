@@ -10,6 +10,8 @@ mod flows;
 #[cfg(test)]
 mod journals;
 #[cfg(test)]
+mod links;
+#[cfg(test)]
 mod real;
 #[cfg(test)]
 mod stops;

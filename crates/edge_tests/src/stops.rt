@@ -5,7 +5,8 @@ use mem_disk::MemDisk;
 use std::alloc::Global;
 use std::test::Fail;
 
-// Opens a journal and appends two records on a disk whose call of that number fails, and says how many were answered by Ok.
+// Opens a journal and appends two records on a disk whose call of that number fails. Returns how many were answered by
+// Ok, and the disk.
 fn stopped_at(alloc: Global, call: u64) -> Result<(usize, MemDisk), Fail> {
     let disk = disk_of(alloc, b"armdeploy-jrnl-1\0and stale bytes", &[], &[call])?;
     match Journal::open(alloc, disk, 1000) {

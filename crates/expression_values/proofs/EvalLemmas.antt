@@ -1,6 +1,6 @@
 -- Expressions of the code, form by form.
 use Rattle.std.proofs.Common.{◌≡◌, ◌<◌, ◌+◌, ℕ, suc, ℤ, List, [], ◌∷◌, map, drop, length, get_or}
-use Rattle.std.proofs.Common.{false, Option, None, nat_le, refl, sym, ap, ◌∙◌, subst, arith}
+use Rattle.std.proofs.Common.{Bool, true, false, Option, Some, None, nat_le, refl, sym, ap, ◌∙◌, subst, arith}
 use Rattle.std.proofs.Common.{add-one}
 use Rattle.std.proofs.Math.Seq.{drop-cons}
 use Rattle.std.proofs.lemmas.Bool.Decides.{nat_tests}
@@ -206,3 +206,12 @@ pub if_args : (p : Look → Known Json) (here : Surroundings) (es : List Expr) (
 if_args p here es a b c v h x y z e =
     ap (λ l. answered p (if_row (outs here l))) (three es a b c h x y z)
     ∙ goes p (value here (tree_of a)) _ v e
+
+-- a value that is not null
+pub there : (b : Bool) (j v : Json) → Some v ≡ (if b then None else Some j) → (b ≡ false) × (v ≡ j)
+there true j v e = absurd cc
+there false j v e = (refl, cc)
+
+pub nowhere : (b : Bool) (j : Json) → None ≡ (if b then None else Some j) → b ≡ true
+nowhere true j e = refl
+nowhere false j e = absurd cc

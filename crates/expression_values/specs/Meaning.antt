@@ -71,7 +71,7 @@ call_by here name None os = continued (all os) (strict_call here name (strict_na
 unfoldable pub called : Surroundings → List ℕ → List (Looking Json) → Looking Held
 called here name os = call_by here name (lazy_named name) os
 
--- what is used without an access behind it
+-- the value of what is held, where no part of it is accessed
 unfoldable pub used : Surroundings → Looking Held → Looking Json
 used here o = capped (continued o (forced here))
 
@@ -85,7 +85,7 @@ abbrev pub indexed : Surroundings → Option Held → Option Json → Looking He
 indexed here None i = none
 indexed here (Some h) i = access_by here h i
 
--- what an expression gives to an access right behind it; an index is looked at also behind a whole
+-- what an expression gives to an access to a part of it; an index is looked at also after a whole
 -- without a value
 abbrev mutual
   pub held : Surroundings → Tree → Looking Held

@@ -1,5 +1,5 @@
-// Accesses, and what is used without one behind it.
-ghost use Rattle.std.specs.Prelude.{◌≡◌, ◌∷◌, [], chars, map, option_map, codes};
+// Accesses to parts of values, and the values of which no part is accessed.
+ghost use Rattle.std.specs.Prelude.{◌≡◌, ◌∷◌, [], chars, map, option_map, codes, None};
 ghost use Rattle.arm_value.specs.Json.{Json, put_each, text, object, pairs};
 ghost use Rattle.arm_value.specs.View.{json};
 ghost use Rattle.arm_env.specs.Held as held;
@@ -16,9 +16,10 @@ ghost use Rattle.arm_env.specs.Sight.{known_by, here, held_of};
 use arm_env::env::OutputAt;
 use arm_env::function;
 use arm_env::held::{Held, keep, keep_copy, lend, own_part, part_of};
+use arm_env::objects::with_value;
 use arm_env::outputs::{fields_at, look_at_outputs, output_named, typed};
 use arm_env::sight::{Sight, output_value, value_named};
-use arm_env::stop::Stop;
+use arm_env::stop::{Stop, let_go, stopped};
 use arm_ids::Key;
 use arm_value::{Fields, Text, Value};
 use std::alloc::Global;
@@ -43,6 +44,16 @@ fn no_part<'a>(sight: &Sight<'a>, key: &Key) -> Result<Held<'a>, Stop>
     Err(Stop::NoValue)
 }
 
+// The same, where the key is dropped.
+fn no_part_at<'a>(sight: &Sight<'a>, key: Key) -> Result<Held<'a>, Stop>
+    ensures { Gives held_of result
+        (answered (known_by sight.now) (no_part (here sight.now) key)) }
+{
+    let part = no_part(sight, &key);
+    let_go(key);
+    part
+}
+
 #[tactic(auto, using(crate::proofs::Answers::answers, arm_env::proofs::Words::words))]
 fn part_of_deployment<'a>(sight: &Sight<'a>, key: Key, index: &Value) -> Result<Held<'a>, Stop>
     ensures { Gives held_of result (answered (known_by sight.now)
@@ -51,7 +62,19 @@ fn part_of_deployment<'a>(sight: &Sight<'a>, key: Key, index: &Value) -> Result<
     if is_word("outputs", index) {
         return Ok(Held::Outputs(key));
     }
-    no_part(sight, &key)
+    no_part_at(sight, key)
+}
+
+// An output that is not listed.
+#[tactic(auto, using(crate::proofs::Answers::answers))]
+fn unlisted<'a>(alloc: Global, sight: &Sight<'a>, key: Key, name: &Text) -> Result<Held<'a>, Stop>
+    ensures { Gives held_of result
+        (answered (known_by sight.now) (output_by key name.now None)) }
+{
+    match name.copy(alloc) {
+        Ok(name) => Ok(Held::Unlisted { key, name }),
+        Err(_) => stopped(Stop::OutOfMemory, key),
+    }
 }
 
 #[tactic(auto, using(crate::proofs::Answers::answers))]
@@ -66,10 +89,10 @@ fn output_at<'a>(
 {
     match index {
         Value::Text(name) => match output_named(sight, &key, name) {
-            Some(output) => Ok(Held::Output(key, output)),
-            None => Ok(Held::Unlisted(key, name.copy(alloc)?)),
+            Some(output) => Ok(Held::Output { key, output }),
+            None => unlisted(alloc, sight, key, name),
         },
-        _ => no_part(sight, &key),
+        _ => no_part_at(sight, key),
     }
 }
 
@@ -124,7 +147,7 @@ fn part_of_unlisted<'a>(
     no_part(sight, key)
 }
 
-/// What stands under a name or at a place.
+/// The part under a name or at a place.
 #[tactic(auto, using(crate::proofs::Answers::answers))]
 pub(crate) fn access<'a>(
     alloc: Global,
@@ -141,24 +164,47 @@ pub(crate) fn access<'a>(
         Held::Whole(value) => lend(part_of(value, index)),
         Held::Deployment(key) => part_of_deployment(sight, key, index),
         Held::Outputs(key) => output_at(alloc, sight, key, index),
-        Held::Output(key, output) => part_of_output(alloc, sight, &key, output, index),
-        Held::Unlisted(key, name) => part_of_unlisted(sight, &key, &name, index),
+        Held::Output { key, output } => {
+            let part = part_of_output(alloc, sight, &key, output, index);
+            let_go(key);
+            part
+        }
+        Held::Unlisted { key, name } => {
+            let part = part_of_unlisted(sight, &key, &name, index);
+            let_go((key, name));
+            part
+        }
     }
 }
 
+// The part at an index, which is dropped.
+fn access_at<'a>(
+    alloc: Global,
+    sight: &Sight<'a>,
+    base: Held<'a>,
+    index: Value,
+) -> Result<Held<'a>, Stop>
+    ensures { Gives held_of result (answered (known_by sight.now)
+        (access (here sight.now) (held_of base.entry) (json index))) }
+{
+    let part = access(alloc, sight, base, &index);
+    let_go(index);
+    part
+}
+
 // Looks at all that the whole looks at.
-fn look_at_all<'a>(sight: &Sight<'a>, base: Held<'a>) -> Result<(), Stop>
+fn look_at_all<'a>(sight: &Sight<'a>, base: &Held<'a>) -> Result<(), Stop>
     ensures { Sees result
-        (answered (known_by sight.now) (forced (here sight.now) (held_of base.entry))) }
+        (answered (known_by sight.now) (forced (here sight.now) (held_of base.now))) }
 {
     match base {
         Held::Owned(_value) => Ok(()),
         Held::Lent(_value) => Ok(()),
         Held::Whole(_value) => Ok(()),
-        Held::Deployment(key) => look_at_outputs(sight, &key),
-        Held::Outputs(key) => look_at_outputs(sight, &key),
-        Held::Output(key, output) => look_at_output(sight, &key, output),
-        Held::Unlisted(key, _name) => look_at_unlisted(sight, &key),
+        Held::Deployment(key) => look_at_outputs(sight, key),
+        Held::Outputs(key) => look_at_outputs(sight, key),
+        Held::Output { key, output } => look_at_output(sight, key, output),
+        Held::Unlisted { key, name: _name } => look_at_unlisted(sight, key),
     }
 }
 
@@ -182,7 +228,21 @@ fn look_at_unlisted(sight: &Sight, key: &Key) -> Result<(), Stop>
     Err(Stop::NoValue)
 }
 
-/// What stands at an index that may have no value.
+// No value, after a look at all that the whole looks at.
+#[tactic(auto, using(crate::proofs::Answers::answers))]
+fn nothing_in<'a>(sight: &Sight<'a>, base: Held<'a>) -> Result<Held<'a>, Stop>
+    ensures { Gives held_of result
+        (answered (known_by sight.now) (access_by (here sight.now) (held_of base.entry) None)) }
+{
+    let looked = look_at_all(sight, &base);
+    let_go(base);
+    match looked {
+        Ok(()) => Err(Stop::NoValue),
+        Err(stop) => Err(stop),
+    }
+}
+
+/// The part at an index that may have no value.
 #[tactic(auto, using(crate::proofs::Answers::answers))]
 pub(crate) fn access_by<'a>(
     alloc: Global,
@@ -194,15 +254,12 @@ pub(crate) fn access_by<'a>(
         (access_by (here sight.now) (held_of base.entry) (option_map json index))) }
 {
     match index {
-        Some(index) => access(alloc, sight, base, &index),
-        None => {
-            look_at_all(sight, base)?;
-            Err(Stop::NoValue)
-        }
+        Some(index) => access_at(alloc, sight, base, index),
+        None => nothing_in(sight, base),
     }
 }
 
-/// What stands at an index, where the whole may have no value.
+/// The part at an index, where the whole may have no value.
 #[tactic(auto, using(crate::proofs::Answers::answers))]
 pub(crate) fn indexed<'a>(
     alloc: Global,
@@ -215,11 +272,11 @@ pub(crate) fn indexed<'a>(
 {
     match base {
         Some(base) => access_by(alloc, sight, base, index),
-        None => Err(Stop::NoValue),
+        None => stopped(Stop::NoValue, index),
     }
 }
 
-/// What stands under a name.
+/// The part under a name.
 pub(crate) fn member<'a>(
     alloc: Global,
     sight: &Sight<'a>,
@@ -229,8 +286,10 @@ pub(crate) fn member<'a>(
     ensures { Gives held_of result (answered (known_by sight.now)
         (access (here sight.now) (held_of base.entry) (text name.now))) }
 {
-    let name = Value::Text(name.copy(alloc)?);
-    access(alloc, sight, base, &name)
+    match name.copy(alloc) {
+        Ok(name) => access_at(alloc, sight, base, Value::Text(name)),
+        Err(_) => stopped(Stop::OutOfMemory, base),
+    }
 }
 
 // The nested deployment at a key, as `reference` shows it.
@@ -239,8 +298,7 @@ fn shown(alloc: Global, fields: Fields) -> Result<Value, Stop>
         (given (kept (object_of ((codes "outputs", object (pairs fields)) ∷ [])))) }
 {
     let outputs = keep(Value::Object(fields))?;
-    let mut whole = Fields::new();
-    whole.set(alloc, "outputs", outputs)?;
+    let whole = with_value(alloc, Fields::new(), "outputs", outputs)?;
     keep(Value::Object(whole))
 }
 
@@ -254,7 +312,7 @@ fn used_output(alloc: Global, sight: &Sight, key: &Key, output: &OutputAt) -> Re
     keep(typed(alloc, output, value)?)
 }
 
-// The value of an output that is not listed, where it is used without an access behind it.
+// The value of an output that is not listed, where no part of it is accessed.
 #[tactic(auto, using(crate::proofs::Answers::answers))]
 fn used_unlisted(sight: &Sight, key: &Key) -> Result<Value, Stop>
     ensures { Gives json result
@@ -264,7 +322,27 @@ fn used_unlisted(sight: &Sight, key: &Key) -> Result<Value, Stop>
     Err(Stop::NoValue)
 }
 
-/// The value of what is used without an access behind it.
+#[tactic(auto, using(crate::proofs::Answers::answers))]
+fn used_deployment(alloc: Global, sight: &Sight, key: Key) -> Result<Value, Stop>
+    ensures { Gives json result
+        (answered (known_by sight.now) (capped (forced (here sight.now) (held.deployment key)))) }
+{
+    let fields = fields_at(alloc, sight, &key);
+    let_go(key);
+    shown(alloc, fields?)
+}
+
+#[tactic(auto, using(crate::proofs::Answers::answers))]
+fn used_outputs(alloc: Global, sight: &Sight, key: Key) -> Result<Value, Stop>
+    ensures { Gives json result
+        (answered (known_by sight.now) (capped (forced (here sight.now) (held.outputs key)))) }
+{
+    let fields = fields_at(alloc, sight, &key);
+    let_go(key);
+    keep(Value::Object(fields?))
+}
+
+/// The value of what is held, where no part of it is accessed.
 #[tactic(auto, using(crate::proofs::Answers::answers))]
 pub(crate) fn used<'a>(alloc: Global, sight: &Sight<'a>, held: Held<'a>) -> Result<Value, Stop>
     ensures { Gives json result
@@ -274,9 +352,17 @@ pub(crate) fn used<'a>(alloc: Global, sight: &Sight<'a>, held: Held<'a>) -> Resu
         Held::Owned(value) => keep(value),
         Held::Lent(value) => keep_copy(alloc, value),
         Held::Whole(value) => keep_copy(alloc, value),
-        Held::Deployment(key) => shown(alloc, fields_at(alloc, sight, &key)?),
-        Held::Outputs(key) => keep(Value::Object(fields_at(alloc, sight, &key)?)),
-        Held::Output(key, output) => used_output(alloc, sight, &key, output),
-        Held::Unlisted(key, _name) => used_unlisted(sight, &key),
+        Held::Deployment(key) => used_deployment(alloc, sight, key),
+        Held::Outputs(key) => used_outputs(alloc, sight, key),
+        Held::Output { key, output } => {
+            let value = used_output(alloc, sight, &key, output);
+            let_go(key);
+            value
+        }
+        Held::Unlisted { key, name } => {
+            let value = used_unlisted(sight, &key);
+            let_go((key, name));
+            value
+        }
     }
 }

@@ -1,6 +1,8 @@
 // The value of an expression.
-ghost use Rattle.std.specs.Prelude.{◌≡◌, map, option_map};
-ghost use Rattle.arm_value.specs.Json.{Json};
+ghost use Rattle.std.specs.Prelude.{◌≡◌, ◌++◌, ◌∷◌, [], Some, None, Ok, map, option_map, IfOk};
+ghost use Rattle.std.specs.Prelude.{if◌then◌else◌};
+ghost use Rattle.arm_value.specs.Json.{Json, text};
+ghost use Rattle.function_numbers.specs.Kinds.{truth_of};
 ghost use Rattle.arm_value.specs.View.{json};
 ghost use Rattle.arm_expr.specs.Tree as tree;
 ghost use Rattle.arm_expr.specs.View.{tree_of};
@@ -9,7 +11,7 @@ ghost use Rattle.expression_values.specs.Row.{is_null, if_row, all_true, and_row
 ghost use Rattle.expression_values.specs.Row.{first_there, coalesce_row, lazy_row};
 ghost use Rattle.expression_values.specs.Meaning as meaning;
 ghost use Rattle.expression_values.specs.Meaning.{called};
-ghost use Rattle.arm_env.specs.Answer.{answered, outcome_answer, Gives};
+ghost use Rattle.arm_env.specs.Answer.{answered, outcome_answer, given, plain_answer, with_last, Gives};
 ghost use Rattle.arm_env.specs.Sight.{known_by, here, held_of};
 ghost use Rattle.expression_values.specs.Args.{all_json, outs};
 
@@ -18,14 +20,15 @@ use crate::strict::strict_call;
 use arm_env::function::{Lazy, lazy_named};
 use arm_env::held::{Held, own};
 use arm_env::sight::Sight;
-use arm_env::stop::Stop;
+use arm_env::stop;
+use arm_env::stop::{Stop, lacks_memory, let_go, stopped};
 use arm_expr::Expr;
-use arm_value::{Text, Value};
+use arm_value::{OutOfMemory, Text, Value};
 use function_numbers::kinds::truth_of;
 use std::alloc::Global;
 
-/// The value of an expression, by what the environment tells, or why there is none: a `Stop` says
-/// that it has no value, or what is needed first. It recurses as deep as the expression nests.
+/// The value of an expression, by what the environment knows, or why there is none: a `Stop` says
+/// that it has no value, or which entry is needed first. It recurses as deep as the expression nests.
 #[cycle(eval)]
 #[tactic(auto, using(crate::proofs::Answers::answers))]
 pub fn value_of<'a>(alloc: Global, sight: &Sight<'a>, e: &Expr) -> Result<Value, Stop>
@@ -42,31 +45,27 @@ fn outcome<'a>(alloc: Global, sight: &Sight<'a>, e: &Expr) -> Result<Option<Valu
     ensures { Gives (option_map json) result (outcome_answer
         (answered (known_by sight.now) (meaning.value (here sight.now) (tree_of e.now)))) }
 {
-    match value_of(alloc, sight, e) {
-        Ok(value) => Ok(Some(value)),
-        Err(Stop::NoValue) => Ok(None),
-        Err(Stop::Needs(key)) => Err(Stop::Needs(key)),
-        Err(Stop::Late) => Err(Stop::Late),
-        Err(Stop::OutOfMemory) => Err(Stop::OutOfMemory),
-    }
+    stop::outcome(value_of(alloc, sight, e))
 }
 
-// What an expression gives to an access right behind it, or that it has no value.
+// What an expression gives to an access to a part of it, or that it has no value.
 #[cycle(eval)]
 fn held_outcome<'a>(alloc: Global, sight: &Sight<'a>, e: &Expr) -> Result<Option<Held<'a>>, Stop>
     ensures { Gives (option_map held_of) result (outcome_answer
         (answered (known_by sight.now) (meaning.held (here sight.now) (tree_of e.now)))) }
 {
-    match held(alloc, sight, e) {
-        Ok(held) => Ok(Some(held)),
-        Err(Stop::NoValue) => Ok(None),
-        Err(Stop::Needs(key)) => Err(Stop::Needs(key)),
-        Err(Stop::Late) => Err(Stop::Late),
-        Err(Stop::OutOfMemory) => Err(Stop::OutOfMemory),
-    }
+    stop::outcome(held(alloc, sight, e))
 }
 
-// What an expression gives to an access right behind it.
+// A text, for an access to a part of it.
+#[tactic(auto, using(crate::proofs::Answers::answers))]
+fn held_text<'a>(alloc: Global, literal: &Text) -> Result<Held<'a>, Stop>
+    ensures { Gives held_of result (plain_answer (Some (text literal.now))) }
+{
+    own(Some(Value::Text(literal.copy(alloc)?)))
+}
+
+// What an expression gives to an access to a part of it.
 #[cycle(eval)]
 #[tactic(auto, using(crate::proofs::Answers::answers, crate::proofs::EvalLemmas::meanings))]
 fn held<'a>(alloc: Global, sight: &Sight<'a>, e: &Expr) -> Result<Held<'a>, Stop>
@@ -74,7 +73,7 @@ fn held<'a>(alloc: Global, sight: &Sight<'a>, e: &Expr) -> Result<Held<'a>, Stop
         (answered (known_by sight.now) (meaning.held (here sight.now) (tree_of e.now))) }
 {
     match e {
-        Expr::Text(text) => own(Some(Value::Text(text.copy(alloc)?))),
+        Expr::Text(text) => held_text(alloc, text),
         Expr::Int(number) => own(Some(Value::Int(*number))),
         Expr::Call(name, args) => called(alloc, sight, name, args),
         Expr::Member(base, name) => {
@@ -83,8 +82,10 @@ fn held<'a>(alloc: Global, sight: &Sight<'a>, e: &Expr) -> Result<Held<'a>, Stop
         }
         Expr::Index(base, index) => {
             let base = held_outcome(alloc, sight, base)?;
-            let index = outcome(alloc, sight, index)?;
-            indexed(alloc, sight, base, index)
+            match outcome(alloc, sight, index) {
+                Ok(index) => indexed(alloc, sight, base, index),
+                Err(stop) => stopped(stop, base),
+            }
         }
     }
 }
@@ -105,7 +106,9 @@ fn called<'a>(
         Some(function) => own(Some(lazy_value(alloc, sight, function, args)?)),
         None => {
             let values = all_values(alloc, sight, args)?;
-            strict_call(alloc, sight, name, values.as_slice())
+            let held = strict_call(alloc, sight, name, values.as_slice());
+            let_go(values);
+            held
         }
     }
 }
@@ -138,7 +141,7 @@ fn if_value<'a>(alloc: Global, sight: &Sight<'a>, args: &[Expr]) -> Result<Value
         return Err(Stop::NoValue);
     };
     let value = value_of(alloc, sight, condition)?;
-    match truth_of(&value) {
+    match truth(value) {
         Some(true) => value_of(alloc, sight, yes),
         Some(false) => value_of(alloc, sight, no),
         None => Err(Stop::NoValue),
@@ -165,7 +168,7 @@ fn all_true<'a>(alloc: Global, sight: &Sight<'a>, args: &[Expr]) -> Result<Value
 {
     for arg in args {
         let value = value_of(alloc, sight, arg)?;
-        match truth_of(&value) {
+        match truth(value) {
             Some(true) => {}
             Some(false) => return Ok(Value::Bool(false)),
             None => return Err(Stop::NoValue),
@@ -194,7 +197,7 @@ fn one_true<'a>(alloc: Global, sight: &Sight<'a>, args: &[Expr]) -> Result<Value
 {
     for arg in args {
         let value = value_of(alloc, sight, arg)?;
-        match truth_of(&value) {
+        match truth(value) {
             Some(true) => return Ok(Value::Bool(true)),
             Some(false) => {}
             None => return Err(Stop::NoValue),
@@ -223,8 +226,9 @@ fn first_there<'a>(alloc: Global, sight: &Sight<'a>, args: &[Expr]) -> Result<Va
 {
     for arg in args {
         let value = value_of(alloc, sight, arg)?;
-        if !is_null(&value) {
-            return Ok(value);
+        match unless_null(value) {
+            Some(value) => return Ok(value),
+            None => {}
         }
     }
     Ok(Value::Null)
@@ -236,18 +240,79 @@ fn all_values<'a>(alloc: Global, sight: &Sight<'a>, args: &[Expr]) -> Result<Vec
     ensures { Gives all_json result (answered (known_by sight.now)
         (all (outs (here sight.now) args.now))) }
 {
-    let mut values = Vec::new(alloc);
-    let mut complete = true;
+    let mut values = Some(Vec::new(alloc));
     for arg in args {
-        match outcome(alloc, sight, arg)? {
-            Some(value) => values.push(value)?,
-            None => complete = false,
+        match outcome(alloc, sight, arg) {
+            Ok(value) => values = with_value(values, value)?,
+            Err(stop) => return stopped(stop, values),
         }
     }
-    if complete {
-        Ok(values)
+    if_all(values)
+}
+
+// The values with one more at their end, where all are there.
+fn with_value(
+    values: Option<Vec<Value>>,
+    value: Option<Value>,
+) -> Result<Option<Vec<Value>>, OutOfMemory>
+    ensures { IfOk result (λ all. option_map all_json all
+        ≡ with_last (option_map all_json values) (option_map json value)) }
+{
+    match values {
+        Some(values) => match value {
+            Some(value) => push_value(values, value),
+            None => nothing(values),
+        },
+        None => nothing(value),
+    }
+}
+
+fn push_value(values: Vec<Value>, value: Value) -> Result<Option<Vec<Value>>, OutOfMemory>
+    ensures { IfOk result (λ all. option_map all_json all
+        ≡ Some (all_json values ++ json value ∷ [])) }
+{
+    let mut values = values;
+    match values.push(value) {
+        Ok(()) => Ok(Some(values)),
+        Err(fault) => lacks_memory((fault, values)),
+    }
+}
+
+// No values; the part is dropped.
+fn nothing<T: Drop>(_part: T) -> Result<Option<Vec<Value>>, OutOfMemory>
+    ensures { result ≡ Ok None }
+{
+    Ok(None)
+}
+
+// The values, where all are there.
+fn if_all(values: Option<Vec<Value>>) -> Result<Vec<Value>, Stop>
+    ensures { Gives all_json result (given (option_map all_json values)) }
+{
+    match values {
+        Some(values) => Ok(values),
+        None => Err(Stop::NoValue),
+    }
+}
+
+// Which truth value the value is, if any. The value is dropped.
+fn truth(value: Value) -> Option<bool>
+    ensures { result ≡ truth_of (json value) }
+{
+    let truth = truth_of(&value);
+    let_go(value);
+    truth
+}
+
+// The value, unless it is null.
+fn unless_null(value: Value) -> Option<Value>
+    ensures { option_map json result ≡ (if is_null (json value) then None else Some (json value)) }
+{
+    if is_null(&value) {
+        let_go(value);
+        None
     } else {
-        Err(Stop::NoValue)
+        Some(value)
     }
 }
 

@@ -24,7 +24,7 @@ use arm_env::loops::copy_index;
 use arm_env::objects::{deployment, resource_group, subscription};
 use arm_env::outputs::is_deployment;
 use arm_env::sight::{Sight, parameter, state, variable};
-use arm_env::stop::Stop;
+use arm_env::stop::{Stop, let_go, stopped};
 use arm_functions::{FunctionFault, call};
 use arm_ids::Key;
 use arm_value::{OutOfMemory, Text, Texts, Value};
@@ -157,7 +157,9 @@ fn referred<'a>(alloc: Global, sight: &Sight<'a>, asked: Asked, key: Key) -> Res
     if is_deployment(sight, &key) {
         Ok(Held::Deployment(key))
     } else {
-        state_asked(alloc, sight, &key, asked)
+        let state = state_asked(alloc, sight, &key, asked);
+        let_go(key);
+        state
     }
 }
 
@@ -244,11 +246,11 @@ fn of_none<'a>(args: &[Value], value: Value) -> Result<Held<'a>, Stop>
     if args.is_empty() {
         own(Some(value))
     } else {
-        Err(Stop::NoValue)
+        stopped(Stop::NoValue, value)
     }
 }
 
-/// The functions that need what stands around them.
+// The value of a function that needs an environment.
 #[tactic(auto, using(crate::proofs::Answers::answers))]
 fn strict_row<'a>(
     alloc: Global,

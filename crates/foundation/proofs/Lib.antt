@@ -1,4 +1,5 @@
 pub mod AsciiWords
+pub mod Characters
 pub mod Choices
 pub mod Comparisons
 pub mod OptionLoops

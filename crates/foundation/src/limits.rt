@@ -1,12 +1,14 @@
 // The limits of the language and of the service, each with its unit.
 
-/// How deep the parts of an expression nest at most, in templates and in Bicep files. A text, a number or a name nests 0.
+/// How deep the parts of an expression nest at most, in templates and in Bicep files. A text, a number or a name
+/// nests 0.
 pub const MAX_EXPRESSION_NESTING: u32 = 64;
 
 /// How many characters the text of a template expression has at most, its brackets included.
 pub const MAX_EXPRESSION_CHARACTERS: usize = 24_576;
 
-/// How deep the value of a member of a literal body nests at most, so that its template is within `MAX_VALUE_NESTING`.
+/// How deep the value of a member of a literal body nests at most, so that its template is within
+/// `MAX_VALUE_NESTING`.
 pub const MAX_LITERAL_NESTING: u32 = 90;
 
 /// How deep a value that is evaluated, a body or an output nests at most.

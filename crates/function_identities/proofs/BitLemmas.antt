@@ -12,7 +12,7 @@ unfolding bits_of
 length-bits [] = refl
 length-bits (b ∷ bytes) = let rest = length-bits bytes in omega (arith, rest)
 
--- behind the last byte are zero bits
+-- after the last byte are zero bits
 pub no_bit : (bytes : List ℕ) (place : ℕ) → length bytes ≤ place / 8 → slice_index (bits_of bytes) place ≡ 0
 unfolding bits_of
 no_bit [] place h = refl

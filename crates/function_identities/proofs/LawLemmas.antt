@@ -1,8 +1,8 @@
 -- Base64 back to texts.
 use Rattle.std.proofs.Common.{◌≡◌, ◌<◌, ◌+◌, ◌++◌, ◌∙◌, ℕ, zero, suc, List, [], ◌∷◌, Bool, true, false, cond, ◌/◌}
 use Rattle.std.proofs.Common.{◌%◌, Option, Some, None, option_map, option_and_then, Result, Ok, Err, chars}
-use Rattle.std.proofs.Common.{encode_utf8_all, refl, sym, ap, subst, inl, inr, arith, true≢false}
-use Rattle.std.specs.Prelude.{◌&&◌, if◌then◌else◌}
+use Rattle.std.proofs.Common.{encode_utf8_all, refl, sym, ap, subst, inl, inr, arith}
+use Rattle.std.specs.Prelude.{if◌then◌else◌}
 use Rattle.std.specs.Str.{all_scalars, is_utf8}
 use Rattle.std.proofs.Math.Dec.{ltb}
 use Rattle.std.proofs.Math.Utf8.{scalar, scalars, encode, scalar_cases}

@@ -1,4 +1,4 @@
--- The bytes of texts behind zero bytes, text by text.
+-- The bytes of texts after zero bytes, text by text.
 use Rattle.std.proofs.Common.{◌≡◌, ◌<◌, ◌≤◌, ◌+◌, ◌*◌, ◌/◌, ◌∙◌, ℕ, List, [], ◌∷◌, ◌++◌, length, get_or, take, drop}
 use Rattle.std.proofs.Common.{map, Option, Some, None, option_map, option_and_then, encode_utf8_all, refl, ap, sym}
 use Rattle.std.proofs.Common.{subst, append_assoc, append-nil, arith}

@@ -14,7 +14,7 @@ fn symbol_of(group: u8) -> char
     char::from(SYMBOLS[group as usize])
 }
 
-// The bit at a place, from the most significant bit of the first byte on; 0 behind the last byte.
+// The bit at a place, from the most significant bit of the first byte on; 0 after the last byte.
 fn bit_at(bytes: &[u8], place: usize) -> u8
     ensures value { result ≡ slice_index (bits_of bytes.now) place }
     ensures bit { result < 2 }

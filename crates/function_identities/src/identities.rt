@@ -1,5 +1,6 @@
 // Names that are made of texts.
-ghost use Rattle.std.specs.Prelude.{◌≡◌, ◌∷◌, ◌++◌, [], Some, map, take, option_map, option_and_then, encode_utf8_all, IfOk, OnOk};
+ghost use Rattle.std.specs.Prelude.{◌≡◌, ◌∷◌, ◌++◌, [], Some, map, take, option_map, option_and_then, encode_utf8_all};
+ghost use Rattle.std.specs.Prelude.{IfOk, OnOk};
 ghost use Rattle.sha2.specs.Sha256.{sha256};
 ghost use Rattle.uuid.specs.Text.{hyphenated_text, lower};
 ghost use Rattle.uuid.specs.Uuid.{namespace_dns};
@@ -26,7 +27,7 @@ fn add(seed: &mut Vec<u8>, text: &Text) -> Result<(), OutOfMemory>
     Ok(())
 }
 
-// The bytes of the first text, and of the others behind a zero byte each.
+// The bytes of the first text, and of the others after a zero byte each.
 fn seed_from(alloc: Global, first: &Text, others: &[Value]) -> Result<Option<Vec<u8>>, OutOfMemory>
     ensures { IfOk result (λ seed. option_map (λ v. v.items) seed
         ≡ option_map (λ rest. encode_utf8_all first.now ++ rest)

@@ -1,5 +1,6 @@
 //! What holds of the functions beyond each one's own definition. The functions here have no body.
-ghost use Rattle.std.specs.Prelude.{◌≡◌, ◌<◌, ◌∷◌, [], Some, List, ℕ, true, codes, length, map, option_and_then, slice_index};
+ghost use Rattle.std.specs.Prelude.{◌≡◌, ◌<◌, ◌∷◌, [], Some, List, ℕ, true, codes, length, map, option_and_then};
+ghost use Rattle.std.specs.Prelude.{slice_index};
 ghost use Rattle.std.specs.Str.{all_scalars};
 ghost use Rattle.arm_value.specs.Json.{Json, text};
 ghost use Rattle.function_identities.specs.Base32.{base32, symbol_of};

@@ -10,7 +10,7 @@ use Rattle.arm_value.specs.Json.{Json, Member, keys, key_cmp, put, IsInOrder}
 use Rattle.arm_value.specs.View.{member}
 use Rattle.arm_value.specs.Place.{IsPlace}
 use Rattle.arm_value.specs.declared.value.Field.{Field}
-use Rattle.arm_value.proofs.SetLemmas.{equal_keys, is_place}
+use Rattle.arm_value.proofs.SetLemmas.{equal_keys, is_place, all_at}
 use Rattle.function_lists.proofs.MergeLemmas.{beneath, alike, differs, differs_from, same_key, after, same_after}
 
 or_last : (b : Bool) → (b || false) ≡ b
@@ -21,12 +21,6 @@ none_above : (q : Member → Bool) (k : List ℕ) (ms : List Member) → AllByRe
     → list_any (λ n. bytes_eq k n.0 && q n) ms ≡ false
 none_above q k [] h = refl
 none_above q k (m ∷ ms) h = rw (differs k m.0 h.0) (none_above q k ms h.1)
-
-all_at : (P : List ℕ → Type 0) (fs : List Field) (i : ℕ) (d : Field) → AllByRecursion P (keys (map member fs))
-    → i < length fs → P (get_or fs i d).name
-all_at P [] i d h l = absurd (omega arith)
-all_at P (f ∷ fs) zero d h l = h.0
-all_at P (f ∷ fs) (suc i) d h l = all_at P fs i d h.1 (omega arith)
 
 -- where a key is found, its member alone may pass
 pub found_at : (q : Member → Bool) (k : List ℕ) (fs : List Field) (i : ℕ) (d : Field) → IsInOrder (map member fs)

@@ -6,7 +6,7 @@ use Rattle.std.specs.Prelude.{◌==◌}
 use Rattle.std.proofs.lemmas.Bool.Decides.{nat_tests}
 use Rattle.std.specs.Str.{chars}
 use Rattle.std.proofs.lemmas.List.{take_all}
-use Rattle.arm_value.specs.Json.{Json, Member, put}
+use Rattle.arm_value.specs.Json.{Json, Member}
 use Rattle.arm_value.specs.View.{json}
 use Rattle.arm_value.specs.declared.value.Value.{Value}
 use Rattle.function_numbers.specs.Kinds.{text_of}
@@ -21,7 +21,7 @@ pub chars_value : chars (codes "value") ≡ codes "value"
 unfolding chars
 chars_value = refl
 
--- the first of some values, and those behind it
+-- the first of some values, and those after it
 pub first_of : (vs : List Value) (v : Value) → 1 ≤ length vs → v ≡ get_or vs 0 v
     → map json vs ≡ json v ∷ map json (take (length vs - 1) (drop 1 vs))
 first_of [] v h e = absurd (omega arith)
@@ -29,7 +29,7 @@ first_of (w ∷ vs) v h e =
     let n : length vs ≤ length (w ∷ vs) - 1 = omega arith in
     ap₂ (λ (x : Value) us. json x ∷ map json us) (sym e) (sym (take_all (length (w ∷ vs) - 1) vs n))
 
--- the first two, and those behind them
+-- the first two, and those after them
 pub first_two_of : (vs : List Value) (v w : Value) → 2 ≤ length vs → v ≡ get_or vs 0 v → w ≡ get_or vs 1 w
     → map json vs ≡ json v ∷ json w ∷ map json (take (length vs - 2) (drop 2 vs))
 first_two_of [] v w h e f = absurd (omega arith)

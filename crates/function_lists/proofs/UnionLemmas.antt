@@ -18,6 +18,7 @@ use Rattle.function_lists.specs.Members.{value_at, object_at, under, updated, un
 use Rattle.function_lists.specs.Merge.{below, from, object_first, without_first, united_to}
 use Rattle.function_lists.proofs.MergeLemmas.{merged, steps, from_in_order, without_in_order}
 use Rattle.function_lists.proofs.FieldLemmas.{later_keys_above}
+use Rattle.arm_value.proofs.TreeLemmas.{pairs-members}
 
 pub next_field : (fs : List Field) (i : ℕ) (f : Field) → i < length fs → f ≡ get_or fs i f
     → map member (drop i fs) ≡ member f ∷ map member (drop (i + 1) fs)
@@ -37,10 +38,6 @@ abbrev valued : Option Json → ℕ
 valued None = 0
 valued (Some j) = nesting j
 
-pairs_members : (ms : Pairs) → pairs (members ms) ≡ ms
-pairs_members no_pairs = refl
-pairs_members (pair k j ms) = ap (pair k j) (pairs_members ms)
-
 at_nests_by : (b : Bool) (j : Json) (o : Option Json) (n : ℕ) → nesting j ≤ n → valued o ≤ n
     → valued (if b then Some j else o) ≤ n
 at_nests_by true j o n h g = h
@@ -59,7 +56,7 @@ object_nests (Some (bool b)) n h = omega arith
 object_nests (Some (int z)) n h = omega arith
 object_nests (Some (text s)) n h = omega arith
 object_nests (Some (array js)) n h = omega arith
-object_nests (Some (object ms)) n h = rw (pairs_members ms) h
+object_nests (Some (object ms)) n h = rw (pairs-members ms) h
 
 put_nests_by : (o : Ordering) (k : List ℕ) (j : Json) (m : Member) (ms : List Member) (n : ℕ) → nesting j ≤ n
     → members_nesting (m ∷ ms) ≤ n → members_nesting (put k j ms) ≤ n

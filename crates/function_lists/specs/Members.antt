@@ -41,7 +41,7 @@ value_at k (m ∷ ms) = if bytes_eq k m.0 then Some m.1 else value_at k ms
 abbrev pub object_at : List ℕ → List Member → Option (List Member)
 object_at k ms = option_and_then members_of (value_at k ms)
 
--- two objects under one key are united; else the second value stands
+-- two objects under one key are united; else it is the second value
 abbrev mutual
   pub under : Option (List Member) → Json → Json
   under (Some ms) (object ns) = object (pairs (put_each [] (ms ++ updated ms ns)))

@@ -17,7 +17,7 @@ fn amount(count: i64) -> u64
     if count <= 0 { 0 } else { count as u64 }
 }
 
-// The elements behind so many.
+// The elements after so many.
 fn behind<T>(elements: &[T], count: u64) -> &[T]
     ensures { result.now ≡ drop count elements.now }
 {

@@ -1,5 +1,6 @@
 // The items of arrays.
-ghost use Rattle.std.specs.Prelude.{◌≡◌, ◌++◌, ◌∷◌, [], Some, List, Option, take, map, option_map, option_and_then, IfOk, OnOk, MatchOption, if◌then◌else◌, is_ok};
+ghost use Rattle.std.specs.Prelude.{◌≡◌, ◌++◌, ◌∷◌, [], Some, List, Option, take, map, option_map, option_and_then};
+ghost use Rattle.std.specs.Prelude.{IfOk, OnOk, MatchOption, if◌then◌else◌, is_ok};
 ghost use Rattle.std.specs.List.{list_all, filter};
 ghost use Rattle.arm_value.specs.Json.{Json};
 ghost use Rattle.arm_value.specs.View.{json};
@@ -7,7 +8,8 @@ ghost use Rattle.function_numbers.specs.Kinds.{items_of};
 ghost use Rattle.function_lists.specs.Values.{array_of};
 ghost use Rattle.function_lists.specs.Index.{IsIndexOf};
 ghost use Rattle.function_lists.specs.Items as row;
-ghost use Rattle.function_lists.specs.Items.{as_array, joined, is_among, distinct, is_array, is_item_of, or_found, here, first_place, last_place};
+ghost use Rattle.function_lists.specs.Items.{as_array, joined, is_among, distinct, is_array, is_item_of, or_found};
+ghost use Rattle.function_lists.specs.Items.{here, first_place, last_place};
 
 use crate::index::{add, has, texts_of};
 use crate::values::{array_of, copies};

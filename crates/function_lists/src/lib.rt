@@ -1,8 +1,8 @@
 //! Template functions on arrays and objects, and on the ends of texts.
 //!
 //! Each function takes the list of its arguments and gives its value; none where the arguments are
-//! of other kinds or another number, or where the value would nest above 120. What each gives stands
-//! in `specs/Sizes.antt`, `specs/Ends.antt`, `specs/Items.antt` and `specs/Members.antt`.
+//! of other kinds or another number, or where the value would nest above 120. What each returns is in
+//! `specs/Sizes.antt`, `specs/Ends.antt`, `specs/Items.antt` and `specs/Members.antt`.
 //! Beside them it has what the functions on texts need of arrays, and texts as characters.
 #![tactic(auto)]
 

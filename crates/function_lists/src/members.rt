@@ -1,16 +1,16 @@
 // The members of objects, and parts of values.
-ghost use Rattle.std.specs.Prelude.{◌≡◌, ◌≤◌, ◌++◌, ◌∷◌, [], Some, None, List, Option, chars, bytes_eq, map, option_map, option_and_then, IfOk, OnOk, slice_get, codes};
+ghost use Rattle.std.specs.Prelude.{◌≡◌, ◌≤◌, ◌++◌, ◌∷◌, [], Some, None, List, Option, chars, bytes_eq, map};
+ghost use Rattle.std.specs.Prelude.{option_map, option_and_then, IfOk, OnOk, slice_get, codes};
 ghost use Rattle.std.specs.List.{list_all, list_any, filter};
 ghost use Rattle.arm_value.specs.Json.{Json, Member, text, nesting, members_nesting, put};
 ghost use Rattle.arm_value.specs.View.{json, member};
 ghost use Rattle.function_lists.specs.Values.{array_of, object_of};
-ghost use Rattle.arm_value.specs.Look.{is_same_folded};
 ghost use Rattle.function_numbers.specs.Kinds.{text_of};
 ghost use Rattle.function_lists.specs.Members as row;
 ghost use Rattle.function_lists.specs.Members.{key_and_value, paired, has_key};
 
 use crate::values::{array_of, object_of};
-use arm_value::{Field, Fields, OutOfMemory, Text, Value, folded_eq};
+use arm_value::{Field, Fields, OutOfMemory, Text, Value};
 use function_numbers::kinds::{members_of, text_of};
 use std::alloc::Global;
 
@@ -149,20 +149,12 @@ pub fn create_object(alloc: Global, args: &[Value]) -> Result<Option<Value>, Out
     }
 }
 
-// Whether the name is that of the member but for the case of ASCII letters.
-#[tactic(auto, using(function_numbers::proofs::WordLemmas::is_folded))]
-fn is_named(field: &Field, name: &Text) -> bool
-    ensures { result ≡ is_same_folded name.now field.now.name }
-{
-    folded_eq(name.as_str(), field.name.as_str())
-}
-
 /// Whether a member's name is equal to the name but for the case of ASCII letters.
 pub fn has_key(fields: &Fields, name: &Text) -> bool
     ensures { result ≡ has_key name.now fields.now }
 {
     for field in fields.as_slice() {
-        if is_named(field, name) {
+        if field.name.equals_ignore_case(name.as_str()) {
             return true;
         }
     }

@@ -3,7 +3,8 @@ ghost use Rattle.std.specs.Prelude.{◌≡◌, chars, map, option_map, IfOk};
 ghost use Rattle.arm_value.specs.View.{json};
 ghost use Rattle.function_lists.specs.Values.{or_null};
 ghost use Rattle.function_lists.specs.Members as row;
-ghost use Rattle.function_lists.specs.Members.{element, part_of_null, part_of_items, part_of_members, part_of, part_along, tried};
+ghost use Rattle.function_lists.specs.Members.{element, part_of_null, part_of_items, part_of_members, part_of};
+ghost use Rattle.function_lists.specs.Members.{part_along, tried};
 
 use crate::values::copy_or_null;
 use arm_value::{Fields, Items, OutOfMemory, Value};
@@ -19,7 +20,7 @@ fn element(items: &Items, place: i64) -> Option<&Value>
     items.at(place as usize)
 }
 
-// In the answers below no value stands for null.
+// In the results below none means null.
 
 fn part_of_null<'a>(part: &Value) -> Option<Option<&'a Value>>
     ensures { option_map (λ o. or_null (option_map (λ v. json v.now) o)) result ≡ part_of_null (json part.now) }
@@ -53,7 +54,7 @@ fn part_of_members<'a>(fields: &'a Fields, part: &Value) -> Option<Option<&'a Va
     }
 }
 
-#[tactic(auto, using(function_numbers::proofs::RowLemmas::items_of_row, function_numbers::proofs::RowLemmas::members_of_pairs))]
+#[tactic(auto, using(function_numbers::proofs::RowLemmas::rows_and_pairs))]
 fn part_of_value<'a>(value: &'a Value, part: &Value) -> Option<Option<&'a Value>>
     ensures { option_map (λ o. or_null (option_map (λ v. json v.now) o)) result
         ≡ part_of (json value.now) (json part.now) }

@@ -13,7 +13,7 @@ fn count(text: &str) -> usize
     text.chars().count()
 }
 
-#[tactic(auto, using(function_numbers::proofs::RowLemmas::items_of_row, function_numbers::proofs::RowLemmas::members_of_pairs))]
+#[tactic(auto, using(function_numbers::proofs::RowLemmas::rows_and_pairs))]
 fn size_of(value: &Value) -> Option<usize>
     ensures { result ≡ size_of (json value.now) }
 {

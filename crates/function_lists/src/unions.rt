@@ -1,12 +1,14 @@
 // Unions and intersections.
-ghost use Rattle.std.specs.Prelude.{◌≡◌, ◌≤◌, ◌++◌, ◌∷◌, [], ◌&&◌, bytes_eq, map, option_map, IfOk, OnOk, if◌then◌else◌};
+ghost use Rattle.std.specs.Prelude.{◌≡◌, ◌≤◌, ◌++◌, ◌∷◌, [], ◌&&◌, bytes_eq, map, option_map, IfOk, OnOk};
+ghost use Rattle.std.specs.Prelude.{if◌then◌else◌};
 ghost use Rattle.std.specs.List.{list_any, list_all, filter};
 ghost use Rattle.arm_value.specs.Json.{object, pairs, IsInOrder};
 ghost use Rattle.arm_value.specs.Same.{is_same};
 ghost use Rattle.arm_value.specs.View.{json, member};
 ghost use Rattle.function_lists.specs.Merge.{from, without_first, united_to};
 ghost use Rattle.function_lists.specs.Members as row;
-ghost use Rattle.function_lists.specs.Members.{under, united, united_all, union_by, is_object, is_member_of, intersection_with};
+ghost use Rattle.function_lists.specs.Members.{under, united, united_all, union_by, is_object, is_member_of};
+ghost use Rattle.function_lists.specs.Members.{intersection_with};
 
 use crate::items::{intersection_of_arrays, union_of_arrays};
 use crate::merge::{all_in_object, compare, move_below, push_named, take_object};
@@ -230,7 +232,7 @@ fn intersection_of_objects(
     object_of(alloc, all)
 }
 
-#[tactic(auto, using(function_numbers::proofs::RowLemmas::items_of_row, function_numbers::proofs::RowLemmas::members_of_pairs))]
+#[tactic(auto, using(function_numbers::proofs::RowLemmas::rows_and_pairs))]
 fn intersection_with(
     alloc: Global,
     first: &Value,

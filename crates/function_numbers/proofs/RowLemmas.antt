@@ -15,7 +15,7 @@ pub members_of_pairs : (ms : List Member) → members (pairs ms) ≡ ms
 members_of_pairs [] = refl
 members_of_pairs (m ∷ ms) = ap (λ ns. m ∷ ns) (members_of_pairs ms)
 
--- the next of what is left, and what is left behind it
+-- the next of what is left, and what is left after it
 pub next_in : (vs : List Value) (i : ℕ) (v : Value) → i < length vs → v ≡ get_or vs i v
     → map json (drop i vs) ≡ json v ∷ map json (drop (i + 1) vs)
 next_in vs i v h e = rw (add-one, drop-cons vs i v h) (ap (λ (w : Value). json w ∷ map json (drop (suc i) vs)) (sym e))
@@ -23,6 +23,8 @@ next_in vs i v h e = rw (add-one, drop-cons vs i v h) (ap (λ (w : Value). json 
 pub none_left : (vs : List Value) (i : ℕ) → length vs ≤ i → map json (drop i vs) ≡ []
 none_left vs i h = ap (map json) (drop_all i vs h)
 
--- what a pattern finds behind the first of a list
+-- what a pattern finds after the first of a list
 pub behind_first : {A : Type 0} (x : A) (xs : List A) → take (length (x ∷ xs) - 1) (drop 1 (x ∷ xs)) ≡ xs
 behind_first x xs = let n : length xs ≤ length (x ∷ xs) - 1 = omega arith in take_all (length (x ∷ xs) - 1) xs n
+
+pub ruleset rows_and_pairs = (items_of_row, members_of_pairs)

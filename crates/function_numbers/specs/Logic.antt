@@ -27,7 +27,7 @@ always_null args = of_none null args
 
 -- the truth value that a text names, whatever the case of its letters
 abbrev pub truth_named : List ℕ → Option Bool
-truth_named s = if is_same_folded s (codes "true") then Some true else if is_same_folded s (codes "false")
+truth_named s = if is_same_folded (codes "true") s then Some true else if is_same_folded (codes "false") s
     then Some false else None
 
 -- a truth value, a number that is not 0, or the name of a truth value

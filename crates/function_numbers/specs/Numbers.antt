@@ -47,7 +47,7 @@ quotient x y = if is_zero y then None else within (int_div x y)
 abbrev pub div : List Json → Option Json
 div args = of_numbers quotient args
 
--- what is left of x behind its quotient, with the sign of x
+-- what is left of x after its quotient, with the sign of x
 abbrev pub rest_of : ℤ → ℤ → Option ℤ
 rest_of x y = if is_zero y then None else Some (int_rem x y)
 
@@ -101,7 +101,7 @@ small n = if nat_lt n (2 ^ 64) then Some n else None
 abbrev pub numeral : List ℕ → Option ℕ
 numeral s = if length s == 0 then None else read_on 0 s
 
--- the characters behind a `-` at the front
+-- the characters after a `-` at the front
 abbrev pub behind_minus : List ℕ → Option (List ℕ)
 behind_minus [] = None
 behind_minus (c ∷ cs) = if c == 45 then Some cs else None

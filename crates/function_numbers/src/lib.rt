@@ -2,7 +2,7 @@
 //!
 //! Each function takes the list of its arguments and gives its value; none where the arguments are
 //! of other kinds or another number, or where the function has no value of them.
-//! What each gives stands in `specs/Numbers.antt` and `specs/Logic.antt`, the kinds of values in
+//! What each returns is in `specs/Numbers.antt` and `specs/Logic.antt`, the kinds of values in
 //! `specs/Kinds.antt`.
 #![tactic(auto)]
 

@@ -1,12 +1,11 @@
 // Truth values.
-ghost use Rattle.std.specs.Prelude.{◌≡◌, ◌∷◌, [], chars, codes, map, option_map};
+ghost use Rattle.std.specs.Prelude.{◌≡◌, ◌∷◌, [], map, option_map};
 ghost use Rattle.arm_value.specs.View.{json};
-ghost use Rattle.arm_value.specs.Look.{is_same_folded};
 ghost use Rattle.function_numbers.specs.Logic as row;
 ghost use Rattle.function_numbers.specs.Logic.{truth, truth_named};
 
 use crate::kinds::truth_of;
-use arm_value::{Text, Value, folded_eq};
+use arm_value::{Text, Value};
 
 fn opposite(value: &Value) -> Option<Value>
     ensures { option_map json result ≡ row.not (json value.now ∷ []) }
@@ -54,34 +53,13 @@ pub fn always_null(args: &[Value]) -> Option<Value>
     }
 }
 
-// Whether the texts are equal but for the case of ASCII letters.
-#[tactic(auto, using(crate::proofs::WordLemmas::is_folded))]
-fn is_named(text: &str, name: &str) -> bool
-    ensures { result ≡ is_same_folded (chars text.now) (chars name.now) }
-{
-    folded_eq(text, name)
-}
-
-#[tactic(auto, using(crate::proofs::WordLemmas::chars_true))]
-fn names_true(text: &Text) -> bool
-    ensures { result ≡ is_same_folded text.now (codes "true") }
-{
-    is_named(text.as_str(), "true")
-}
-
-#[tactic(auto, using(crate::proofs::WordLemmas::chars_false))]
-fn names_false(text: &Text) -> bool
-    ensures { result ≡ is_same_folded text.now (codes "false") }
-{
-    is_named(text.as_str(), "false")
-}
-
+#[tactic(auto, using(crate::proofs::WordLemmas::chars_true, crate::proofs::WordLemmas::chars_false))]
 fn truth_named(text: &Text) -> Option<bool>
     ensures { result ≡ truth_named text.now }
 {
-    if names_true(text) {
+    if text.equals_ignore_case("true") {
         Some(true)
-    } else if names_false(text) {
+    } else if text.equals_ignore_case("false") {
         Some(false)
     } else {
         None

@@ -1,8 +1,10 @@
 // Numbers from texts.
-ghost use Rattle.std.specs.Prelude.{◌≡◌, ◌∷◌, [], ◌+◌, ◌*◌, ◌-◌, ◌^◌, chars, nat_lt, map, option_map, option_and_then, if◌then◌else◌};
+ghost use Rattle.std.specs.Prelude.{◌≡◌, ◌∷◌, [], ◌+◌, ◌*◌, ◌-◌, ◌^◌, chars, nat_lt, map, option_map, option_and_then};
+ghost use Rattle.std.specs.Prelude.{if◌then◌else◌};
 ghost use Rattle.arm_value.specs.View.{json};
 ghost use Rattle.function_numbers.specs.Numbers as row;
-ghost use Rattle.function_numbers.specs.Numbers.{is_digit, with_digit, small, numeral, behind_minus, below_zero, from_zero, spelled, whole};
+ghost use Rattle.function_numbers.specs.Numbers.{is_digit, with_digit, small, numeral, behind_minus, below_zero};
+ghost use Rattle.function_numbers.specs.Numbers.{from_zero, spelled, whole};
 
 use arm_value::Value;
 
@@ -34,7 +36,7 @@ fn numeral(text: &str) -> Option<u64>
     Some(number)
 }
 
-// What stands behind a `-` at the front.
+// The characters after a `-` at the front.
 fn behind_minus(text: &str) -> Option<&str>
     ensures { option_map (λ s. chars s.now) result ≡ behind_minus (chars text.now) }
 {

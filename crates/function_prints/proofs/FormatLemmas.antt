@@ -71,7 +71,7 @@ too_great bound n cs h = by_number (read_on n cs) refl
     by_number None e = refl
     by_number (Some m) e = below-none bound m (omega (arith, read-grows n m cs e))
 
--- what the digits behind a number that is read so far give
+-- what the digits after a number that is read so far give
 abbrev number_of : ℕ → ℕ → ℕ → List ℕ → Option (ℕ × ℕ)
 number_of bound i n digits = if i + length digits == 0 then None
     else option_map (λ m. (m, i + length digits)) (option_and_then (below bound) (read_on n digits))
@@ -102,7 +102,7 @@ numbered-all bound cs = by_digits (before_closing cs)
     by_digits None = refl
     by_digits (Some digits) = number_of-all bound (0 + length digits) digits (omega arith)
 
--- the next of what is left, and what is left behind it
+-- the next of what is left, and what is left after it
 next_left : (cs : List ℕ) (i c : ℕ) → i < length cs → c ≡ get_or cs i c → drop i cs ≡ c ∷ drop (i + 1) cs
 next_left cs i c h e = rw (add-one, drop-cons cs i c h) (ap (λ x. x ∷ drop (suc i) cs) (sym e))
 
@@ -309,7 +309,7 @@ fill_takes js out (c ∷ cs) (suc k) h p =
     let n : suc k - 1 ≡ k = omega arith in
     ap (λ m. filled_after out js m cs) n ∙ ap (option_map (λ s. out ++ s)) (sym (filled-taken js k c cs))
 
--- one text behind another, before what is filled behind both
+-- one text after another, before what is filled after both
 two_fronts : (front s : List ℕ) (o : Option (List ℕ))
     → option_map (λ rest. (front ++ s) ++ rest) o ≡ option_map (λ rest. front ++ rest)
     (option_map (λ rest. s ++ rest) o)

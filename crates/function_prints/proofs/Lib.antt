@@ -3,3 +3,4 @@ pub mod StatedLemmas
 pub mod FormatLemmas
 pub mod PieceLemmas
 pub mod RejoinLemmas
+pub mod WholeLemmas

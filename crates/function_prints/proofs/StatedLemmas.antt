@@ -1,4 +1,4 @@
--- A tree from the data of `serde_json` that it stands for.
+-- A tree and its data of `serde_json`.
 use Rattle.std.proofs.Common.{◌≡◌, ◌<◌, ◌≤◌, ◌+◌, ◌*◌, ◌-◌, ◌/◌, ◌%◌, ◌^◌, ℕ, zero, suc, ℤ, pos, negsuc, Bool, true}
 use Rattle.std.proofs.Common.{false, nat_le, List, [], ◌∷◌, ◌++◌, Option, Some, None, is_some, cond, ltb, option_map}
 use Rattle.std.proofs.Common.{option_and_then, encode_utf8_all, refl, ap, sym, ◌∙◌, arith}

@@ -1,12 +1,12 @@
 -- Printed forms as characters.
-use Rattle.std.proofs.Common.{◌≡◌, ◌<◌, ◌≤◌, ◌+◌, ◌^◌, ℕ, zero, suc, ℤ, pos, negsuc, true, false, Bool, List, [], ◌∷◌}
+use Rattle.std.proofs.Common.{◌≡◌, ◌<◌, ◌≤◌, ◌+◌, ℕ, zero, suc, ℤ, pos, negsuc, true, false, Bool, List, [], ◌∷◌}
 use Rattle.std.proofs.Common.{◌++◌, length, get_or, drop, map, Option, Some, None, option_map, option_and_then, chars}
 use Rattle.std.proofs.Common.{codes, IsUtf8, refl, ap, sym, ◌∙◌, append_assoc, append-nil, arith, w64}
 use Rattle.std.specs.Prelude.{FitsSigned, if◌then◌else◌}
 use Rattle.std.specs.Str.{chars, IsAscii, is_utf8}
 use Rattle.std.specs.Fmt.{decimal, signed_decimal}
 use Rattle.std.specs.List.{flat_map}
-use Rattle.std.proofs.lemmas.Str.{chars-IsAscii, chars-nil, chars-append, IsUtf8-from_is_utf8}
+use Rattle.std.proofs.lemmas.Str.{chars-IsAscii, chars-nil, IsUtf8-from_is_utf8}
 use Rattle.std.proofs.lemmas.Fmt.{IsAscii-decimal}
 use Rattle.arm_value.specs.Json.{Json}
 use Rattle.arm_value.specs.View.{json}

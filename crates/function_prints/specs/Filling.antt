@@ -14,7 +14,7 @@ number_before_closing bound cs =
     option_and_then (λ digits. option_map (λ n. (n, length digits)) (option_and_then (below bound) (numeral digits)))
     (before_closing cs)
 
--- a field behind a text
+-- a field after a text
 abbrev pub put_behind : List ℕ → Option Field → Option Field
 put_behind s o = option_map (λ f. (s ++ f.0, f.1)) o
 
@@ -22,7 +22,7 @@ put_behind s o = option_map (λ f. (s ++ f.0, f.1)) o
 abbrev pub ending : List ℕ → Option ℕ → Option Field
 ending s o = option_map (λ n. (s, n)) o
 
--- a text, and what is filled behind it
+-- a text, and what is filled after it
 abbrev pub filled_after : List ℕ → List Json → ℕ → List ℕ → Option (List ℕ)
 filled_after front args taken cs = option_map (λ s. front ++ s) (filled_behind args taken cs)
 

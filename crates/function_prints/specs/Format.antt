@@ -6,7 +6,7 @@ use Rattle.function_numbers.specs.Kinds.{text_of}
 use Rattle.function_numbers.specs.Numbers.{numeral}
 use Rattle.function_prints.specs.Printed.{printed}
 
--- what a brace stands for, and how many of the characters behind it belong to it
+-- what a brace means, and how many of the characters after it belong to it
 abbrev pub Field : Type 0
 Field = List ℕ × ℕ
 
@@ -19,13 +19,13 @@ before_closing (c ∷ cs) = if c == 125 then Some [] else option_map (λ s. c �
 abbrev pub argument : List Json → List ℕ → Option Json
 argument args digits = option_and_then (slice_get args) (numeral digits)
 
--- behind a `{`: the printed form of the argument whose number stands before the first `}`
+-- after a `{`: the printed form of the argument whose number is before the first `}`
 abbrev pub argument_field : List Json → List ℕ → Option Field
 argument_field args cs =
     option_and_then (λ digits. option_map (λ j. (printed j, suc (length digits))) (argument args digits))
     (before_closing cs)
 
--- behind a brace: one brace for two alike, or the printed form of an argument for its number in braces
+-- after a brace: one brace for two alike, or the printed form of an argument for its number in braces
 abbrev pub field : List Json → ℕ → List ℕ → Option Field
 field args brace [] = None
 field args brace (c ∷ cs) = if c == brace then Some (brace ∷ [], 1) else if brace == 123
@@ -34,7 +34,7 @@ field args brace (c ∷ cs) = if c == brace then Some (brace ∷ [], 1) else if 
 abbrev pub is_brace : ℕ → Bool
 is_brace c = c == 123 || c == 125
 
--- the text with its fields filled, behind so many characters that belong to a field
+-- the text with its fields filled, after so many characters that belong to a field
 unfoldable pub filled_behind : List Json → ℕ → List ℕ → Option (List ℕ)
 filled_behind args taken [] = Some []
 filled_behind args (suc n) (c ∷ cs) = filled_behind args n cs

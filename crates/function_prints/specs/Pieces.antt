@@ -10,7 +10,7 @@ pub data Piece : Type 0 where
   character : ℕ → Piece
   place : List ℕ → Piece
 
--- how it stands in a format text: a brace twice, another character once, the digits in braces
+-- how it is written in a format text: a brace twice, another character once, the digits in braces
 abbrev pub spelled_piece : Piece → List ℕ
 spelled_piece (character c) = if is_brace c then c ∷ c ∷ [] else c ∷ []
 spelled_piece (place digits) = 123 ∷ digits ++ 125 ∷ []

@@ -1,13 +1,14 @@
 -- Which value a JSON text states (Microsoft Learn: ARM template functions, object: `json`).
-use Rattle.std.specs.Prelude.{ℕ, nat_le, chars, encode_utf8_all, List, Option, Some, None, option_map}
+use Rattle.std.specs.Prelude.{ℕ, nat_le, chars, encode_utf8_all, List, [], ◌∷◌, Option, Some, None, option_map}
 use Rattle.std.specs.Prelude.{option_and_then, if◌then◌else◌}
 use Rattle.serde_json.specs.Data as d
 use Rattle.serde_json.specs.Find.{as_i64}
 use Rattle.arm_value.specs.Json.{Json, null, bool, int, text, array, object, Row, no_items, item, Pairs, no_pairs, pair}
+use Rattle.arm_value.specs.Fault.{Gives}
 use Rattle.arm_value.specs.Reading.{reading}
 use Rattle.function_numbers.specs.Kinds.{text_of, of_one}
 
--- the tree that stands for this data of `serde_json`; none where a number is no whole one of 64 bits with a sign
+-- the tree that this data of `serde_json` is; none where a number is no whole one of 64 bits with a sign
 abbrev mutual
   pub tree_of : d.Data → Option Json
   tree_of d.null = Some null
@@ -36,6 +37,16 @@ stated bytes = option_and_then shallow_tree (reading bytes)
 -- the value that a text states
 abbrev pub stated_by : Json → Option Json
 stated_by j = option_and_then (λ s. stated (encode_utf8_all s)) (text_of j)
+
+-- The value is a text, and what `serde_json` reads of the text's bytes is the data of the other value.
+abbrev pub States : Json → Json → Type 0
+States (text s) j = Gives (reading (encode_utf8_all s)) j
+States _ j = ⊥
+
+-- The one argument is a text that states the value.
+abbrev pub AreStating : List Json → Json → Type 0
+AreStating (j ∷ []) k = States j k
+AreStating _ k = ⊥
 
 -- `json`
 abbrev pub read_json : List Json → Option Json

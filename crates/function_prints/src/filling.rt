@@ -1,11 +1,13 @@
 // Format texts with their fields filled.
-ghost use Rattle.std.specs.Prelude.{◌≡◌, ◌<◌, ◌∷◌, ◌++◌, [], length, drop, map, chars, string_bytes, option_map, option_and_then, IfOk, IfSome, OnOk};
+ghost use Rattle.std.specs.Prelude.{◌≡◌, ◌<◌, ◌∷◌, ◌++◌, [], length, drop, map, chars, string_bytes, option_map};
+ghost use Rattle.std.specs.Prelude.{option_and_then, IfOk, IfSome, OnOk};
 ghost use Rattle.arm_value.specs.Json.{text};
 ghost use Rattle.arm_value.specs.View.{json};
 ghost use Rattle.function_numbers.specs.Numbers.{with_digit};
 ghost use Rattle.function_prints.specs.Format as row;
 ghost use Rattle.function_prints.specs.Format.{argument_field, field, filled, format_by, is_brace};
-ghost use Rattle.function_prints.specs.Filling.{below, ending, filled_after, filled_on, number_before_closing, put_behind};
+ghost use Rattle.function_prints.specs.Filling.{below, ending, filled_after, filled_on, number_before_closing};
+ghost use Rattle.function_prints.specs.Filling.{put_behind};
 
 use crate::joining::add;
 use crate::printed::printed;
@@ -55,8 +57,8 @@ fn put_character(out: &mut String, character: char) -> Result<(), OutOfMemory>
     Ok(())
 }
 
-// Puts the printed form of the argument of a field last, by the characters behind the field's `{`.
-// Answers how many of these belong to the field.
+// Puts the printed form of the argument of a field last, by the characters after the field's `{`.
+// Returns how many of these belong to the field.
 fn put_argument(
     alloc: Global,
     out: &mut String,
@@ -75,7 +77,7 @@ fn put_argument(
     Ok(Some(digits + 1))
 }
 
-// Puts what a brace stands for last. Answers how many characters behind the brace belong to it.
+// Puts what a brace means last. Returns how many characters after the brace belong to it.
 fn put_field(
     alloc: Global,
     out: &mut String,
@@ -106,8 +108,8 @@ fn is_brace(character: char) -> bool
     character == '{' || character == '}'
 }
 
-// Goes on by one character: it belongs to a field before, begins a field, or stays. Answers how
-// many characters behind it belong to a field.
+// Continues by one character: it belongs to a field before it, begins a field, or is itself. Returns
+// how many characters after it belong to a field.
 fn fill_here(
     alloc: Global,
     out: &mut String,
@@ -163,8 +165,8 @@ fn format_by(alloc: Global, value: &Value, args: &[Value]) -> Result<Option<Valu
 }
 
 /// `format`: the text with the printed form of an argument in place of its number in braces, as
-/// `{0}` for the first one behind the text, and one brace in place of two. None where a brace stands
-/// otherwise, as in `{0:N0}`, or where there is no such argument.
+/// `{0}` for the first one after the text, and one brace in place of two. None where a brace is
+/// anywhere else, as in `{0:N0}`, or where there is no such argument.
 pub fn format(alloc: Global, args: &[Value]) -> Result<Option<Value>, OutOfMemory>
     ensures { IfOk result (λ value. option_map json value ≡ row.format (map json args.now)) }
 {

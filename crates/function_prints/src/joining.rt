@@ -4,7 +4,8 @@ ghost use Rattle.std.specs.List.{flat_map};
 ghost use Rattle.arm_value.specs.Json.{text};
 ghost use Rattle.arm_value.specs.View.{json};
 ghost use Rattle.function_prints.specs.Printed as row;
-ghost use Rattle.function_prints.specs.Printed.{printed, printed_scalar, printed_scalars, concat_by, joined_by, join_items};
+ghost use Rattle.function_prints.specs.Printed.{printed, printed_scalar, printed_scalars, concat_by, joined_by};
+ghost use Rattle.function_prints.specs.Printed.{join_items};
 
 use crate::printed::printed;
 use arm_value::{OutOfMemory, Text, Value};
@@ -74,7 +75,7 @@ pub fn concat(alloc: Global, args: &[Value]) -> Result<Option<Value>, OutOfMemor
     }
 }
 
-// Puts the printed forms last, each behind the text.
+// Puts the printed forms last, each after the text.
 fn add_all(
     alloc: Global,
     out: &mut String,

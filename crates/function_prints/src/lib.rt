@@ -2,7 +2,7 @@
 //!
 //! The printed form of a value is a text itself, a number's decimal digits, `True` or `False`,
 //! nothing for null, and the compact JSON text of an array or an object (`specs/Printed.antt`).
-//! Format texts stand in `specs/Format.antt`, and what a JSON text states in `specs/Stated.antt`.
+//! Format texts are in `specs/Format.antt`, and what a JSON text states is in `specs/Stated.antt`.
 #![tactic(auto)]
 
 mod filling;
@@ -11,6 +11,7 @@ pub mod laws;
 mod padding;
 pub mod printed;
 mod stated;
+mod whole;
 
 pub use filling::format;
 pub use joining::{concat, join};

@@ -4,10 +4,9 @@ ghost use Rattle.arm_value.specs.Fault.{Gives};
 ghost use Rattle.arm_value.specs.Reading.{reading};
 ghost use Rattle.arm_value.specs.View.{json};
 ghost use Rattle.function_prints.specs.Stated as row;
-ghost use Rattle.function_prints.specs.Stated.{stated, stated_by};
+ghost use Rattle.function_prints.specs.Stated.{stated, stated_by, States, AreStating};
 
 use arm_value::{JsonFault, OutOfMemory, Value};
-use function_numbers::kinds::text_of;
 use std::alloc::{AllocError, Global};
 
 // The value that the bytes of a JSON text give.
@@ -25,18 +24,22 @@ fn stated(alloc: Global, bytes: &[u8]) -> Result<Option<Value>, OutOfMemory>
 }
 
 fn stated_by(alloc: Global, value: &Value) -> Result<Option<Value>, OutOfMemory>
-    ensures { IfOk result (λ found. option_map json found ≡ stated_by (json value.now)) }
+    ensures value { IfOk result (λ found. option_map json found ≡ stated_by (json value.now)) }
+    ensures states { IfOk result (λ found. IfSome found (λ v. States (json value.now) (json v))) }
 {
-    match text_of(value) {
-        Some(text) => stated(alloc, text.as_str().as_bytes()),
-        None => Ok(None),
+    match value {
+        Value::Text(text) => stated(alloc, text.as_str().as_bytes()),
+        _ => Ok(None),
     }
 }
 
 /// `json`: the value that the text states as JSON (RFC 8259), with whole numbers of 64 bits and
 /// nested at most 120 deep; of equal member names the last counts. None of any other text.
 pub fn read_json(alloc: Global, args: &[Value]) -> Result<Option<Value>, OutOfMemory>
-    ensures { IfOk result (λ value. option_map json value ≡ row.read_json (map json args.now)) }
+    ensures value { IfOk result (λ value. option_map json value ≡ row.read_json (map json args.now)) }
+
+    // What is given is the value that the text states.
+    ensures states { IfOk result (λ value. IfSome value (λ v. AreStating (map json args.now) (json v))) }
 {
     match args {
         [value] => stated_by(alloc, value),

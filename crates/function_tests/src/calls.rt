@@ -1,7 +1,7 @@
 // How functions are found by their names, and how many arguments they take.
 
 use crate::table::{check, compare};
-use arm_functions::{Arity, arity};
+use arm_functions::{Arity, Row, arity};
 use std::alloc::{AllocError, Global};
 use std::test::Fail;
 
@@ -88,4 +88,47 @@ fn each_name_has_its_counts_of_arguments(rt: HostRuntime) -> Result<(), Fail> {
         check_counts(rt.alloc(), line)?;
     }
     Ok(())
+}
+
+// What the row of a name says.
+fn row_shown(alloc: Global, name: &str) -> Result<String, AllocError> {
+    match Row::of(name) {
+        Some(row) if row.is_plain() => format!(in alloc; "{}, plain", row.name),
+        Some(row) => format!(in alloc; "{}, evaluated", row.name),
+        None => String::from_str(alloc, "none"),
+    }
+}
+
+const ROWS: &str = r#"add -> add, plain
+SUBSTRING -> substring, plain
+base64tostring -> base64ToString, plain
+If -> if, evaluated
+RESOURCEID -> resourceId, evaluated
+nope -> none
+ -> none"#;
+
+fn check_row(alloc: Global, line: &str) -> Result<(), Fail> {
+    let (name, wanted) = line.split_once(" -> ").unwrap_or((line, ""));
+    let found = row_shown(alloc, name)?;
+    compare(line, found.as_str(), wanted)
+}
+
+#[test]
+fn each_name_has_its_row(rt: HostRuntime) -> Result<(), Fail> {
+    for line in ROWS.lines() {
+        check_row(rt.alloc(), line)?;
+    }
+    Ok(())
+}
+
+#[test]
+fn a_row_admits_its_counts(_rt: HostRuntime) -> Result<(), Fail> {
+    let arity = Arity {
+        least: 2,
+        most: Some(3),
+    };
+    if !arity.admits(1) && arity.admits(2) && arity.admits(3) && !arity.admits(4) {
+        return Ok(());
+    }
+    Err(Fail::new(format_args!("two or three arguments")))
 }

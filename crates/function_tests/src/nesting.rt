@@ -20,7 +20,9 @@ fn nested(alloc: Global, depth: usize) -> Result<String, AllocError> {
 fn deepest_calls(alloc: Global) -> Result<String, AllocError> {
     let deepest = nested(alloc, 120)?;
     format!(in alloc;
-        "createArray {deepest} -> {deepest}\ncreateArray {deepest} | array -> {deepest}\njson [\"{deepest}\"] -> {deepest}"
+        "createArray {deepest} -> {deepest}\n\
+         createArray {deepest} | array -> {deepest}\n\
+         json [\"{deepest}\"] -> {deepest}"
     )
 }
 

@@ -37,7 +37,7 @@ up_to-cons : (c : ℕ) (cs : List ℕ) → up_to_blanks (c ∷ cs) ≡ before_bl
 unfolding up_to_blanks
 up_to-cons c cs = refl
 
--- a blank behind others is left out
+-- a blank after others is left out
 blank_last : (cs : List ℕ) (c : ℕ) → is_blank c ≡ true → up_to_blanks (cs ++ c ∷ []) ≡ up_to_blanks cs
 unfolding up_to_blanks
 blank_last [] c b = rw b refl

@@ -4,7 +4,8 @@ ghost use Rattle.arm_value.specs.Json.{text};
 ghost use Rattle.arm_value.specs.View.{json};
 ghost use Rattle.function_texts.specs.Search.{AreBorders};
 ghost use Rattle.function_texts.specs.Cuts as row;
-ghost use Rattle.function_texts.specs.Cuts.{count_of, rest_from, part, cut, cut_part, replaced, replaced_in, replaced_text};
+ghost use Rattle.function_texts.specs.Cuts.{count_of, rest_from, part, cut, cut_part, replaced, replaced_in};
+ghost use Rattle.function_texts.specs.Cuts.{replaced_text};
 
 use crate::search::{borders_of, first_with};
 use arm_value::{OutOfMemory, Text, Value};

@@ -3,7 +3,7 @@
 //! Each function takes the list of its arguments and gives its value; none where the arguments are
 //! of other kinds or another number, or where the function has no value of them. Texts are lists of
 //! characters (Unicode scalar values); the case that is folded is that of ASCII letters alone.
-//! What each gives stands in `specs/Letters.antt`, `specs/Places.antt` and `specs/Cuts.antt`.
+//! What each returns is in `specs/Letters.antt`, `specs/Places.antt` and `specs/Cuts.antt`.
 #![tactic(auto)]
 
 mod cuts;

@@ -1,5 +1,6 @@
 // The places of a text at which delimiters begin.
-ghost use Rattle.std.specs.Prelude.{◌≡◌, ◌<◌, ◌≤◌, ◌-◌, ◌+◌, ℕ, List, Option, Some, None, IfOk, OnOk, length, get_or, set, map, true, IsNone};
+ghost use Rattle.std.specs.Prelude.{◌≡◌, ◌<◌, ◌≤◌, ◌-◌, ◌+◌, ℕ, List, Option, Some, None, IfOk, OnOk, length, get_or};
+ghost use Rattle.std.specs.Prelude.{set, map, true, IsNone};
 ghost use Rattle.function_lists.specs.Items.{or_found};
 ghost use Rattle.function_texts.specs.Cuts.{none_empty};
 ghost use Rattle.function_texts.specs.Search.{AreBorders, AreMarks, AreMarked, IsNextMark};

@@ -3,7 +3,8 @@ ghost use Rattle.std.specs.Prelude.{◌≡◌, ◌∷◌, [], map, option_map, I
 ghost use Rattle.arm_value.specs.Look.{fold};
 ghost use Rattle.arm_value.specs.View.{json};
 ghost use Rattle.function_texts.specs.Places as row;
-ghost use Rattle.function_texts.specs.Places.{begins, ends, first_from, last_from, place, starts_text, ends_text, index_in, last_index_in, has_part};
+ghost use Rattle.function_texts.specs.Places.{begins, ends, first_from, last_from, place, starts_text, ends_text};
+ghost use Rattle.function_texts.specs.Places.{index_in, last_index_in, has_part};
 
 use crate::letters::{Case, all_cased};
 use crate::search::{first_part, last_part};
@@ -188,7 +189,7 @@ fn text_has(alloc: Global, text: &Text, part: &Text) -> Result<bool, OutOfMemory
     Ok(first_part(alloc, part.as_slice(), characters.as_slice())?.is_some())
 }
 
-#[tactic(auto, using(function_numbers::proofs::RowLemmas::items_of_row, function_numbers::proofs::RowLemmas::members_of_pairs))]
+#[tactic(auto, using(function_numbers::proofs::RowLemmas::rows_and_pairs))]
 fn has_part(alloc: Global, value: &Value, part: &Value) -> Result<Option<Value>, OutOfMemory>
     ensures { IfOk result (λ has. option_map json has ≡ has_part (json value.now) (json part.now)) }
 {

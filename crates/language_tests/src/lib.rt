@@ -1,11 +1,13 @@
 //! Tests of template expressions: their spelling, what they look at, and their values.
 //!
 //! Most are tables of texts: a line has an expression, and after an arrow the wanted answer. They
-//! cover `arm_expr`, `arm_env` and `arm_eval` with what stands between, which have no tests of their
+//! cover `arm_expr`, `arm_env`, `arm_eval` and the crates between these, which have no tests of their
 //! own, so that each is proved once. There is nothing here but tests, so there is no edit that must
 //! be refused.
 #![tactic(auto)]
 
+#[cfg(test)]
+mod brackets;
 #[cfg(test)]
 mod environment;
 #[cfg(test)]

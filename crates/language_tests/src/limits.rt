@@ -74,7 +74,7 @@ fn a_text_that_is_written_has_at_most_24_576_characters(rt: HostRuntime) -> Resu
     check_print(rt.alloc(), &string, "longer than 24576 characters")
 }
 
-// `open` and `close` as often, and what stands between them, in brackets.
+// `open` and `close` as often, and what is between them, in brackets.
 fn nested(
     alloc: Global,
     open: &str,

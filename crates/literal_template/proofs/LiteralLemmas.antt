@@ -6,10 +6,12 @@ use Rattle.std.specs.List.Sorted.{IsStrictlySortedBy}
 use Rattle.arm_value.specs.Json.{Json, null, bool, int, text, array, object, Row, no_items, item, Pairs, no_pairs}
 use Rattle.arm_value.specs.Json.{pair, Member, row, pairs, keys, nesting, row_nesting, pairs_nesting, key_cmp}
 use Rattle.arm_value.specs.Json.{IsInOrder}
-use Rattle.literal_template.specs.Brackets.{escaped, stated_text}
+use Rattle.arm_expr.specs.Brackets.{escaped}
+use Rattle.literal_template.specs.Brackets.{stated_text}
 use Rattle.literal_template.specs.Literals.{is_special, written, row_written, pairs_written, item_before, pair_before}
 use Rattle.literal_template.specs.Literals.{stated, row_stated, pairs_stated, is_plain, row_is_plain, pairs_are_plain}
 use Rattle.literal_template.proofs.BracketLemmas.{stated-escaped}
+use Rattle.arm_value.proofs.GatherLemmas.{front_in_order}
 
 -- ---- nesting
 
@@ -211,16 +213,6 @@ with_value ms k i j ns h = subst (IsStrictlySortedBy key_cmp) (same ms) h
     same : (ms : List Member) → keys (ms ++ (k, i) ∷ ns) ≡ keys ((ms ++ (k, j) ∷ []) ++ ns)
     same [] = refl
     same (x ∷ ms) = ap (λ r. x.0 ∷ r) (same ms)
-
-all_front : (P : List ℕ → Type 0) (ms ns : List Member) → AllByRecursion P (keys (ms ++ ns))
-    → AllByRecursion P (keys ms)
-all_front P [] ns h = tt
-all_front P (m ∷ ms) ns h = (h.0, all_front P ms ns h.1)
-
-pub front_in_order : (ms ns : List Member) → IsInOrder (ms ++ ns) → IsInOrder ms
-unfolding IsStrictlySortedBy
-front_in_order [] ns h = tt
-front_in_order (m ∷ ms) ns h = (all_front _ ms ns h.0, front_in_order ms ns h.1)
 
 -- the next member, with its value made anew
 pub next_last : (ms : List Member) (k : List ℕ) (i j : Json) (ns : List Member) → IsInOrder (ms ++ (k, i) ∷ ns)

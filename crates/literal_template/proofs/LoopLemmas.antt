@@ -70,7 +70,7 @@ stated_items found vs js i e h a =
 
 -- ---- members
 
--- the next member with another value, behind what was found
+-- the next member with another value, after what was found
 pub member_last : (found : List Member) (fs : List Field) (i : ℕ) (f : Field) (name : List ℕ) (k : Json)
     → IsInOrder (found ++ map member (drop i fs)) → i < length fs → f ≡ get_or fs i f → name ≡ f.name
     → IsInOrder (found ++ (name, k) ∷ [])

@@ -19,7 +19,7 @@ use Rattle.literal_template.specs.Template.{resource_of, resource_before, resour
 use Rattle.literal_template.specs.Template.{has_three, template_with}
 use Rattle.literal_template.specs.declared.resource.Resource.{Resource}
 use Rattle.literal_template.proofs.LiteralLemmas.{with_pairs, with_pairs-push, without_one, then_pairs-none}
-use Rattle.literal_template.proofs.WriteLemmas.{members-pairs}
+use Rattle.arm_value.proofs.TreeLemmas.{members-pairs}
 
 -- ---- the body
 

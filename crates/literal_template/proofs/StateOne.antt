@@ -18,7 +18,7 @@ use Rattle.literal_template.specs.declared.resource.Resource.{Resource}
 use Rattle.literal_template.specs.declared.reader.TemplateFault.{TemplateFault}
 use Rattle.literal_template.specs.declared.reader.TemplateFault.TheVariants as fault
 
--- ---- a tree is told by its data
+-- ---- a tree is determined by its data
 
 abbrev integer_in : d.Num → ℤ
 integer_in (d.unsigned n) = pos n
@@ -95,30 +95,30 @@ has_member d.no_members = false
 has_member (d.member k x ms) = true
 
 mutual
-  pub data_tells : (v w : Json) → data_of v ≡ data_of w → v ≡ w
-  data_tells null null e = refl
-  data_tells (bool a) (bool b) e = ap bool (ap bool_in e)
-  data_tells (int a) (int b) e = ap int (sym (integer_back a) ∙ ap number_in e ∙ integer_back b)
-  data_tells (text a) (text b) e = ap text (encodes_same a b (ap text_in e))
-  data_tells (array a) (array b) e = ap array (row_tells a b (ap items_in e))
-  data_tells (object a) (object b) e = ap object (pairs_tell a b (ap members_in e))
-  data_tells v w e = absurd (true≢false (sym (kind_itself (data_of v)) ∙ ap (same_kind (data_of v)) e))
+  pub same_by_data : (v w : Json) → data_of v ≡ data_of w → v ≡ w
+  same_by_data null null e = refl
+  same_by_data (bool a) (bool b) e = ap bool (ap bool_in e)
+  same_by_data (int a) (int b) e = ap int (sym (integer_back a) ∙ ap number_in e ∙ integer_back b)
+  same_by_data (text a) (text b) e = ap text (encodes_same a b (ap text_in e))
+  same_by_data (array a) (array b) e = ap array (row_by_data a b (ap items_in e))
+  same_by_data (object a) (object b) e = ap object (pairs_by_data a b (ap members_in e))
+  same_by_data v w e = absurd (true≢false (sym (kind_itself (data_of v)) ∙ ap (same_kind (data_of v)) e))
 
-  row_tells : (js ks : Row) → row_data js ≡ row_data ks → js ≡ ks
-  row_tells no_items no_items e = refl
-  row_tells no_items (item k ks) e = absurd (true≢false (sym (ap has_item e)))
-  row_tells (item j js) no_items e = absurd (true≢false (ap has_item e))
-  row_tells (item j js) (item k ks) e =
-      ap₂ item (data_tells j k (ap (item_in d.null) e)) (row_tells js ks (ap later_items e))
+  row_by_data : (js ks : Row) → row_data js ≡ row_data ks → js ≡ ks
+  row_by_data no_items no_items e = refl
+  row_by_data no_items (item k ks) e = absurd (true≢false (sym (ap has_item e)))
+  row_by_data (item j js) no_items e = absurd (true≢false (ap has_item e))
+  row_by_data (item j js) (item k ks) e =
+      ap₂ item (same_by_data j k (ap (item_in d.null) e)) (row_by_data js ks (ap later_items e))
 
-  pairs_tell : (ms ns : Pairs) → pairs_data ms ≡ pairs_data ns → ms ≡ ns
-  pairs_tell no_pairs no_pairs e = refl
-  pairs_tell no_pairs (pair l k ns) e = absurd (true≢false (sym (ap has_member e)))
-  pairs_tell (pair k j ms) no_pairs e = absurd (true≢false (ap has_member e))
-  pairs_tell (pair k j ms) (pair l i ns) e =
+  pairs_by_data : (ms ns : Pairs) → pairs_data ms ≡ pairs_data ns → ms ≡ ns
+  pairs_by_data no_pairs no_pairs e = refl
+  pairs_by_data no_pairs (pair l k ns) e = absurd (true≢false (sym (ap has_member e)))
+  pairs_by_data (pair k j ms) no_pairs e = absurd (true≢false (ap has_member e))
+  pairs_by_data (pair k j ms) (pair l i ns) e =
       let key = encodes_same k l (ap key_in e) in
-      let value = data_tells j i (ap (value_in d.null) e) in
-      let rest = pairs_tell ms ns (ap later_members e) in
+      let value = same_by_data j i (ap (value_in d.null) e) in
+      let rest = pairs_by_data ms ns (ap later_members e) in
       λ i. pair (key i) (value i) (rest i)
 
 -- ---- bytes
@@ -128,7 +128,7 @@ some_in x None = x
 some_in x (Some y) = y
 
 pub one_value : (o : Option Data) (v w : Json) → Gives o v → Gives o w → v ≡ w
-one_value o v w g h = data_tells v w (ap (some_in d.null) (sym g.0 ∙ h.0))
+one_value o v w g h = same_by_data v w (ap (some_in d.null) (sym g.0 ∙ h.0))
 
 abbrev list_in : Option (List Resource) → List Resource
 list_in None = []
@@ -148,7 +148,7 @@ some_is : (o : Option Data) (x : Data) (P : Data → Type 0) → o ≡ Some x �
 some_is None x P e h = absurd (cc)
 some_is (Some y) x P e h = subst P (ap (some_in d.null) e) h
 
--- bytes that have a fault other than want of memory state no resources
+-- bytes that have a fault other than `OutOfMemory` state no resources
 pub no_value : (bytes : List ℕ) (f : JsonFault) (rs : List Resource) → Explains (reading bytes) f
     → (f ≡ OutOfMemory → ⊥) → StatedBy bytes rs → ⊥
 no_value bytes NotJson rs h n s = let e = sym h ∙ s.1.0 in cc

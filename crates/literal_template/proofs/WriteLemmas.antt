@@ -1,40 +1,20 @@
 -- The values that are written for resources.
-use Rattle.std.proofs.Common.{◌≡◌, ◌≤◌, ◌<◌, ◌+◌, ℕ, length, get_or, drop, List, [], ◌∷◌, ◌++◌, map, codes, Ordering}
-use Rattle.std.proofs.Common.{Less, Equal, Greater, refl, sym, ap, ◌∙◌, arith, subst, append-nil, append_assoc}
-use Rattle.std.specs.Ordering.{match_ordering}
+use Rattle.std.proofs.Common.{◌≡◌, ◌≤◌, ◌<◌, ◌+◌, ℕ, length, get_or, drop, List, [], ◌∷◌, ◌++◌, map, codes}
+use Rattle.std.proofs.Common.{sym, ap, ◌∙◌, arith, subst, append-nil, append_assoc}
 use Rattle.std.specs.List.{AllByRecursion}
 use Rattle.std.proofs.lemmas.List.{drop_all}
-use Rattle.arm_value.specs.Json.{Json, text, array, object, Pairs, no_pairs, pair, Member, row, pairs, members}
-use Rattle.arm_value.specs.Json.{nesting, items_nesting, members_nesting, pairs_nesting, key_cmp, put}
+use Rattle.arm_value.specs.Json.{Json, text, array, object, Member, row, pairs, members}
+use Rattle.arm_value.specs.Json.{nesting, items_nesting, members_nesting, pairs_nesting, put}
 use Rattle.arm_value.proofs.SetLemmas.{drop_from}
-use Rattle.literal_template.specs.Brackets.{escaped}
+use Rattle.arm_expr.specs.Brackets.{escaped}
 use Rattle.literal_template.specs.Literals.{pairs_written}
 use Rattle.literal_template.specs.Resources.{IsLiteral}
 use Rattle.literal_template.specs.Template.{schema, resource_value, template_value}
 use Rattle.literal_template.specs.declared.resource.Resource.{Resource}
 use Rattle.literal_template.proofs.LiteralLemmas.{nesting-pairs_written}
-
-pub members-pairs : (ms : List Member) → members (pairs ms) ≡ ms
-members-pairs [] = refl
-members-pairs (m ∷ ms) = ap (λ r. m ∷ r) (members-pairs ms)
-
-pub pairs-members : (ms : Pairs) → pairs (members ms) ≡ ms
-pairs-members no_pairs = refl
-pairs-members (pair k j ms) = ap (pair k j) (pairs-members ms)
+use Rattle.arm_value.proofs.TreeLemmas.{pairs-members, members-pairs, put_nests}
 
 -- ---- nesting
-
-put_nests_by : (o : Ordering) (n : ℕ) (k : List ℕ) (j : Json) (m : Member) (ms : List Member) → nesting j ≤ n
-    → members_nesting (m ∷ ms) ≤ n → members_nesting (put k j ms) ≤ n
-    → members_nesting (match_ordering o ((k, j) ∷ m ∷ ms) ((k, j) ∷ ms) (m ∷ put k j ms)) ≤ n
-put_nests_by Less n k j m ms p h r = omega arith
-put_nests_by Equal n k j m ms p h r = omega arith
-put_nests_by Greater n k j m ms p h r = omega arith
-
-put_nests : (n : ℕ) (k : List ℕ) (j : Json) (ms : List Member) → nesting j ≤ n → members_nesting ms ≤ n
-    → members_nesting (put k j ms) ≤ n
-put_nests n k j [] p h = omega arith
-put_nests n k j (m ∷ ms) p h = put_nests_by (key_cmp k m.0) n k j m ms p h (put_nests n k j ms p (omega arith))
 
 -- what is written for a resource nests one deeper than its members
 pub resource_nests : (r : Resource) → IsLiteral r → nesting (resource_value r) ≤ 91

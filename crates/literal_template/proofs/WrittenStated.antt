@@ -12,7 +12,7 @@ use Rattle.arm_value.specs.Look.{first_by, is_same_folded, or_else, look_in}
 use Rattle.arm_value.specs.Reading.{data_of, reading}
 use Rattle.arm_value.proofs.SetLemmas.{equal_keys}
 use Rattle.arm_value.proofs.DataLemmas.{depth-data_of}
-use Rattle.literal_template.specs.Brackets.{escaped}
+use Rattle.arm_expr.specs.Brackets.{escaped}
 use Rattle.literal_template.specs.Literals.{pairs_written, pairs_stated}
 use Rattle.literal_template.specs.Resources.{is_head, is_directive, IsLiteral}
 use Rattle.literal_template.specs.Template.{schema, resource_value, template_value, text_of, count, body_members}
@@ -22,7 +22,8 @@ use Rattle.literal_template.specs.Whole.{IsWhole}
 use Rattle.literal_template.specs.declared.resource.Resource.{Resource}
 use Rattle.literal_template.proofs.BracketLemmas.{stated-escaped}
 use Rattle.literal_template.proofs.LiteralLemmas.{stated-pairs_written}
-use Rattle.literal_template.proofs.WriteLemmas.{pairs-members, resources_nest}
+use Rattle.literal_template.proofs.WriteLemmas.{resources_nest}
+use Rattle.arm_value.proofs.TreeLemmas.{pairs-members}
 use Rattle.literal_template.proofs.WholeLemmas.{not_whole-data_of}
 use Rattle.literal_template.proofs.ReadLemmas.{three_heads, parts_made, accepted}
 
@@ -131,7 +132,7 @@ body_put_by Equal k j m ms c e h =
     rw (e, other) refl
 body_put_by Greater k j m ms c e h = ap (λ r. if is_head m.0 then r else pair m.0 m.1 r) h
 
--- a head leaves the body as it was
+-- a head leaves the body unchanged
 body_put : (k : List ℕ) (j : Json) (ms : List Member) → is_head k ≡ true
     → body_members (pairs (put k j ms)) ≡ body_members (pairs ms)
 body_put k j [] e = rw e refl

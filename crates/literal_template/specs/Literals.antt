@@ -2,7 +2,8 @@
 use Rattle.std.specs.Prelude.{ℕ, ◌||◌, Bool, true, false, List, bytes_eq, Option, Some, None, option_map, codes}
 use Rattle.std.specs.Prelude.{if◌then◌else◌}
 use Rattle.arm_value.specs.Json.{Json, null, bool, int, text, array, object, Row, no_items, item, Pairs, no_pairs, pair}
-use Rattle.literal_template.specs.Brackets.{is_bracketed, escaped, stated_text}
+use Rattle.arm_expr.specs.Brackets.{is_bracketed, escaped}
+use Rattle.literal_template.specs.Brackets.{stated_text}
 
 -- whether a member of this name is no plain member of a value: one named `copy` makes a loop, and one in brackets
 -- would be an expression
@@ -37,7 +38,7 @@ abbrev pub pair_before : List ℕ → Option Json → Option Pairs → Option Pa
 pair_before k (Some j) (Some ms) = Some (pair k j ms)
 pair_before k _ _ = None
 
--- the value that a value of a template states, and none where an expression or a loop stands in it
+-- the value that a value of a template states; none where it has an expression or a loop in it
 abbrev mutual
   pub stated : Json → Option Json
   stated null = Some null

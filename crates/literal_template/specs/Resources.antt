@@ -8,7 +8,7 @@ use Rattle.literal_template.specs.declared.resource.Resource.{Resource}
 
 -- whether the name is one of these, in letters of any case
 abbrev pub is_among : List (List ℕ) → List ℕ → Bool
-is_among names name = list_any (λ other. is_same_folded name other) names
+is_among names name = list_any (λ other. is_same_folded other name) names
 
 -- the members of a resource that are no part of its body
 abbrev pub heads : List (List ℕ)
@@ -30,7 +30,7 @@ is_directive name = is_among directives name
 
 -- whether the type is that of nested deployments, which are no resources
 unfoldable pub is_deployment : List ℕ → Bool
-is_deployment kind = is_same_folded kind (codes "Microsoft.Resources/deployments")
+is_deployment kind = is_same_folded (codes "Microsoft.Resources/deployments") kind
 
 -- what holds of a resource that a literal template can state
 pub record IsLiteral (r : Resource) : Type 0 where

@@ -8,7 +8,8 @@ use Rattle.arm_value.specs.Json.{pair_keys, members, put}
 use Rattle.arm_value.specs.Look.{fold, look_in}
 use Rattle.arm_value.specs.Reading.{data_of, reading}
 use Rattle.arm_value.specs.Fault.{Gives}
-use Rattle.literal_template.specs.Brackets.{escaped, stated_text}
+use Rattle.arm_expr.specs.Brackets.{escaped}
+use Rattle.literal_template.specs.Brackets.{stated_text}
 use Rattle.literal_template.specs.Literals.{pairs_written, pairs_stated}
 use Rattle.literal_template.specs.Resources.{is_head, is_directive, is_deployment, IsLiteral}
 use Rattle.literal_template.specs.declared.resource.Resource.{Resource}

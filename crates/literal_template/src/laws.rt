@@ -1,4 +1,5 @@
-// What holds of literal templates. A law has no body: its contract is the law.
+// Laws of literal templates. A law has no body: its contract is the law.
+
 ghost use Rattle.literal_template.specs.Template.{WrittenIsStated, StateOneList};
 
 /// A written template states the resources that it was written for.

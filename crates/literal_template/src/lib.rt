@@ -1,9 +1,9 @@
 //! Templates whose resources are literals: how they are written, and what they state.
 //!
-//! A caller may rely on it that what is written for resources states these and no others, and that
-//! what bytes state is read from them. How a text is written that would be taken for an expression
-//! is in `specs/Brackets.antt`, which resources can be written in `specs/Resources.antt`, and what
-//! a template states in `specs/Template.antt`. What holds of all templates is in `laws`.
+//! A caller may rely on it that the template of resources states these and no others, and that the
+//! resources that bytes state are read from them. `arm_expr` says how a text is written that would
+//! be an expression, `specs/Resources.antt` which resources can be written, and
+//! `specs/Template.antt` what a template states. `laws` has what holds of all templates.
 #![tactic(auto)]
 
 mod brackets;

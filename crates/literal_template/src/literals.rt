@@ -1,12 +1,15 @@
 // How values are written in a template, and which values it states.
+
 ghost use Rattle.std.specs.Prelude.{◌≡◌, IfOk, chars, codes, bytes_eq, option_map};
 ghost use Rattle.arm_value.specs.View.{json};
 ghost use Rattle.arm_value.specs.Json.{text, array, object, row, pairs};
 ghost use Rattle.literal_template.specs.Whole.{IsWhole, RowIsWhole, PairsAreWhole};
-ghost use Rattle.literal_template.specs.Literals.{is_special, written, row_written, pairs_written, stated, row_stated, pairs_stated};
+ghost use Rattle.literal_template.specs.Literals.{is_special, written, row_written, pairs_written};
+ghost use Rattle.literal_template.specs.Literals.{stated, row_stated, pairs_stated};
 
-use crate::brackets::{escaped, is_bracketed, stated_text};
+use crate::brackets::stated_text;
 use crate::parts::{nothing, run_out, with_item, with_member};
+use arm_expr::{escaped, is_bracketed};
 use arm_value::{Fields, Items, OutOfMemory, Text, Value};
 use std::alloc::Global;
 
@@ -41,6 +44,7 @@ pub fn written(alloc: Global, value: &Value) -> Result<Value, OutOfMemory>
     }
 }
 
+// The items with their texts as a template writes them.
 #[cycle(written)]
 fn items_written(alloc: Global, items: &Items) -> Result<Items, OutOfMemory>
     ensures items { IfOk result (λ js. row js ≡ row_written (row items.now)) }
@@ -72,7 +76,7 @@ pub fn fields_written(alloc: Global, fields: &Fields) -> Result<Fields, OutOfMem
     Ok(found)
 }
 
-// The text, where there is one, as a value.
+// The text as a value, where there is one.
 fn text_value(found: Option<Text>) -> Option<Value>
     ensures { option_map json result ≡ option_map (λ t. text t) found }
 {
@@ -82,7 +86,7 @@ fn text_value(found: Option<Text>) -> Option<Value>
     }
 }
 
-// The items, where there are some, as an array.
+// The array of the items, where there are any.
 fn array_value(found: Option<Items>) -> Option<Value>
     ensures { option_map json result ≡ option_map (λ r. array r) (option_map row found) }
 {
@@ -92,7 +96,7 @@ fn array_value(found: Option<Items>) -> Option<Value>
     }
 }
 
-// The members, where there are some, as an object.
+// The object of the members, where there are any.
 fn object_value(found: Option<Fields>) -> Option<Value>
     ensures { option_map json result ≡ option_map (λ ps. object ps) (option_map pairs found) }
 {
@@ -102,7 +106,7 @@ fn object_value(found: Option<Fields>) -> Option<Value>
     }
 }
 
-/// The value that a value of a template states, and none where an expression or a loop stands in it.
+/// The value that a value of a template states; none where it has an expression or a loop in it.
 #[cycle(stated)]
 pub fn stated(alloc: Global, value: &Value) -> Result<Option<Value>, OutOfMemory>
     ensures { IfOk result (λ o. option_map json o ≡ stated (json value.now)) }
@@ -117,6 +121,7 @@ pub fn stated(alloc: Global, value: &Value) -> Result<Option<Value>, OutOfMemory
     }
 }
 
+// The items that the items of a template state.
 #[cycle(stated)]
 fn items_stated(alloc: Global, items: &Items) -> Result<Option<Items>, OutOfMemory>
     ensures { IfOk result (λ o. option_map row o ≡ row_stated (row items.now)) }
@@ -132,6 +137,7 @@ fn items_stated(alloc: Global, items: &Items) -> Result<Option<Items>, OutOfMemo
     Ok(Some(found))
 }
 
+// The members that the members of a template state.
 #[cycle(stated)]
 fn fields_stated(alloc: Global, fields: &Fields) -> Result<Option<Fields>, OutOfMemory>
     ensures { IfOk result (λ o. option_map pairs o ≡ pairs_stated (pairs fields.now)) }

@@ -1,4 +1,5 @@
-// Parts of values, put together one after another.
+// Values put together from their parts.
+
 ghost use Rattle.std.specs.Prelude.{◌≡◌, ◌≤◌, ◌++◌, ◌∷◌, [], Ok, None, IfOk, chars};
 ghost use Rattle.arm_value.specs.View.{json};
 ghost use Rattle.arm_value.specs.Json.{nesting, put, text as json_text, IsInOrder};

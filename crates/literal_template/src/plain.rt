@@ -1,4 +1,5 @@
 // Which resources a literal template can state.
+
 ghost use Rattle.std.specs.Prelude.{◌≡◌, ◌↔◌, IsTrue};
 ghost use Rattle.std.specs.List.{AllByRecursion};
 ghost use Rattle.arm_value.specs.View.{json};
@@ -10,6 +11,7 @@ use crate::literals::is_special;
 use crate::resource::Resource;
 use crate::resources::{has_directive, has_head, is_deployment};
 use arm_value::{Fields, Items, Value};
+use foundation::limits::MAX_LITERAL_NESTING;
 
 // Whether no member of the value, at any depth, is special.
 #[cycle(plain)]
@@ -26,6 +28,7 @@ fn is_plain(value: &Value) -> bool
     }
 }
 
+// Whether all of the items are plain.
 #[cycle(plain)]
 fn items_are_plain(items: &Items) -> bool
     ensures { result ≡ row_is_plain (row items.now) }
@@ -38,6 +41,7 @@ fn items_are_plain(items: &Items) -> bool
     true
 }
 
+// Whether the members are plain, and so are their values.
 #[cycle(plain)]
 fn fields_are_plain(fields: &Fields) -> bool
     ensures { result ≡ pairs_are_plain (pairs fields.now) }
@@ -69,7 +73,7 @@ fn is_literal(resource: &Resource) -> bool
     if !fields_are_plain(&resource.body) {
         return false;
     }
-    resource.body.depth() <= 90
+    resource.body.depth() <= MAX_LITERAL_NESTING
 }
 
 /// Whether a literal template can state these resources.

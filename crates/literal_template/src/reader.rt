@@ -1,5 +1,7 @@
 // The resources that a template states.
-ghost use Rattle.std.specs.Prelude.{◌≡◌, ◌≢◌, ◌++◌, ◌∷◌, [], false, List, Some, None, chars, codes, option_map, is_some, IfOk, IfErr};
+
+ghost use Rattle.std.specs.Prelude.{◌≡◌, ◌≢◌, ◌++◌, ◌∷◌, [], false, List, Some, None, chars, codes};
+ghost use Rattle.std.specs.Prelude.{option_map, is_some, IfOk, IfErr};
 ghost use Rattle.std.specs.List.{AllByRecursion};
 ghost use Rattle.arm_value.specs.View.{json};
 ghost use Rattle.arm_value.specs.Json.{row, pairs};
@@ -7,7 +9,9 @@ ghost use Rattle.arm_value.specs.Look.{look_in};
 ghost use Rattle.literal_template.specs.Brackets.{stated_text};
 ghost use Rattle.literal_template.specs.Literals.{pairs_stated};
 ghost use Rattle.literal_template.specs.Resources.{is_deployment};
-ghost use Rattle.literal_template.specs.Template.{text_of, body_members, with_parts, resource_with, resource_of, resources_of, resources_in, names_schema, has_three, template_with, template_of, StatedBy};
+ghost use Rattle.literal_template.specs.Template.{text_of, body_members, with_parts, resource_with, resource_of};
+ghost use Rattle.literal_template.specs.Template.{resources_of, resources_in, names_schema, has_three};
+ghost use Rattle.literal_template.specs.Template.{template_with, template_of, StatedBy};
 ghost use Rattle.literal_template.specs.declared.resource.Resource.{Resource};
 ghost use Rattle.literal_template.specs.declared.reader.TemplateFault.TheVariants.{NotLiteral, OutOfMemory};
 
@@ -27,7 +31,7 @@ pub enum TemplateFault {
     /// The bytes state no literal template.
     #[error("no literal template")]
     NotLiteral,
-    /// Want of memory.
+    /// Out of memory.
     #[error("out of memory")]
     OutOfMemory,
 }
@@ -308,13 +312,16 @@ fn stated_by(alloc: Global, value: &Value) -> Result<Vec<Resource>, TemplateFaul
 /// that begins with `[[` and ends with `]` is read without its first `[`; any other text in
 /// brackets is an expression. Names of members are found in letters of any case.
 ///
-/// `NotLiteral` is answered exactly to bytes that state no literal template.
+/// # Errors
+///
+/// `NotLiteral` for bytes that state no literal template, and for no others; `OutOfMemory`.
 pub fn read(alloc: Global, bytes: &[u8]) -> Result<Vec<Resource>, TemplateFault>
     ensures stated { IfOk result (λ rs. StatedBy bytes.now rs.items) }
     ensures refused { IfErr result (λ f. f ≡ NotLiteral → (rs : List Resource)
         → StatedBy bytes.now rs → ⊥) }
 
-    // What states resources, as what `write` gave does, is read as these, unless memory runs out.
+    // Bytes that state resources, as those that `write` returned do, are read as these resources or
+    // end in `OutOfMemory`.
     ensures written { (p : List Resource) → StatedBy bytes.now p → IfOk result (λ rs. rs.items ≡ p) }
     ensures unrefused { (p : List Resource) → StatedBy bytes.now p
         → IfErr result (λ f. f ≡ OutOfMemory) }

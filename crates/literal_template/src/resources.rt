@@ -1,12 +1,12 @@
 // Which members of a resource are no part of its body, and which types are no resources.
+
 ghost use Rattle.std.specs.Prelude.{◌≡◌, map, chars};
 ghost use Rattle.std.specs.List.{list_any};
 ghost use Rattle.arm_value.specs.Json.{pairs, pair_keys};
-ghost use Rattle.arm_value.specs.Look.{is_same_folded};
 ghost use Rattle.literal_template.specs.Resources.{is_among, is_head, is_directive, is_deployment};
 ghost use Rattle.literal_template.specs.Template.{count};
 
-use arm_value::{Fields, Text, folded_eq};
+use arm_value::{Fields, Text};
 
 // The members of a resource that are no part of its body.
 const HEADS: [&str; 3] = ["type", "apiVersion", "name"];
@@ -24,19 +24,12 @@ const DIRECTIVES: [&str; 9] = [
     "resourceGroup",
 ];
 
-// Whether the names are equal but for the case of ASCII letters.
-fn is_same(name: &str, other: &str) -> bool
-    ensures { result ≡ is_same_folded (chars name.now) (chars other.now) }
-{
-    folded_eq(name, other)
-}
-
-/// Whether the name is one of these, in letters of any case.
-pub fn is_among(names: &[&str], name: &str) -> bool
-    ensures { result ≡ is_among (map (λ n. chars n.now) names.now) (chars name.now) }
+// Whether the name is one of these, in letters of any case.
+fn is_among(names: &[&str], name: &Text) -> bool
+    ensures { result ≡ is_among (map (λ n. chars n.now) names.now) name.now }
 {
     for other in names {
-        if is_same(name, other) {
+        if name.equals_ignore_case(other) {
             return true;
         }
     }
@@ -47,21 +40,21 @@ pub fn is_among(names: &[&str], name: &str) -> bool
 pub fn is_head(name: &Text) -> bool
     ensures { result ≡ is_head name.now }
 {
-    is_among(&HEADS, name.as_str())
+    is_among(&HEADS, name)
 }
 
 /// Whether a resource of a literal template has no member of this name.
 pub fn is_directive(name: &Text) -> bool
     ensures { result ≡ is_directive name.now }
 {
-    is_among(&DIRECTIVES, name.as_str())
+    is_among(&DIRECTIVES, name)
 }
 
 /// Whether the type is that of nested deployments, which are no resources.
 pub fn is_deployment(kind: &Text) -> bool
     ensures { result ≡ is_deployment kind.now }
 {
-    is_same(kind.as_str(), "Microsoft.Resources/deployments")
+    kind.equals_ignore_case("Microsoft.Resources/deployments")
 }
 
 /// Whether one of the members is no part of a body.

@@ -1,4 +1,5 @@
 // The address of the schema of templates.
+
 ghost use Rattle.std.specs.Prelude.{◌≡◌, IfOk, map, string_bytes, encode_utf8_all, ◌||◌, codes, nat_eq};
 ghost use Rattle.std.specs.List.{ends_with};
 ghost use Rattle.arm_value.specs.Look.{fold};

@@ -1,18 +1,19 @@
 // The template of resources.
+
 ghost use Rattle.std.specs.Prelude.{◌≡◌, ◌∷◌, [], Some, chars, codes, map, IfOk};
 ghost use Rattle.std.specs.List.{AllByRecursion};
 ghost use Rattle.arm_value.specs.View.{json};
 ghost use Rattle.arm_value.specs.Json.{put, row, text as json_text};
 ghost use Rattle.arm_value.specs.Reading.{data_of, reading};
-ghost use Rattle.literal_template.specs.Brackets.{escaped};
+ghost use Rattle.arm_expr.specs.Brackets.{escaped};
 ghost use Rattle.literal_template.specs.Resources.{IsLiteral};
 ghost use Rattle.literal_template.specs.Template.{schema, resource_value, template_value, template_bytes, StatedBy};
 ghost use Rattle.literal_template.specs.Whole.{IsWhole, RowIsWhole};
 
-use crate::brackets::escaped;
 use crate::literals::fields_written;
 use crate::parts::{run_out, with_item, with_value, with_words};
 use crate::resource::Resource;
+use arm_expr::escaped;
 use arm_value::{Bytes, Fields, Items, OutOfMemory, Text, Value};
 use std::alloc::Global;
 
@@ -86,9 +87,9 @@ fn template_value(alloc: Global, resources: &[Resource]) -> Result<Value, OutOfM
 /// The template of these resources, as compact JSON with the members of each object in the byte
 /// order of their names.
 ///
-/// A text that begins with `[` and ends with `]` is written with one `[` more, but types and
-/// versions, which are written as they are. What is written states the resources. It takes time
-/// in proportion to what is written.
+/// A text that begins with `[` and ends with `]` is written with one `[` more, except types and
+/// versions, which are written unchanged. The template states the resources. The time is
+/// proportional to the number of bytes that are written.
 pub fn write(alloc: Global, resources: &[Resource]) -> Result<Bytes, OutOfMemory>
     requires { AllByRecursion IsLiteral resources.now }
     ensures text { IfOk result (λ b. b ≡ template_bytes resources.now) }

@@ -20,7 +20,7 @@ leaves_image (shortened k) now set before after s n cut = (before, s, cut)
 leaves_image (tore_off k) now set before after s n cut = (before, s, cut)
 leaves_image synced now set before after s n is = (subst set (sym is) n, is)
 
--- so far a read of the part gives now, and a crash may leave left of it
+-- so far a read of the part returns now, and a crash may leave left of it
 pub record Walked (part : Part) (first : List ℕ) (steps : List Step) (now left : List ℕ) : Type 0 where
   pub reads : now ≡ reads_after (moves_on part steps) first
   pub image : left_after first (moves_on part steps) left

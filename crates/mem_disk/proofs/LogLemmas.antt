@@ -10,7 +10,7 @@ pub total-push : (entries : List Entry) (entry : Entry)
 total-push [] entry = omega arith
 total-push (e ∷ entries) entry = omega (arith, total-push entries entry)
 
--- one change more, with its bytes behind those of the others
+-- one change more, with its bytes after those of the others
 pub steps-push : (entries : List Entry) (entry : Entry) (bytes more : List ℕ) → total entries ≡ length bytes
     → size_of entry.change ≡ length more
     → steps_of (bytes ++ more) (entries ++ entry ∷ []) ≡ steps_of bytes entries

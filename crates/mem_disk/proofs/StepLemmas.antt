@@ -41,7 +41,8 @@ goes_push first steps more step change is back same =
     subst (λ (l : List Step). GoesOn moment_of left_of change (first, steps) (first, l)) (sym is) (record {
       later = omega (arith, length-append steps (step ∷ []));
       past = λ t image le l. subst (λ (k : List Step). at_steps k image) (take-append-le t steps (step ∷ []) le) l;
-      keeps = λ t image le l. subst (λ (k : List Step). at_steps k image) (sym (take-append-le t steps (step ∷ []) le)) l;
+      keeps =
+          λ t image le l. subst (λ (k : List Step). at_steps k image) (sym (take-append-le t steps (step ∷ []) le)) l;
       during = λ t image from to l. ⊎_elim
           (λ (early : t ≤ length steps). let here : t ≡ length steps = omega arith in (
             image,
@@ -181,7 +182,7 @@ kept_synced first now steps more B is reads image l =
     (subst (λ (k : List Move). left_after first.b k image.b) (moves_on-push B steps (B, synced)) here.1)).1
     ∙ ap (λ (p : Parts). p.b) (sym reads)
 
--- what a read gives after one step more
+-- what a read returns after one step more
 pub parts-push : (first now : Parts) (steps more : List Step) (part : Part) (move : Move)
     → more ≡ steps ++ (part, move) ∷ [] → now ≡ parts_after steps first
     → with_part part (read_after move (on part now)) now ≡ parts_after more first

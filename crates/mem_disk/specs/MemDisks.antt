@@ -12,7 +12,7 @@ use Rattle.mem_disk.specs.Moves.{Step, left_at}
 abbrev pub steps_in : MemDisk → List Step
 steps_in disk = steps_of disk.log.bytes.items disk.log.entries.items
 
--- what a read gives
+-- what a read returns
 abbrev pub reads_in : MemDisk → Parts
 reads_in disk = contents_of disk.held
 

@@ -28,7 +28,7 @@ abbrev pub moves_on : Part → List Step → List Move
 moves_on part [] = []
 moves_on part (step ∷ steps) = if_same part step.0 step.1 (moves_on part steps)
 
--- what a read gives after a move; a call that failed changes no read
+-- what a read returns after a move; a call that failed changes no read
 abbrev pub read_after : Move → List ℕ → List ℕ
 read_after (wrote at bytes) file = overwritten at bytes file
 read_after (tore at bytes) file = file
@@ -36,7 +36,7 @@ read_after (shortened n) file = resized n file
 read_after (tore_off n) file = file
 read_after synced file = file
 
--- what a read gives after these moves
+-- what a read returns after these moves
 abbrev pub reads_after : List Move → List ℕ → List ℕ
 reads_after [] file = file
 reads_after (move ∷ moves) file = reads_after moves (read_after move file)
@@ -46,7 +46,7 @@ abbrev pub parts_after : List Step → Parts → Parts
 parts_after steps first =
     record { a = reads_after (moves_on A steps) first.a; b = reads_after (moves_on B steps) first.b }
 
--- what a crash may leave of a file after a move, where it might have left this before it and a read gave now
+-- what a crash may leave of a file after a move, where it might have left this before it and a read returned now
 abbrev pub Leaves : Move → List ℕ → List ℕ → List ℕ → Type 0
 Leaves (wrote at bytes) now before after = Torn at (length bytes) before after
 Leaves (tore at bytes) now before after = Torn at (length bytes) before after
@@ -54,7 +54,7 @@ Leaves (shortened n) now before after = Cut n before after
 Leaves (tore_off n) now before after = Cut n before after
 Leaves synced now before after = after ≡ now
 
--- a part of the disk at a move of some part: where it is the move's part, what a read gives takes the move and what a
+-- a part of the disk at a move of some part: where it is the move's part, what a read returns takes the move and what a
 -- crash leaves may take it, else both stay
 abbrev pub Walks : Part → Part → Move → List ℕ → List ℕ → List ℕ → List ℕ → Type 0
 Walks A A move now new_now left new_left = (new_now ≡ read_after move now) × Leaves move now left new_left
@@ -62,7 +62,7 @@ Walks A B move now new_now left new_left = (new_now ≡ now) × (new_left ≡ le
 Walks B A move now new_now left new_left = (new_now ≡ now) × (new_left ≡ left)
 Walks B B move now new_now left new_left = (new_now ≡ read_after move now) × Leaves move now left new_left
 
--- what a crash may leave after a move: now is what a read gives then, and set is what a crash might have left before
+-- what a crash may leave after a move: now is what a read returns then, and set is what a crash might have left before
 abbrev pub image_after : Move → List ℕ → (List ℕ → Type 0) → List ℕ → Type 0
 image_after (wrote at bytes) now set image = (before : List ℕ) × set before × Torn at (length bytes) before image
 image_after (tore at bytes) now set image = (before : List ℕ) × set before × Torn at (length bytes) before image
@@ -70,7 +70,7 @@ image_after (shortened n) now set image = (before : List ℕ) × set before × C
 image_after (tore_off n) now set image = (before : List ℕ) × set before × Cut n before image
 image_after synced now set image = set image × (image ≡ now)
 
--- what a crash may leave after these moves, where a read gave now and a crash might have left set before them
+-- what a crash may leave after these moves, where a read returned now and a crash might have left set before them
 abbrev pub images_after : List Move → List ℕ → (List ℕ → Type 0) → List ℕ → Type 0
 images_after [] now set image = set image
 images_after (move ∷ moves) now set image =

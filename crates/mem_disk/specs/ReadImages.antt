@@ -1,4 +1,4 @@
--- Why what a read gives is one of the images: the proof that each disk in memory owes.
+-- Why what a read returns is one of the images.
 use Rattle.std.proofs.Common.{◌≡◌, ◌<◌, ℕ, ◌+◌, ◌-◌, ◌≤◌, min, max, List, [], ◌∷◌, ◌++◌, length, take, drop}
 use Rattle.std.proofs.Common.{replicate, refl, sym, ◌∙◌, ap, subst, arith, ⊎_elim, length-append, length-drop}
 use Rattle.std.proofs.Common.{append_assoc}
@@ -102,7 +102,7 @@ cut_resized n old = record {
   no_shorter = omega (arith, length_resized n old);
 }
 
--- what a read gives is one of the images
+-- what a read returns is one of the images
 pub reads_image : (moves : List Move) (now : List ℕ) (set : List ℕ → Type 0) → set now
     → images_after moves now set (reads_after moves now)
 reads_image [] now set s = s
@@ -117,7 +117,7 @@ reads_image (tore_off n ∷ moves) now set s =
     reads_image moves now (image_after (tore_off n) now set) (now, s, cut_same n now)
 reads_image (synced ∷ moves) now set s = reads_image moves now (image_after synced now set) (s, refl)
 
--- what a read gives of a file is one of the images of that file
+-- what a read returns of a file is one of the images of that file
 pub reads_left : (first : List ℕ) (moves : List Move) (now : List ℕ) → now ≡ reads_after moves first
     → left_after first moves now
 reads_left first moves now is =

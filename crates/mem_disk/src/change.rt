@@ -1,8 +1,10 @@
+// Changes of a disk in memory, as its log keeps them.
 ghost use Rattle.std.specs.Prelude.{◌≡◌};
 
 use arm_edges::Part;
 
-/// What a call did that may change what a crash leaves. Of a write the number of its bytes is kept here, and the bytes apart.
+/// What a call did that may change what a crash leaves. Of a write this is the number of its bytes; the log keeps the
+/// bytes apart.
 #[derive(Clone, Copy, Debug, PartialEq, Eq)]
 pub enum Change {
     /// A write at that place.

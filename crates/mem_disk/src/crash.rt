@@ -15,9 +15,9 @@ use std::alloc::{AllocError, Global};
 pub(crate) enum Tear {
     Nothing,
     Whole,
-    // So many bytes at the front of a write.
+    // That many bytes at the front of a write.
     Front(usize),
-    // So many bytes at the front of a write, and behind them other bytes than the write's and the file's.
+    // That many bytes at the front of a write, and after them bytes that differ from the write's and the file's.
     Foreign(usize),
 }
 
@@ -77,7 +77,7 @@ pub(crate) fn image(
     Ok(left)
 }
 
-// Takes a change of that part, and no other, into what a read gives and into what a crash leaves.
+// Takes a change of that part, and no other, into what a read returns and into what a crash leaves.
 fn walk(
     alloc: Global,
     now: &mut Vec<u8>,
@@ -103,7 +103,7 @@ fn walk(
     }
 }
 
-// Takes a change into what a read gives and into what a crash leaves.
+// Takes a change into what a read returns and into what a crash leaves.
 pub(crate) fn leave(
     alloc: Global,
     now: &mut Vec<u8>,
@@ -172,7 +172,8 @@ fn leave_cut(file: &mut Vec<u8>, length: usize, tear: Tear) -> Result<(), AllocE
     }
 }
 
-// As many bytes as these: so many of them, and behind them other ones than they and the file have at that place.
+// As many bytes as these: the first `front` of them, then bytes that differ from them and from the file's bytes at that
+// place.
 fn foreign(
     alloc: Global,
     file: &[u8],
@@ -197,7 +198,7 @@ fn foreign(
     Ok(other)
 }
 
-// A byte that is none of the two.
+// A byte that differs from both.
 fn neither(one: u8, other: u8) -> u8
     ensures not_one { result ≢ one }
     ensures not_other { result ≢ other }

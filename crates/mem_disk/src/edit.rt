@@ -26,7 +26,7 @@ pub(crate) fn overwrite(file: &mut Vec<u8>, at: usize, bytes: &[u8]) -> Result<(
     file.extend_from_slice(bytes)
 }
 
-// Puts the bytes from that place on at the front of the buffer, at most so many, and says how many.
+// Puts the bytes from that place on at the front of the buffer, at most `limit` of them, and returns how many.
 pub(crate) fn read_in(file: &[u8], at: u64, limit: usize, buf: &mut [u8]) -> usize
     requires { 0 < limit }
     ensures bound { result ≤ length buf.old }

@@ -1,7 +1,8 @@
-//! Disks in memory, which are the disks of `arm_edges` that tell what they hold.
-//! `MemDisk` fails where it is told to and keeps each call that changes it, so that what a crash may leave is known (`specs/Moves`).
-//! `RamDisk` never fails, and tells what a read gives and nothing of crashes.
-//! Both take their room when they are made, and no call of theirs takes memory.
+//! Disks in memory, which are the disks of `arm_edges` that report what they hold.
+//! The calls of `MemDisk` fail where a list says so. It keeps each call that changes it, so that what a crash may leave
+//! is known (`specs/Moves`).
+//! `RamDisk` never fails; it reports what a read returns and nothing of crashes.
+//! Both take their room when they are made, and none of their calls takes memory.
 #![tactic(auto)]
 
 mod begun;

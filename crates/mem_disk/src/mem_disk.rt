@@ -1,7 +1,10 @@
-ghost use Rattle.std.specs.Prelude.{◌≡◌, nat_le, ◌<◌, ◌≤◌, ◌+◌, ◌-◌, ◌^◌, ◌++◌, ◌⊎◌, [], ◌∷◌, true, if◌then◌else◌, length, min, IsOk, IfOk, OnOk, OnErr};
+// A disk in memory that reports what a crash may leave.
+ghost use Rattle.std.specs.Prelude.{◌≡◌, nat_le, ◌<◌, ◌≤◌, ◌+◌, ◌-◌, ◌^◌, ◌++◌, ◌⊎◌, [], ◌∷◌, true, if◌then◌else◌};
+ghost use Rattle.std.specs.Prelude.{length, min, IsOk, IfOk, OnOk, OnErr};
 ghost use Rattle.std.specs.Vec.{vec_capacity};
 ghost use Rattle.arm_edges.specs.Calls.{limit_at, one_more};
-ghost use Rattle.arm_edges.specs.Disk.{on, other, overwritten, resized, At, Torn, Cut, Unchanged, GoesOn, ReadsAt, IsKept, AreWithin, largest_fits};
+ghost use Rattle.arm_edges.specs.Disk.{on, other, overwritten, resized, At, Torn, Cut, Unchanged, GoesOn, ReadsAt};
+ghost use Rattle.arm_edges.specs.Disk.{IsKept, AreWithin, largest_fits};
 ghost use Rattle.arm_edges.specs.Faults.{HasCause};
 ghost use Rattle.mem_disk.specs.Moves.{parts_after, IsOneMore};
 ghost use Rattle.mem_disk.specs.Log.{steps_of, move_of, size_of};
@@ -36,7 +39,8 @@ pub struct MemDisk {
 }
 
 impl MemDisk {
-    /// A disk that holds these contents, with that room, which it takes at once. Reads come by the cuts, and the calls of those numbers fail.
+    /// A disk that holds these contents, with that room, which it takes at once. Reads come by the cuts, and the calls
+    /// of those numbers fail.
     pub fn new(
         alloc: Global,
         contents: &Contents,
@@ -76,11 +80,18 @@ impl MemDisk {
 
     /// A disk that a crash now may leave. It has the same room and cuts, and no call of it fails.
     ///
-    /// The choice says what is there of the changes behind the last sync of their part, which are numbered from the last call back.
-    /// Of a choice `c` of 4 times `r` and 0, the bits of `r` say which of them are there and which are not.
-    /// Of 4 times `r` and 1, they say which are there and which have left other bytes in their range.
-    /// Of 4 times `r` and 2 or 3, the changes before one are there, of that one so many bytes, and of those behind it nothing; with 3 other bytes stand in the rest of its range.
-    /// That one's number is in the bits 0 to 2 and 6 to 8 of `r`, the number of bytes in the bits 3 to 5 and from 9 on.
+    /// The choice says what is there of the changes after the last sync of their part. These are numbered from the last
+    /// call back.
+    ///
+    /// | Choice | What is there |
+    /// |---|---|
+    /// | `4 * r` | the changes whose bits in `r` are 1 |
+    /// | `4 * r + 1` | the same, and the other changes have left other bytes in their range |
+    /// | `4 * r + 2` | all changes before one change, the first bytes of that change, and nothing of those after it |
+    /// | `4 * r + 3` | the same, with other bytes in the rest of that one's range |
+    ///
+    /// In the last two rows the number of the one change is in the bits 0 to 2 and 6 to 8 of `r`, and the number of its
+    /// first bytes in the bits 3 to 5 and from 9 on.
     pub fn crash(&self, alloc: Global, choice: u64) -> Result<MemDisk, OutOfMemory>
         ensures image { IfOk result (λ d. left_in self.now (moment_in self.now) (reads_in d)) }
         ensures first { IfOk result (λ d. contents_of d.first ≡ contents_of d.held) }
@@ -120,7 +131,8 @@ fn keep_torn(log: &mut Log, left: &mut usize, part: Part, change: Change, bytes:
 }
 
 impl Disk for MemDisk {
-    ghost use Rattle.mem_disk.specs.MemDisks.{reads_in, moment_in, left_in, reach_in, NextGoes, room_for, torn_room, Spends};
+    ghost use Rattle.mem_disk.specs.MemDisks.{reads_in, moment_in, left_in, reach_in, NextGoes, room_for, torn_room};
+    ghost use Rattle.mem_disk.specs.MemDisks.{Spends};
 
     ghost tells_reads = { true };
 

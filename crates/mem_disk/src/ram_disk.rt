@@ -1,3 +1,4 @@
+// A disk in memory whose calls never fail.
 ghost use Rattle.std.specs.Prelude.{◌≡◌, ◌<◌, ◌^◌, ◌≤◌, true, false, [], length, IfOk};
 ghost use Rattle.std.specs.Vec.{vec_capacity};
 ghost use Rattle.arm_edges.specs.Disk.{no_parts};
@@ -7,7 +8,7 @@ use arm_edges::{Disk, Failed, Part};
 use arm_value::OutOfMemory;
 use std::alloc::Global;
 
-/// A disk in memory whose calls never fail. What a read gives is told, what a crash leaves is not.
+/// A disk in memory whose calls never fail. It reports what a read returns, and nothing of crashes.
 #[derive(Debug, Drop)]
 pub struct RamDisk {
     a: Vec<u8>,
@@ -21,7 +22,7 @@ pub struct RamDisk {
 }
 
 impl RamDisk {
-    /// An empty disk that has taken room for so many bytes in each part.
+    /// An empty disk that has taken room for `reach` bytes in each part.
     pub fn new(alloc: Global, reach: u64) -> Result<RamDisk, OutOfMemory>
         ensures empty { IfOk result (λ d. (d.a.items ≡ []) × (d.b.items ≡ [])) }
         ensures reach { IfOk result (λ d. d.reach ≡ reach) }

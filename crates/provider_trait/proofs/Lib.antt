@@ -1,3 +1,4 @@
 pub mod NestLemmas
 pub mod AccountLemmas
 pub mod PlainLemmas
+pub mod FirstPartLemmas

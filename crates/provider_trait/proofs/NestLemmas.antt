@@ -1,34 +1,13 @@
 -- How deep a value nests in which a member was put, and what is found in one.
-use Rattle.std.proofs.Common.{◌≡◌, ◌≤◌, ℕ, max, Bool, true, false, List, [], ◌∷◌, Option, Some, None, Ordering, Less}
-use Rattle.std.proofs.Common.{Equal, Greater, cond, bytes_eq, refl, ap, arith}
-use Rattle.std.specs.Ordering.{match_ordering}
-use Rattle.arm_value.specs.Json.{Json, object, Pairs, no_pairs, pair, Member, pairs, members, nesting, pairs_nesting}
-use Rattle.arm_value.specs.Json.{members_nesting, key_cmp, put}
+use Rattle.std.proofs.Common.{◌≡◌, ◌≤◌, ℕ, max, Bool, true, false, List, Option, Some, None}
+use Rattle.std.proofs.Common.{cond, bytes_eq, refl, ap, arith}
+use Rattle.arm_value.specs.Json.{Json, object, Pairs, no_pairs, pair, nesting, pairs_nesting}
+use Rattle.arm_value.specs.Json.{members_nesting}
 use Rattle.arm_value.specs.Look.{first_by, or_else, look, is_same_folded}
 use Rattle.provider_trait.specs.Act.{FitsAct}
 use Rattle.provider_trait.specs.declared.act.Act.TheVariants.{Put}
 use Rattle.provider_trait.specs.Plain.{members_of, members_found}
-
-pub pairs-members : (ms : Pairs) → pairs (members ms) ≡ ms
-pairs-members no_pairs = refl
-pairs-members (pair k j ms) = ap (pair k j) (pairs-members ms)
-
-pub members-pairs : (ms : List Member) → members (pairs ms) ≡ ms
-members-pairs [] = refl
-members-pairs (m ∷ ms) = ap (λ r. m ∷ r) (members-pairs ms)
-
-put_nests_by : (o : Ordering) (n : ℕ) (k : List ℕ) (j : Json) (m : Member) (ms : List Member) → nesting j ≤ n
-    → members_nesting (m ∷ ms) ≤ n → members_nesting (put k j ms) ≤ n
-    → members_nesting (match_ordering o ((k, j) ∷ m ∷ ms) ((k, j) ∷ ms) (m ∷ put k j ms)) ≤ n
-put_nests_by Less n k j m ms p h r = omega arith
-put_nests_by Equal n k j m ms p h r = omega arith
-put_nests_by Greater n k j m ms p h r = omega arith
-
--- members with a value put among them nest no deeper than both
-pub put_nests : (n : ℕ) (k : List ℕ) (j : Json) (ms : List Member) → nesting j ≤ n → members_nesting ms ≤ n
-    → members_nesting (put k j ms) ≤ n
-put_nests n k j [] p h = omega arith
-put_nests n k j (m ∷ ms) p h = put_nests_by (key_cmp k m.0) n k j m ms p h (put_nests n k j ms p (omega arith))
+use Rattle.arm_value.proofs.TreeLemmas.{pairs-members}
 
 first_by_nests : (p : List ℕ → Bool) (ms : Pairs) (v : Json) → first_by p ms ≡ Some v → nesting v ≤ pairs_nesting ms
 first_by_nests p no_pairs v e = cc

@@ -21,7 +21,8 @@ use Rattle.provider_trait.specs.Plain.{members_of, members_found, object_of, is_
 use Rattle.provider_trait.specs.Plain.{types_joined, names_joined, endpoints, endpoint, with_endpoints}
 use Rattle.provider_trait.specs.Plain.{stored_properties, state_named, plain_state}
 use Rattle.foundation.proofs.AsciiWords.{word, ascii_word}
-use Rattle.provider_trait.proofs.NestLemmas.{members-pairs, put_body, put_nests, members_nest, found_nests}
+use Rattle.provider_trait.proofs.NestLemmas.{put_body, members_nest, found_nests}
+use Rattle.arm_value.proofs.TreeLemmas.{put_nests, members-pairs}
 
 pub copied_members : {E : Type 0} (r : Result (List Member) E) (ms : List Member) (j : Json) → j ≡ object (pairs ms)
     → IfOk r (λ v. v ≡ ms) → IfOk r (λ v. v ≡ members_of j)
@@ -60,37 +61,37 @@ no : {A : Type 0} (b : Bool) (x y : A) → b ≡ false → cond b x y ≡ y
 no false x y e = refl
 no true x y e = absurd (true≢false e)
 
--- which code is told of four
-pub tells_first : (kind name : List ℕ) (body : Json) → has_wrong_properties body ≡ true
+-- which of the four codes holds
+pub first_code : (kind name : List ℕ) (body : Json) → has_wrong_properties body ≡ true
     → refusal kind name body ≡ Some (codes "InvalidProperties")
 unfolding refusal
-tells_first kind name body a = yes (has_wrong_properties body) _ _ a
+first_code kind name body a = yes (has_wrong_properties body) _ _ a
 
-pub tells_second : (kind name : List ℕ) (body : Json) → has_wrong_properties body ≡ false
+pub second_code : (kind name : List ℕ) (body : Json) → has_wrong_properties body ≡ false
     → lacks_location kind body ≡ true → refusal kind name body ≡ Some (codes "LocationRequired")
 unfolding refusal
-tells_second kind name body a b = no (has_wrong_properties body) _ _ a ∙ yes (lacks_location kind body) _ _ b
+second_code kind name body a b = no (has_wrong_properties body) _ _ a ∙ yes (lacks_location kind body) _ _ b
 
-pub tells_third : (kind name : List ℕ) (body : Json) → has_wrong_properties body ≡ false
+pub third_code : (kind name : List ℕ) (body : Json) → has_wrong_properties body ≡ false
     → lacks_location kind body ≡ false → lacks_sku kind body ≡ true
     → refusal kind name body ≡ Some (codes "SkuRequired")
 unfolding refusal
-tells_third kind name body a b c = no (has_wrong_properties body) _ _ a ∙ no (lacks_location kind body) _ _ b
+third_code kind name body a b c = no (has_wrong_properties body) _ _ a ∙ no (lacks_location kind body) _ _ b
     ∙ yes (lacks_sku kind body) _ _ c
 
-pub tells_fourth : (kind name : List ℕ) (body : Json) → has_wrong_properties body ≡ false
+pub fourth_code : (kind name : List ℕ) (body : Json) → has_wrong_properties body ≡ false
     → lacks_location kind body ≡ false → lacks_sku kind body ≡ false → has_wrong_name kind name ≡ true
     → refusal kind name body ≡ Some (codes "AccountNameInvalid")
 unfolding refusal
-tells_fourth kind name body a b c d =
+fourth_code kind name body a b c d =
     no (has_wrong_properties body) _ _ a ∙ no (lacks_location kind body) _ _ b ∙ no (lacks_sku kind body) _ _ c
     ∙ yes (has_wrong_name kind name) _ _ d
 
-pub tells_none : (kind name : List ℕ) (body : Json) → has_wrong_properties body ≡ false
+pub no_code : (kind name : List ℕ) (body : Json) → has_wrong_properties body ≡ false
     → lacks_location kind body ≡ false → lacks_sku kind body ≡ false → has_wrong_name kind name ≡ false
     → refusal kind name body ≡ None
 unfolding refusal
-tells_none kind name body a b c d =
+no_code kind name body a b c d =
     no (has_wrong_properties body) _ _ a ∙ no (lacks_location kind body) _ _ b ∙ no (lacks_sku kind body) _ _ c
     ∙ no (has_wrong_name kind name) _ _ d
 
@@ -130,22 +131,15 @@ last_or true b c d r e f g h = absurd (true≢false e)
 
 -- ---- the state, put together
 
-pub endpoints_made : (name : List ℕ) (m₀ m₁ m₂ m₃ m₄ : List Member) (a b c d s t u v : List ℕ) → m₀ ≡ []
-    → m₁ ≡ put a (text s) m₀ → m₂ ≡ put b (text t) m₁ → m₃ ≡ put c (text u) m₂ → m₄ ≡ put d (text v) m₃
-    → a ≡ codes "blob" → b ≡ codes "file" → c ≡ codes "queue" → d ≡ codes "table" → s ≡ endpoint name a
-    → t ≡ endpoint name b → u ≡ endpoint name c → v ≡ endpoint name d → m₄ ≡ endpoints name
-unfolding endpoints
-endpoints_made name m₀ m₁ m₂ m₃ m₄ a b c d s t u v e₀ e₁ e₂ e₃ e₄ f₁ f₂ f₃ f₄ g₁ g₂ g₃ g₄ =
-    let h₁ : m₁ ≡ put (codes "blob") (text (endpoint name (codes "blob"))) [] = e₁
-    ∙ (λ i. put (f₁ i) (text ((g₁ ∙ ap (endpoint name) f₁) i)) (e₀ i)) in
-    let h₂ : m₂ ≡ put (codes "file") (text (endpoint name (codes "file")))
-    (put (codes "blob") (text (endpoint name (codes "blob"))) []) = e₂
-    ∙ (λ i. put (f₂ i) (text ((g₂ ∙ ap (endpoint name) f₂) i)) (h₁ i)) in
-    let h₃ : m₃ ≡ put (codes "queue") (text (endpoint name (codes "queue")))
-    (put (codes "file") (text (endpoint name (codes "file")))
-    (put (codes "blob") (text (endpoint name (codes "blob"))) [])) = e₃
-    ∙ (λ i. put (f₃ i) (text ((g₃ ∙ ap (endpoint name) f₃) i)) (h₂ i)) in
-    e₄ ∙ (λ i. put (f₄ i) (text ((g₄ ∙ ap (endpoint name) f₄) i)) (h₃ i))
+pub with_endpoint : (name s w : List ℕ) (m n out : List Member) → out ≡ put s (text (endpoint name s)) m → s ≡ w
+    → m ≡ n → out ≡ put w (text (endpoint name w)) n
+with_endpoint name s w m n out e f g = e ∙ (λ i. put (f i) (text (endpoint name (f i))) (g i))
+
+-- a result that is equal to one of two equal parts is equal to the other
+pub if_field : {A B E : Type 0} (f : A → B) (r : Result A E) (a b : B) → a ≡ b → IfOk r (λ v. f v ≡ a)
+    → IfOk r (λ v. f v ≡ b)
+if_field f (Ok v) a b e h = h ∙ e
+if_field f (Err x) a b e h = tt
 
 text_nests : (k s : List ℕ) (ms : List Member) → members_nesting ms ≤ 0 → members_nesting (put k (text s) ms) ≤ 0
 text_nests k s ms h = put_nests 0 k (text s) ms (omega arith) h
@@ -165,26 +159,13 @@ endpoints_nest name =
 pub endpoints_few : (name : List ℕ) (ms : List Member) → ms ≡ endpoints name → members_nesting ms ≤ 118
 endpoints_few name ms e = omega (arith, ap members_nesting e, endpoints_nest name)
 
-pub properties_plain : (kind name : List ℕ) (body : Json) (m₀ m₁ : List Member) (a s : List ℕ)
-    → is_storage kind ≡ false → m₀ ≡ members_found (look (codes "properties") body) → m₁ ≡ put a (text s) m₀
-    → a ≡ codes "provisioningState" → s ≡ codes "Succeeded" → m₁ ≡ stored_properties kind name body
+pub properties_made : (kind name : List ℕ) (body : Json) (m₀ m₁ m₂ : List Member) (a s : List ℕ)
+    → m₀ ≡ members_found (look (codes "properties") body) → m₁ ≡ put a (text s) m₀
+    → m₂ ≡ with_endpoints (is_storage kind) name m₁ → a ≡ codes "provisioningState" → s ≡ codes "Succeeded"
+    → m₂ ≡ stored_properties kind name body
 unfolding stored_properties
-properties_plain kind name body m₀ m₁ a s storage e₀ e₁ f g =
-    e₁ ∙ (λ i. put (f i) (text (g i)) (e₀ i))
-    ∙ ap (λ b. with_endpoints b name
-    (put (codes "provisioningState") (text (codes "Succeeded")) (members_found (look (codes "properties") body))))
-    (sym storage)
-
-pub properties_with_endpoints : (kind name : List ℕ) (body : Json) (m₀ m₁ m₂ es : List Member) (a b s : List ℕ)
-    → is_storage kind ≡ true → m₀ ≡ members_found (look (codes "properties") body) → m₁ ≡ put a (text s) m₀
-    → m₂ ≡ put b (object_of es) m₁ → es ≡ endpoints name → a ≡ codes "provisioningState" → s ≡ codes "Succeeded"
-    → b ≡ codes "primaryEndpoints" → m₂ ≡ stored_properties kind name body
-unfolding stored_properties
-properties_with_endpoints kind name body m₀ m₁ m₂ es a b s storage e₀ e₁ e₂ e₃ f g h =
-    e₂ ∙ (λ i. put (h i) (object_of (e₃ i)) ((e₁ ∙ (λ j. put (f j) (text (g j)) (e₀ j))) i))
-    ∙ ap (λ b. with_endpoints b name
-    (put (codes "provisioningState") (text (codes "Succeeded")) (members_found (look (codes "properties") body))))
-    (sym storage)
+properties_made kind name body m₀ m₁ m₂ a s e₀ e₁ e₂ f g =
+    e₂ ∙ ap (with_endpoints (is_storage kind) name) (e₁ ∙ (λ i. put (f i) (text (g i)) (e₀ i)))
 
 with_endpoints_nest : (b : Bool) (name : List ℕ) (ms : List Member) → members_nesting ms ≤ 99
     → members_nesting (with_endpoints b name ms) ≤ 99
@@ -280,11 +261,11 @@ body_few act body seen e h same =
     let fits : FitsAct Put body = subst (λ a. FitsAct a body) e h in
     omega (arith, ap nesting same, put_body body fits)
 
-pub nothing_named : (id s t : List ℕ) (f : IdFault) → s ≡ id → f ≡ NotAnId → IsNoId s f → t ≡ chars []
-    → (t ≡ full_type id) × (t ≡ full_name id)
-nothing_named id s t f same e h empty =
+pub nothing_named : (id s : List ℕ) (f : IdFault) → s ≡ id → f ≡ NotAnId → IsNoId s f
+    → (chars [] ≡ full_type id) × (chars [] ≡ full_name id)
+nothing_named id s f same e h =
     let none : reading id ≡ None = ap reading (sym same) ∙ subst (IsNoId s) e h in
-    (empty ∙ chars-nil ∙ ap types_joined (sym none), empty ∙ chars-nil ∙ ap names_joined (sym none))
+    (chars-nil ∙ ap types_joined (sym none), chars-nil ∙ ap names_joined (sym none))
 
 pub if_done : {E : Type 0} (r : Result Answer E) (kind name id api seen : List ℕ) (act : Act) (body : Json)
     → act ≡ Put → seen ≡ id → kind ≡ full_type seen → name ≡ full_name seen

@@ -22,7 +22,7 @@ abbrev pub act_of : Bool → Act
 act_of true = Put
 act_of false = Delete
 
--- the one is told by the other
+-- no act is lost
 pub act_of-is_put : (act : Act) → act_of (is_put act) ≡ act
 act_of-is_put Put = refl
 act_of-is_put Delete = refl

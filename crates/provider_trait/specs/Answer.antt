@@ -4,7 +4,7 @@ use Rattle.provider_trait.specs.declared.act.Act.TheVariants.{Put, Delete}
 use Rattle.provider_trait.specs.declared.answer.Answer.{Answer}
 use Rattle.provider_trait.specs.declared.answer.Answer.TheVariants.{Stored, Gone, Refused}
 
--- a put is stored or refused; what a deletion names is gone, or it is refused
+-- a put is answered by `Stored` or `Refused`, a deletion by `Gone` or `Refused`
 abbrev pub Suits : Act → Answer → Type 0
 Suits Put (Stored state) = Unit {0}
 Suits Put Gone = ⊥

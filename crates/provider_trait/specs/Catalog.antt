@@ -46,7 +46,7 @@ is_account_name name =
 abbrev pub has_wrong_properties : Json → Bool
 has_wrong_properties body = not (is_object_or_none (look (codes "properties") body))
 
--- whether the type asks for a location and the body has none that is a text
+-- whether resources of the type have a location, and the body has none that is a text
 abbrev pub lacks_location : List ℕ → Json → Bool
 lacks_location kind body = needs_location kind && not (is_text (look (codes "location") body))
 
@@ -54,7 +54,7 @@ lacks_location kind body = needs_location kind && not (is_text (look (codes "loc
 abbrev pub lacks_sku : List ℕ → Json → Bool
 lacks_sku kind body = is_storage kind && not (is_text (sku_name body))
 
--- whether it is a storage account that can't have this name
+-- whether it is a storage account, and no storage account may have this name
 abbrev pub has_wrong_name : List ℕ → List ℕ → Bool
 has_wrong_name kind name = is_storage kind && not (is_account_name name)
 
@@ -66,7 +66,7 @@ refusal kind name body =
     (if lacks_sku kind body then Some (codes "SkuRequired") else
     (if has_wrong_name kind name then Some (codes "AccountNameInvalid") else None)))
 
--- refused by the code where there is one, and else stored in this state
+-- refused with the code where there is one, else stored in this state
 abbrev pub refused_or_stored : Option (List ℕ) → Json → Answer
 refused_or_stored (Some code) state = Refused code
 refused_or_stored None state = Stored state
@@ -77,6 +77,6 @@ catalog_answer Put id api body =
     refused_or_stored (refusal (full_type id) (full_name id) body) (plain_state id api body)
 catalog_answer Delete id api body = Gone
 
--- the catalogue answers so, and in no other way
+-- the catalogue gives this answer and no other
 abbrev pub CatalogMay : Act → List ℕ → List ℕ → Json → Answer → Type 0
 CatalogMay act id api body answer = answer ≡ catalog_answer act id api body

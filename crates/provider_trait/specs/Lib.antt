@@ -1,4 +1,5 @@
 pub mod Act
+pub mod FirstPart
 pub mod Work
 pub mod JobParts
 pub mod StateFault

@@ -1,4 +1,4 @@
--- The plain state of a put: what a resource is in after it was stored, when nothing else is known of its type.
+-- The plain state of a put: the state of a stored resource, where nothing else is known of its type.
 use Rattle.std.specs.Prelude.{ℕ, List, [], ◌++◌, Bool, true, false, bytes_eq, Option, Some, None, codes}
 use Rattle.arm_value.specs.Json.{Json, text, object, pairs, members, Member, put}
 use Rattle.arm_value.specs.Look.{fold, look}
@@ -42,7 +42,7 @@ full_name id = names_joined (reading id)
 abbrev pub is_storage : List ℕ → Bool
 is_storage kind = bytes_eq (fold kind) (codes "microsoft.storage/storageaccounts")
 
--- where a storage account serves its blobs, files, queues or tables
+-- the address of one of a storage account's services (blob, file, queue, table)
 unfoldable pub endpoint : List ℕ → List ℕ → List ℕ
 endpoint name service = codes "https://" ++ (name ++ (codes "." ++ (service ++ codes ".core.windows.net/")))
 
@@ -59,7 +59,7 @@ abbrev pub with_endpoints : Bool → List ℕ → List Member → List Member
 with_endpoints true name ms = put (codes "primaryEndpoints") (object_of (endpoints name)) ms
 with_endpoints false name ms = ms
 
--- the body's properties, that it was provisioned, and for a storage account its endpoints
+-- the body's properties with `provisioningState` `Succeeded`, and for a storage account with its endpoints
 unfoldable pub stored_properties : List ℕ → List ℕ → Json → List Member
 stored_properties kind name body =
     with_endpoints (is_storage kind) name

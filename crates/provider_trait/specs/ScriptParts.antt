@@ -4,7 +4,7 @@ use Rattle.provider_trait.specs.declared.call.Call.{Call}
 use Rattle.provider_trait.specs.declared.step.Step.{Step}
 use Rattle.provider_trait.specs.declared.script.Script.{Script}
 
--- its steps, of which the call behind k calls takes the one at k
+-- its steps: the call after k calls takes the step at k
 abbrev pub script_steps : Script → List Step
 script_steps s = s.steps.items
 
@@ -12,6 +12,6 @@ script_steps s = s.steps.items
 abbrev pub script_calls : Script → List Call
 script_calls s = s.calls.items
 
--- how many of these failed, as far as 64 bits go
+-- how many of them failed, at most 2^64 - 1
 abbrev pub script_faults : Script → ℕ
 script_faults s = s.faults

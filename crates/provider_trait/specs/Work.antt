@@ -4,10 +4,11 @@ use Rattle.std.specs.Coded.{Coded, code_by, coded×, coded_ℕ, coded_list}
 use Rattle.arm_value.specs.Json.{Json}
 use Rattle.arm_value.specs.JsonCode.{json_code}
 use Rattle.provider_trait.specs.Act.{act_code}
+use Rattle.provider_trait.specs.FirstPart.{Assignment, first_part}
 use Rattle.provider_trait.specs.declared.act.Act.{Act}
 
--- the task and the worker, what is to be done with the resource of an id, and the first part of its record in the
--- journal
+-- the task and the worker by their numbers, the act, the resource that it is for, and the first part of the record in
+-- the journal
 pub record Work : Type 0 where
   pub task : ℕ
   pub worker : ℕ
@@ -16,6 +17,23 @@ pub record Work : Type 0 where
   pub api : List ℕ
   pub body : Json
   pub first : List ℕ
+
+-- the work of an act and an assignment
+abbrev pub work_for : Act → Assignment → Work
+work_for act a =
+    record {
+      task = a.task;
+      worker = a.worker;
+      act = act;
+      id = a.id;
+      api = a.api;
+      body = a.body;
+      first = first_part a;
+    }
+
+-- what work assigns
+abbrev pub assignment_of : Work → Assignment
+assignment_of w = record { api = w.api; body = w.body; id = w.id; task = w.task; worker = w.worker }
 
 -- work is stored as its parts
 abbrev pub work_code : Coded Work

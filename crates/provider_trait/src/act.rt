@@ -1,8 +1,10 @@
+// What a provider is asked to do.
+
 /// What a provider is asked to do with a resource.
 #[derive(Clone, Copy, Debug, PartialEq, Eq)]
 pub enum Act {
-    /// Make the resource as its body says.
+    /// Create or replace the resource, as its body says.
     Put,
-    /// Take the resource away.
+    /// Delete the resource.
     Delete,
 }

@@ -1,3 +1,5 @@
+// What providers answer, and why one gives no answer.
+
 ghost use Rattle.std.specs.Prelude.{◌≡◌, IfOk};
 
 use crate::state::State;
@@ -8,16 +10,16 @@ use thiserror::Error;
 /// What a provider answers to a job. `Stored` answers puts and `Gone` deletions.
 #[derive(Drop)]
 pub enum Answer {
-    /// The resource is there, in this state.
+    /// The put was done, and the resource is in this state.
     Stored(State),
-    /// The resource is not there any more.
+    /// The deletion was done.
     Gone,
-    /// Nothing was done, for the reason of this code.
+    /// The provider refused, with this code.
     Refused(Text),
 }
 
 impl Answer {
-    /// The same answer again.
+    /// A copy of the answer.
     pub fn copy(&self, alloc: Global) -> Result<Answer, OutOfMemory>
         ensures { IfOk result (λ a. a ≡ self.now) }
     {
@@ -32,10 +34,10 @@ impl Answer {
 /// Why a provider gave no answer.
 #[derive(Clone, Copy, Debug, Error, PartialEq, Eq)]
 pub enum ProviderFault {
-    /// The provider failed, and its count of faults rose.
+    /// The provider failed; its count of faults rose.
     #[error("the provider failed")]
     Fault,
-    /// The provider wanted memory, and is as it was.
+    /// Out of memory; the count of faults and the reported calls are unchanged.
     #[error("out of memory")]
     OutOfMemory,
 }

@@ -1,17 +1,22 @@
+// A provider that knows a small catalogue of types.
+
 ghost use Rattle.std.specs.Prelude.{◌≡◌, ℕ, [], true, chars, IfOk, IfErr, option_map};
 ghost use Rattle.arm_value.specs.View.{json};
 ghost use Rattle.arm_value.specs.Json.{nesting};
 ghost use Rattle.provider_trait.specs.declared.act.Act.TheVariants.{Put, Delete};
 ghost use Rattle.provider_trait.specs.declared.answer.ProviderFault.TheVariants.{OutOfMemory};
 ghost use Rattle.provider_trait.specs.Answer.{Suits};
-ghost use Rattle.provider_trait.specs.Calls.{Tells, Counts};
-ghost use Rattle.provider_trait.specs.Catalog.{CatalogMay, catalog_answer, refusal, is_text, is_object_or_none, sku_name, has_wrong_properties, lacks_location, lacks_sku, has_wrong_name};
+ghost use Rattle.provider_trait.specs.Calls.{AddsCall, Counts};
+ghost use Rattle.provider_trait.specs.Catalog.{CatalogMay, catalog_answer, refusal, is_text};
+ghost use Rattle.provider_trait.specs.Catalog.{is_object_or_none, sku_name, has_wrong_properties};
+ghost use Rattle.provider_trait.specs.Catalog.{lacks_location, lacks_sku, has_wrong_name};
 ghost use Rattle.provider_trait.specs.CatalogCalls.{catalog_calls};
 
 use crate::answer::{Answer, ProviderFault};
 use crate::call::{Call, add_answered};
 use crate::job::Job;
 use crate::named::Named;
+use crate::parts::letting_go;
 use crate::plain::stored;
 use crate::provider::Provider;
 use arm_value::{OutOfMemory, Text, Value};
@@ -19,14 +24,14 @@ use std::alloc::Global;
 
 /// A provider that knows a small catalogue of types, and stores what fits it in its plain state.
 ///
-/// It never fails, and tells its calls.
+/// It never fails, and reports its calls.
 #[derive(Drop)]
 pub struct Catalog {
     calls: Vec<Call>,
 }
 
 impl Catalog {
-    /// A catalogue of which no call was made. It takes no memory.
+    /// A catalogue without calls. It takes no memory.
     pub fn new(alloc: Global) -> Catalog
         ensures { catalog_calls result ≡ [] }
     {
@@ -57,13 +62,15 @@ impl Provider for Catalog {
         ensures may { IfOk result (CatalogMay Put job.now.id job.now.api job.now.body) }
         ensures suits { IfOk result (Suits Put) }
         ensures count { Counts 0 0 result }
-        ensures told { true ≡ true
-            → Tells (catalog_calls self.old) (catalog_calls self.new) job.now result }
+        ensures calls { true ≡ true
+            → AddsCall (catalog_calls self.old) (catalog_calls self.new) job.now result }
         ensures faultless { IfErr result (λ f. f ≡ OutOfMemory) }
     {
         let answer = answer_to(alloc, job)?;
-        add_answered(alloc, &mut self.calls, job, &answer)?;
-        Ok(answer)
+        match add_answered(alloc, &mut self.calls, job, &answer) {
+            Ok(()) => Ok(answer),
+            Err(_) => letting_go(Err(ProviderFault::OutOfMemory), answer),
+        }
     }
 
     fn delete(&mut self, alloc: Global, job: &Job) -> Result<Answer, ProviderFault>
@@ -71,8 +78,8 @@ impl Provider for Catalog {
         ensures may { IfOk result (CatalogMay Delete job.now.id job.now.api job.now.body) }
         ensures suits { IfOk result (Suits Delete) }
         ensures count { Counts 0 0 result }
-        ensures told { true ≡ true
-            → Tells (catalog_calls self.old) (catalog_calls self.new) job.now result }
+        ensures calls { true ≡ true
+            → AddsCall (catalog_calls self.old) (catalog_calls self.new) job.now result }
         ensures faultless { IfErr result (λ f. f ≡ OutOfMemory) }
     {
         add_answered(alloc, &mut self.calls, job, &Answer::Gone)?;
@@ -93,7 +100,7 @@ fn answer_to(alloc: Global, job: &Job) -> Result<Answer, OutOfMemory>
     }
 }
 
-// The code by which a put is refused, the first that holds.
+// The code by which a put is refused: the first that holds.
 fn refusal(named: &Named, body: &Value) -> Option<&'static str>
     ensures { option_map (λ code. chars code.now) result
         ≡ refusal named.now.kind named.now.name (json body.now) }

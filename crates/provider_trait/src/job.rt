@@ -1,15 +1,20 @@
+// The jobs that providers are given.
+
 ghost use Rattle.std.specs.Prelude.{◌≡◌, IfOk};
 ghost use Rattle.arm_value.specs.View.{json};
 ghost use Rattle.provider_trait.specs.Act.{FitsAct};
 
 use crate::act::Act;
+use crate::first_part::first_part;
+use crate::parts::run_out;
 use arm_value::{Bytes, OutOfMemory, Text, Value};
 use std::alloc::Global;
 use std::marker::Model;
 
 /// One call that a provider is to make.
 ///
-/// The body of a put is an object that nests at most 100, and that of a deletion is null.
+/// The body of a put is an object that nests at most 100, and that of a deletion is null. A job
+/// has the first part of its record in the journal.
 #[derive(Drop)]
 pub struct Job {
     task: u32,
@@ -28,8 +33,10 @@ impl Model for Job {
 
     ghost coded = { work_code };
 
+    ghost use Rattle.std.specs.Prelude.{◌≡◌};
     ghost use Rattle.arm_value.specs.View.{json};
     ghost use Rattle.provider_trait.specs.Act.{FitsAct};
+    ghost use Rattle.provider_trait.specs.FirstPart.{first_part};
 
     ghost view = { λ j. record {
       task = j.task;
@@ -41,7 +48,14 @@ impl Model for Job {
       first = j.first;
     } };
 
-    ghost invariant = { λ j. FitsAct j.act (json j.body) };
+    ghost invariant = { λ j. FitsAct j.act (json j.body)
+        × (j.first ≡ first_part (record {
+          api = j.api;
+          body = json j.body;
+          id = j.id;
+          task = j.task;
+          worker = j.worker;
+        })) };
 }
 
 /// What a job is made of.
@@ -51,32 +65,37 @@ pub struct JobParts {
     pub task: u32,
     /// The number of the worker, that of its seat.
     pub worker: u32,
+    /// What the provider is asked to do.
     pub act: Act,
     /// The id of the resource, with its letters as they are spelled.
     pub id: Text,
     /// The version of the resource's type, empty for a deletion.
     pub api: Text,
+    /// The body of a put, null for a deletion.
     pub body: Value,
-    /// The first part of the job's record in the journal.
-    pub first: Bytes,
 }
 
 impl Job {
+    ghost use Rattle.provider_trait.specs.FirstPart.{first_part};
     ghost use Rattle.provider_trait.specs.JobParts.{work_of};
+    ghost use Rattle.provider_trait.specs.Work.{assignment_of};
 
-    /// The job of these parts. It takes no memory.
-    pub fn new(parts: JobParts) -> Job
+    /// The job of these parts, with the first part of its record in the journal.
+    pub fn new(alloc: Global, parts: JobParts) -> Result<Job, OutOfMemory>
         requires { FitsAct parts.act (json parts.body) }
-        ensures { result ≡ work_of parts }
+        ensures { IfOk result (λ j. j ≡ work_of parts) }
     {
-        Job {
-            task: parts.task,
-            worker: parts.worker,
-            act: parts.act,
-            id: parts.id,
-            api: parts.api,
-            body: parts.body,
-            first: parts.first,
+        match first_part(alloc, &parts) {
+            Ok(first) => Ok(Job {
+                task: parts.task,
+                worker: parts.worker,
+                act: parts.act,
+                id: parts.id,
+                api: parts.api,
+                body: parts.body,
+                first,
+            }),
+            Err(_) => run_out(parts),
         }
     }
 
@@ -123,14 +142,16 @@ impl Job {
         &self.body
     }
 
-    /// The first part of the job's record in the journal.
+    /// The first part of the job's record in the journal: the object of `api`, `body`, `id`, `task`
+    /// and `worker` as compact JSON.
     pub fn first(&self) -> &Bytes
-        ensures { result.now ≡ self.now.first }
+        ensures first { result.now ≡ self.now.first }
+        ensures record_of { self.now.first ≡ first_part (assignment_of self.now) }
     {
         &self.first
     }
 
-    /// The same job again.
+    /// A copy of the job.
     pub fn copy(&self, alloc: Global) -> Result<Job, OutOfMemory>
         ensures { IfOk result (λ j. j ≡ self.now) }
     {

@@ -1,8 +1,10 @@
 //! What deploys resources: providers, the jobs that they are given, and what they answer.
 //!
-//! A caller may rely on what a provider of a kind may answer, on its count of faults, and on the calls that it tells of.
-//! `Catalog` answers as a small catalogue of types does, and `Script` as its steps say; both tell all their calls.
-//! The plain state is in `specs/Plain.antt`, the catalogue in `specs/Catalog.antt`, scripts in `specs/Script.antt`.
+//! A caller may rely on which answers a provider of a kind may give, on its count of faults, and on
+//! the calls that it reports. `Catalog` answers as a small catalogue of types does, and `Script` as
+//! its steps say; both report all their calls. The plain state is in `specs/Plain.antt`, the
+//! catalogue in `specs/Catalog.antt`, scripts in `specs/Script.antt`, and the first part of a job's
+//! record in `specs/FirstPart.antt`.
 #![tactic(auto)]
 
 mod act;
@@ -10,8 +12,10 @@ mod answer;
 mod call;
 mod catalog;
 mod event;
+mod first_part;
 mod job;
 mod named;
+mod parts;
 mod plain;
 mod provider;
 mod script;

@@ -1,7 +1,9 @@
+// A provider that follows a list of steps.
+
 ghost use Rattle.std.specs.Prelude.{◌≡◌, [], true, length, slice_get, option_copied, IfOk};
 ghost use Rattle.provider_trait.specs.declared.act.Act.TheVariants.{Put, Delete};
 ghost use Rattle.provider_trait.specs.Answer.{Suits};
-ghost use Rattle.provider_trait.specs.Calls.{Tells, Counts, GivesUnlessMemory};
+ghost use Rattle.provider_trait.specs.Calls.{AddsCall, Counts, GivesUnlessMemory};
 ghost use Rattle.provider_trait.specs.Script.{ScriptMay, done, scripted, gives};
 ghost use Rattle.provider_trait.specs.ScriptParts.{script_steps, script_calls, script_faults};
 
@@ -10,15 +12,17 @@ use crate::answer::{Answer, ProviderFault};
 use crate::call::{Call, add_answered, add_failed};
 use crate::job::Job;
 use crate::named::Named;
+use crate::parts::letting_go;
 use crate::plain::stored;
 use crate::provider::Provider;
 use crate::step::Step;
 use arm_value::OutOfMemory;
 use std::alloc::Global;
 
-/// A provider that does at each call what its next step says, and past the last what it is asked.
+/// A provider that does at each call what its next step says, and after the last step what it is
+/// asked.
 ///
-/// It tells its calls. A call that wants memory takes no step.
+/// It reports its calls. `OutOfMemory` consumes no step.
 #[derive(Drop)]
 pub struct Script {
     steps: Vec<Step>,
@@ -27,7 +31,7 @@ pub struct Script {
 }
 
 impl Script {
-    /// A script of these steps, of which no call was made. It takes no memory.
+    /// A script of these steps, without calls. It takes no memory.
     pub fn new(alloc: Global, steps: Vec<Step>) -> Script
         ensures steps { script_steps result ≡ steps.items }
         ensures calls { script_calls result ≡ [] }
@@ -47,7 +51,7 @@ impl Script {
         self.calls.as_slice()
     }
 
-    /// How many calls have failed, as far as 64 bits go.
+    /// How many calls have failed, at most 2^64 - 1.
     pub fn faults(&self) -> u64
         ensures { result ≡ script_faults self.now }
     {
@@ -60,14 +64,16 @@ impl Script {
             (scripted (slice_get (script_steps self.old)
             (length (script_calls self.old))) job.now) result }
         ensures count { Counts (script_faults self.old) (script_faults self.new) result }
-        ensures told { Tells (script_calls self.old) (script_calls self.new) job.now result }
+        ensures calls { AddsCall (script_calls self.old) (script_calls self.new) job.now result }
         ensures steps { script_steps self.new ≡ script_steps self.old }
     {
         let step = self.steps.as_slice().get(self.calls.len());
         match answer_at(alloc, step, job)? {
             Some(answer) => {
-                add_answered(alloc, &mut self.calls, job, &answer)?;
-                Ok(answer)
+                match add_answered(alloc, &mut self.calls, job, &answer) {
+                    Ok(()) => Ok(answer),
+                    Err(_) => letting_go(Err(ProviderFault::OutOfMemory), answer),
+                }
             }
             None => {
                 add_failed(alloc, &mut self.calls, job)?;
@@ -92,8 +98,8 @@ impl Provider for Script {
         ensures may { IfOk result (ScriptMay Put job.now.id job.now.api job.now.body) }
         ensures suits { IfOk result (Suits Put) }
         ensures count { Counts (script_faults self.old) (script_faults self.new) result }
-        ensures told { true ≡ true
-            → Tells (script_calls self.old) (script_calls self.new) job.now result }
+        ensures calls { true ≡ true
+            → AddsCall (script_calls self.old) (script_calls self.new) job.now result }
         ensures gives { GivesUnlessMemory
             (scripted (slice_get (script_steps self.old)
             (length (script_calls self.old))) job.now) result }
@@ -107,8 +113,8 @@ impl Provider for Script {
         ensures may { IfOk result (ScriptMay Delete job.now.id job.now.api job.now.body) }
         ensures suits { IfOk result (Suits Delete) }
         ensures count { Counts (script_faults self.old) (script_faults self.new) result }
-        ensures told { true ≡ true
-            → Tells (script_calls self.old) (script_calls self.new) job.now result }
+        ensures calls { true ≡ true
+            → AddsCall (script_calls self.old) (script_calls self.new) job.now result }
         ensures gives { GivesUnlessMemory
             (scripted (slice_get (script_steps self.old)
             (length (script_calls self.old))) job.now) result }
@@ -118,7 +124,7 @@ impl Provider for Script {
     }
 }
 
-// The answer to a job at a step, none where it fails.
+// The answer to a job at a step; none where the step is to fail.
 fn answer_at(alloc: Global, step: Option<&Step>, job: &Job) -> Result<Option<Answer>, OutOfMemory>
     ensures { IfOk result (λ a. gives a ≡ scripted (option_copied step.entry) job.now) }
 {

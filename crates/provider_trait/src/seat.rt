@@ -1,19 +1,24 @@
+// The seats of a deployment.
+
 ghost use Rattle.std.specs.Prelude.{◌≡◌, None};
 
 use crate::answer::{Answer, ProviderFault};
 use crate::job::Job;
 use crate::provider::Provider;
 
-/// A provider, the job that it is to do, and what its last call gave.
+/// A provider with its job and its last result.
 #[derive(Drop)]
 pub struct Seat<P: Drop> {
+    /// The provider.
     pub provider: P,
+    /// The job that the provider is to do.
     pub job: Option<Job>,
+    /// What the last call of the provider returned.
     pub got: Option<Result<Answer, ProviderFault>>,
 }
 
 impl<P: Provider> Seat<P> {
-    /// A seat without a job, of which no call was made.
+    /// A seat without a job and without a result.
     pub fn new(provider: P) -> Seat<P>
         ensures provider { result.provider ≡ provider }
         ensures no_job { result.job ≡ None }

@@ -1,3 +1,5 @@
+// The states of stored resources.
+
 ghost use Rattle.std.specs.Prelude.{◌≡◌, ◌≤◌, IfOk, IfErr};
 ghost use Rattle.serde_json.specs.Written.{compact_text};
 ghost use Rattle.arm_value.specs.View.{json};
@@ -5,12 +7,14 @@ ghost use Rattle.arm_value.specs.Json.{nesting};
 ghost use Rattle.arm_value.specs.Reading.{data_of};
 ghost use Rattle.provider_trait.specs.StateFault.{IsStateFault};
 
+use crate::parts::letting_go;
 use arm_value::{Bytes, OutOfMemory, Value};
+use foundation::limits::MAX_STATE_NESTING;
 use std::alloc::{AllocError, Global};
 use std::marker::Model;
 use thiserror::Error;
 
-/// The state of a stored resource, beside its compact JSON text. It nests at most 110.
+/// The state of a stored resource, with its compact JSON text. It nests at most 110.
 #[derive(Drop)]
 pub struct State {
     value: Value,
@@ -43,7 +47,7 @@ pub enum StateFault {
     /// It nests above 110.
     #[error("nested above 110")]
     TooDeep,
-    /// There was not memory enough for its text.
+    /// Out of memory.
     #[error("out of memory")]
     OutOfMemory,
 }
@@ -64,17 +68,19 @@ impl State {
     ///
     /// # Errors
     ///
-    /// `TooDeep` exactly where the value nests above 110.
+    /// `TooDeep` where the value nests above 110, and nowhere else; `OutOfMemory`.
     pub fn of(alloc: Global, value: Value) -> Result<State, StateFault>
         ensures ok { IfOk result (λ s. s ≡ json value) }
         ensures shallow { IfOk result (λ _. nesting (json value) ≤ 110) }
         ensures fault { IfErr result (IsStateFault (json value)) }
     {
-        if value.nesting() > 110 {
-            return Err(StateFault::TooDeep);
+        if value.nesting() > MAX_STATE_NESTING {
+            return letting_go(Err(StateFault::TooDeep), value);
         }
-        let text = value.to_json(alloc)?;
-        Ok(State { value, text })
+        match value.to_json(alloc) {
+            Ok(text) => Ok(State { value, text }),
+            Err(_) => letting_go(Err(StateFault::OutOfMemory), value),
+        }
     }
 
     /// The value. It nests at most 110.
@@ -99,7 +105,7 @@ impl State {
         self.value
     }
 
-    /// The same state again.
+    /// A copy of the state.
     pub fn copy(&self, alloc: Global) -> Result<State, OutOfMemory>
         ensures { IfOk result (λ s. s ≡ self.now) }
     {

@@ -1,12 +1,14 @@
+// The steps of a script.
+
 use arm_value::Text;
 
-/// What a script does at a call.
+/// What a script does at one call.
 #[derive(Drop)]
 pub enum Step {
-    /// It does what it is asked: a put is stored in its plain state, a deletion is gone.
+    /// Does what it is asked: a put is stored in its plain state, a deletion is done.
     Store,
-    /// It refuses by this code.
+    /// Refuses with this code.
     Refuse(Text),
-    /// It fails, and its count of faults rises.
+    /// Fails; the count of faults rises.
     Fail,
 }

@@ -1,8 +1,8 @@
 // Entries that are held, by their keys.
 
 use crate::table::{compare, compare_count};
-use arm_ids::{Entry, Held, Key};
-use arm_value::{OutOfMemory, Text, Value};
+use arm_ids::{Entry, Held, Key, PutFault};
+use arm_value::{Text, Value};
 use std::alloc::Global;
 use std::test::Fail;
 
@@ -12,7 +12,7 @@ const CAPITAL_B: &str = "/subscriptions/S/resourceGroups/G/providers/N/t/B";
 
 const C: &str = "/subscriptions/s/resourceGroups/g/providers/N/t/c";
 
-fn put(alloc: Global, held: &mut Held, id: &str, api: &str) -> Result<(), OutOfMemory> {
+fn put(alloc: Global, held: &mut Held, id: &str, api: &str) -> Result<(), PutFault> {
     let entry = Entry {
         id: Text::of(alloc, id)?,
         api: Text::of(alloc, api)?,
@@ -23,7 +23,7 @@ fn put(alloc: Global, held: &mut Held, id: &str, api: &str) -> Result<(), OutOfM
 }
 
 // Puts three entries, two of which have one key.
-fn put_three(alloc: Global, held: &mut Held) -> Result<(), OutOfMemory> {
+fn put_three(alloc: Global, held: &mut Held) -> Result<(), PutFault> {
     put(alloc, held, C, "1")?;
     put(alloc, held, B, "2")?;
     put(alloc, held, CAPITAL_B, "3")
@@ -79,4 +79,29 @@ fn an_entry_that_is_removed_is_not_held(rt: HostRuntime) -> Result<(), Fail> {
     let mut held = Held::new(rt.alloc());
     put_three(rt.alloc(), &mut held)?;
     check_removed(rt.alloc(), &held)
+}
+
+// Puts an entry whose id names no resource among three that are held, and compares the answer.
+fn check_refused(alloc: Global, held: &mut Held) -> Result<(), Fail> {
+    put_three(alloc, held)?;
+    match put(alloc, held, "/subscriptions/s/resourceGroups/g", "4") {
+        Ok(()) => compare("a group's id", "put", "refused"),
+        Err(fault) => check_refusal(alloc, held, fault),
+    }
+}
+
+fn check_refusal(alloc: Global, held: &Held, fault: PutFault) -> Result<(), Fail> {
+    let message = format!(in alloc; "{fault}")?;
+    compare(
+        "a group's id",
+        message.as_str(),
+        "the entry's id is no resource id",
+    )?;
+    check_held(alloc, held)
+}
+
+#[test]
+fn an_entry_whose_id_is_no_resource_id_is_refused(rt: HostRuntime) -> Result<(), Fail> {
+    let mut held = Held::new(rt.alloc());
+    check_refused(rt.alloc(), &mut held)
 }

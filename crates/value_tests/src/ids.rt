@@ -33,7 +33,7 @@ fn compare_key(
     }
 }
 
-// The type and the name, which stand apart by a blank.
+// The type and the name, with a blank between them.
 fn type_and_name(text: &str) -> (&str, &str) {
     text.split_once(' ').unwrap_or((text, ""))
 }
@@ -143,4 +143,20 @@ fn an_id_has_a_text_a_full_type_and_a_full_name(rt: HostRuntime) -> Result<(), F
     let text = "/SUBSCRIPTIONS/S/ResourceGroups/G/Providers/N.M/t/U/k/v";
     let id = ResourceId::read(rt.alloc(), text)?;
     check_parts(rt.alloc(), &id)
+}
+
+fn check_place(alloc: Global, place: &Place) -> Result<(), Fail> {
+    let copy = place.copy(alloc)?;
+    compare(
+        "the subscription",
+        copy.subscription.as_str(),
+        place.subscription.as_str(),
+    )?;
+    compare("the group", copy.group.as_str(), "g")
+}
+
+#[test]
+fn a_place_is_copied(rt: HostRuntime) -> Result<(), Fail> {
+    let place = place(rt.alloc())?;
+    check_place(rt.alloc(), &place)
 }

@@ -14,7 +14,11 @@ mod ids;
 #[cfg(test)]
 mod looking;
 #[cfg(test)]
+mod members;
+#[cfg(test)]
 mod reading;
+#[cfg(test)]
+mod scope_ids;
 #[cfg(test)]
 mod scopes;
 #[cfg(test)]

@@ -5,11 +5,9 @@ use Rattle.arm_env.proofs.objects.subscription.Goals as goal
 
 pub returns : goal.returns
 returns c =
-    subscription_put _ _ c.new-fields.result c.set_text.new.fields c.set_text-2.new.fields
-    c.new-fields.ensures
-    (c.in_ok-set_text.ensures
-    ∙ ap (λ t. put (chars (codes "id")) (text t) c.new-fields.result)
-    (c.from_string.ensures.characters ∙ c.in_ok-id.ensures))
-    (c.in_ok-set_text-2.ensures
-    ∙ ap (λ t. put (chars (codes "subscriptionId")) (text t) c.set_text.new.fields)
-    c.in_ok-subscription.ensures)
+    subscription_put _ _ c.new.result c.in_ok-fields.fields c.in_ok-fields-2.fields
+    c.new.ensures
+    (c.in_ok-fields.ensures
+    ∙ ap (λ t. put (chars (codes "id")) (text t) c.new.result)
+    (c.from_string-id.ensures.characters ∙ c.in_ok-subscription_text.ensures))
+    c.in_ok-fields-2.ensures

@@ -9,15 +9,16 @@ use Rattle.arm_env.specs.Answer.{Answer, answered, Gives, Stops, is, given, outc
 use Rattle.arm_env.specs.Sight.{known_by, here}
 use Rattle.arm_env.specs.Known.{around}
 use Rattle.arm_env.specs.declared.env.Looping.{Looping}
-use Rattle.arm_env.proofs.Answers.{goes, stops, answered-done}
-use Rattle.arm_eval.proofs.TurnLemmas.{array_given, array_stops, all_given, all_stop}
+use Rattle.arm_env.proofs.Answers.{goes, stops, answered-done, outcome_gives}
+use Rattle.arm_eval.proofs.TurnLemmas.{array_given, array_stops}
+use Rattle.arm_env.proofs.Turns.{all_given, all_stop}
 use Rattle.arm_eval.proofs.ObjectLemmas.{array_is, object_is, own_copy, own_told, own_stops, given_is, nothing_given}
 use Rattle.arm_eval.proofs.ObjectLemmas.{copies_are, no_copies, counted_given, counted_stops, object_told}
 use Rattle.arm_eval.proofs.ObjectLemmas.{own_stops_object, given_stops_object}
 use Rattle.arm_eval.proofs.RoundLemmas.{no_value_yet, value_turn, value_stops, no_own_yet, own_turn, own_turn_stops}
 use Rattle.arm_eval.proofs.RoundLemmas.{no_copy_yet, copy_turn, copy_stops, no_turn_yet, index_turn, index_stops}
 use Rattle.arm_eval.proofs.RoundLemmas.{all_turns}
-use Rattle.arm_eval.proofs.NestLemmas.{tree_nests, given_nest}
+use Rattle.arm_eval.proofs.NestLemmas.{nests_in_outcome, given_nest}
 use Rattle.arm_eval.proofs.tree.+tree.Goals as goal
 
 pub tree_value-returns-in-Null : goal.tree_value-returns-in-Null
@@ -35,12 +36,22 @@ tree_value-returns-in-Int t c =
     ap (λ v. answered (known_by c.args.sight.now) (tree_value (json v) (here c.args.sight.now))) c.in-Int.is
     ∙ answered-done (known_by c.args.sight.now) (Some (int c.in-Int.number)) ∙ search rules
 
-pub outcome-returns-in-Ok-clause-nests : goal.outcome-returns-in-Ok-clause-nests
-outcome-returns-in-Ok-clause-nests t c =
-    tree_nests (known_by c.args.sight.now) (here c.args.sight.now) (json c.args.tree.now) (json c.in-Ok.value)
-    c.in-Ok.ensures
+pub outcome-returns-clause-value : goal.outcome-returns-clause-value
+outcome-returns-clause-value t c =
+    let p = known_by c.args.sight.now in
+    rw c.outcome.ensures
+    (outcome_gives json c.tree_value.result (answered p (tree_value (json c.args.tree.now) (here c.args.sight.now)))
+    c.tree_value.ensures)
 
--- ---- the values of trees
+pub outcome-returns-clause-nests : goal.outcome-returns-clause-nests
+outcome-returns-clause-nests t c =
+    rw c.outcome.ensures
+    (nests_in_outcome (known_by c.args.sight.now) (here c.args.sight.now) (json c.args.tree.now) c.tree_value.result
+    c.tree_value.ensures)
+
+pub copied_outcome-returns : goal.copied_outcome-returns
+copied_outcome-returns t c =
+    rw c.outcome.ensures (outcome_gives member c.copied.result _ c.copied.ensures)
 
 pub values-outcome-requires : goal.values-outcome-requires
 values-outcome-requires t c =
@@ -54,20 +65,19 @@ values-outcome-requires t c =
 pub values-loop-tree-init : goal.values-loop-tree-init
 values-loop-tree-init t c = no_value_yet (known_by c.args.sight.now) (here c.args.sight.now) _ (ap Some c.new.ensures)
 
-pub values-returns-in_err-value : goal.values-returns-in_err-value
-values-returns-in_err-value t c =
-    let r = err_from_is_err_and c.from_residual.result c.from_residual.ensures.1 in
-    rw (r.1, r.2)
+pub values-returns-in-Err : goal.values-returns-in-Err
+values-returns-in-Err t c =
+    rw c.stopped.ensures
     (value_stops (known_by c.args.sight.now) (here c.args.sight.now) _ c.args.trees.now c.loop-tree.tree-index
     c.tree-item.result c.loop-tree.values c.loop-tree-test.true c.tree-item.is c.loop-tree.invariant
-    c.in_err-value.ensures.value)
+    c.in-Err.ensures.value)
 
 pub values-loop-tree-preserved : goal.values-loop-tree-preserved
 values-loop-tree-preserved t c =
     value_turn (known_by c.args.sight.now) (here c.args.sight.now) c.args.trees.now c.loop-tree.tree-index
     c.tree-item.result c.loop-tree.values _ c.loop-tree-test.true c.tree-item.is c.loop-tree.invariant
-    c.in_ok-value.ensures.value
-    ∙ ap given (sym c.in_ok-values.ensures)
+    c.in-Ok.ensures.value
+    ∙ ap given (sym c.in_ok-values-in-Ok.ensures)
 
 -- ---- own members
 
@@ -84,20 +94,19 @@ pub own_members-loop-field-init : goal.own_members-loop-field-init
 own_members-loop-field-init t c =
     no_own_yet (known_by c.args.sight.now) (here c.args.sight.now) _ (ap Some c.new.ensures)
 
-pub own_members-returns-in_err-found : goal.own_members-returns-in_err-found
-own_members-returns-in_err-found t c =
-    let r = err_from_is_err_and c.from_residual.result c.from_residual.ensures.1 in
-    rw (r.1, r.2)
+pub own_members-returns-in-Err : goal.own_members-returns-in-Err
+own_members-returns-in-Err t c =
+    rw c.stopped.ensures
     (own_turn_stops (known_by c.args.sight.now) (here c.args.sight.now) _ c.args.fields.now
     c.loop-field.field-index c.field-item.result c.loop-field.own c.loop-field-test.true c.field-item.is
-    c.loop-field.invariant c.in_err-found.ensures.value)
+    c.loop-field.invariant c.in-Err.ensures.value)
 
 pub own_members-loop-field-preserved : goal.own_members-loop-field-preserved
 own_members-loop-field-preserved t c =
     own_turn (known_by c.args.sight.now) (here c.args.sight.now) c.args.fields.now c.loop-field.field-index
     c.field-item.result c.loop-field.own _ c.loop-field-test.true c.field-item.is c.loop-field.invariant
-    c.in_ok-found.ensures.value
-    ∙ ap given (sym c.in_ok-own.ensures)
+    c.in-Ok.ensures.value
+    ∙ ap given (sym c.in_ok-own-in-Ok.ensures)
 
 -- ---- the members that loops give
 
@@ -115,20 +124,19 @@ each_copied-loop-tree-init t c =
     no_copy_yet (known_by c.args.sight.now) (here c.args.sight.now) _
     (ap (λ vs. Some (map member vs)) c.new.ensures.items)
 
-pub each_copied-returns-in_err-field : goal.each_copied-returns-in_err-field
-each_copied-returns-in_err-field t c =
-    let r = err_from_is_err_and c.from_residual.result c.from_residual.ensures.1 in
-    rw (r.1, r.2)
+pub each_copied-returns-in-Err : goal.each_copied-returns-in-Err
+each_copied-returns-in-Err t c =
+    rw c.stopped.ensures
     (copy_stops (known_by c.args.sight.now) (here c.args.sight.now) _ c.args.trees.now c.loop-tree.tree-index
     c.tree-item.result (option_map (λ v. map member v.items) c.loop-tree.given) c.loop-tree-test.true
-    c.tree-item.is c.loop-tree.invariant c.in_err-field.ensures)
+    c.tree-item.is c.loop-tree.invariant c.in-Err.ensures)
 
 pub each_copied-loop-tree-preserved : goal.each_copied-loop-tree-preserved
 each_copied-loop-tree-preserved t c =
     copy_turn (known_by c.args.sight.now) (here c.args.sight.now) c.args.trees.now c.loop-tree.tree-index
     c.tree-item.result (option_map (λ v. map member v.items) c.loop-tree.given) _ c.loop-tree-test.true
-    c.tree-item.is c.loop-tree.invariant c.in_ok-field.ensures
-    ∙ ap given (sym c.in_ok-given.ensures)
+    c.tree-item.is c.loop-tree.invariant c.in-Ok.ensures
+    ∙ ap given (sym c.in_ok-given-in-Ok.ensures)
 
 -- ---- an array
 
@@ -222,33 +230,31 @@ object_value-returns-in_err-own t c =
           c.as_slice-fields.ensures.members,
     ) (own_stops_object (known_by c.args.sight.now) _ _ _ _ c.in_err-own.ensures)
 
-pub object_value-returns-in_err-given : goal.object_value-returns-in_err-given
-object_value-returns-in_err-given t c =
-    let r = err_from_is_err_and c.from_residual-in_err-given.result c.from_residual-in_err-given.ensures.1 in
+pub object_value-returns-in-Err : goal.object_value-returns-in-Err
+object_value-returns-in-Err t c =
     rw (
-      r.1,
-      r.2,
+      c.stopped.ensures,
       object_is (here c.args.sight.now) c.args.fields.now c.as_slice-fields.result.now
           c.as_slice-fields.ensures.members,
     )
-    (given_stops_object (known_by c.args.sight.now) _ _ _ _ _ c.in_ok-own.ensures c.in_err-given.ensures)
+    (given_stops_object (known_by c.args.sight.now) _ _ _ _ _ c.in_ok-own.ensures c.in-Err.ensures)
 
-pub object_value-returns : goal.object_value-returns
-object_value-returns t c =
+pub object_value-returns-in-Ok : goal.object_value-returns-in-Ok
+object_value-returns-in-Ok t c =
     let p = known_by c.args.sight.now in
     let P : Answer Json → Type 0 = Gives json c.whole_object.result in
     subst P
     (sym
     (ap (answered p)
     (object_is (here c.args.sight.now) c.args.fields.now c.as_slice-fields.result.now
-    c.as_slice-fields.ensures.members) ∙ object_told p _ _ _ _ _ c.in_ok-own.ensures c.in_ok-given.ensures))
+    c.as_slice-fields.ensures.members) ∙ object_told p _ _ _ _ _ c.in_ok-own.ensures c.in-Ok.ensures))
     c.whole_object.ensures
 
 pub object_value-whole_object-requires : goal.object_value-whole_object-requires
 object_value-whole_object-requires t c =
     let deep =
     given_nest (known_by c.args.sight.now) (here c.args.sight.now) (map member c.as_slice-fields.result.now)
-    (map member c.in_ok-given.given.items) c.in_ok-given.ensures in
+    (map member c.in-Ok.given.items) c.in-Ok.ensures in
     omega (arith, deep)
 
 -- ---- a loop
@@ -270,8 +276,8 @@ counting-returns-in-Some t c =
     goes p (tree_value (json c.args.tree.now) (here c.args.sight.now)) _ _ c.in_ok-value.ensures
     ∙ answered-done p (count_of (json c.in_ok-value.value)) ∙ ap given (sym c.in-Some.ensures)
 
-pub counting-returns : goal.counting-returns
-counting-returns t c =
+pub counting-returns-in-None : goal.counting-returns-in-None
+counting-returns-in-None t c =
     let p = known_by c.args.sight.now in
     goes p (tree_value (json c.args.tree.now) (here c.args.sight.now)) _ _ c.in_ok-value.ensures
     ∙ answered-done p (count_of (json c.in_ok-value.value)) ∙ ap given (sym c.in-None.ensures)
@@ -323,22 +329,21 @@ turns-loop-index-init t c = record {
       (Some c.new.result) (ap Some c.new.ensures);
 }
 
-pub turns-returns-in_err-value : goal.turns-returns-in_err-value
-turns-returns-in_err-value t c =
-    let r = err_from_is_err_and c.from_residual-in_err-value.result c.from_residual-in_err-value.ensures.1 in
+pub turns-returns-in-Err : goal.turns-returns-in-Err
+turns-returns-in-Err t c =
     let p = known_by c.args.sight.now in
     let near = c.as_slice.ensures.value
     ∙ c.turn_to.ensures c.args.copy.now.name.now c.loop-index.invariant.nearest.0 c.args.sight.now.loops.now
     c.loop-index.invariant.nearest.1 in
     let P : List Looping
     → Type 0 =
-    λ ls. Stops c.in_err-value.field-0.0
+    λ ls. Stops c.in-Err.stop
     (outcome_answer
     (answered p
     (tree_value (json c.args.copy.now.input.now) (record (around c.args.sight.now.env.now) { loops = ls })))) in
-    rw (r.1, r.2) (index_stops p (copying_of c.args.copy.now) (here c.args.sight.now) c.in_err-value.field-0.0
+    rw c.stopped.ensures (index_stops p (copying_of c.args.copy.now) (here c.args.sight.now) c.in-Err.stop
     c.args.count c.loop-index.index c.loop-index.values c.loop-index-test.true c.loop-index.invariant.values
-    (subst P near c.in_err-value.ensures.value))
+    (subst P near c.in-Err.ensures.value))
 
 pub turns-loop-index-preserved : goal.turns-loop-index-preserved
 turns-loop-index-preserved t c =
@@ -352,13 +357,13 @@ turns-loop-index-preserved t c =
     λ ls. outcome_answer
     (answered p
     (tree_value (json c.args.copy.now.input.now) (record (around c.args.sight.now.env.now) { loops = ls })))
-    ≡ is (option_map json c.in_ok-value.value) in
+    ≡ is (option_map json c.in-Ok.value) in
     record {
       nearest = (c.loop-index.index, turned);
       values = index_turn p (copying_of c.args.copy.now) (here c.args.sight.now) c.args.count c.loop-index.index
-          c.loop-index.values (option_map json c.in_ok-value.value) c.loop-index-test.true
-          c.loop-index.invariant.values (subst P near c.in_ok-value.ensures.value)
-          ∙ ap given (sym c.in_ok-values.ensures);
+          c.loop-index.values (option_map json c.in-Ok.value) c.loop-index-test.true
+          c.loop-index.invariant.values (subst P near c.in-Ok.ensures.value)
+          ∙ ap given (sym c.in_ok-values-in-Ok.ensures);
     }
 
 pub turns-returns : goal.turns-returns

@@ -4,7 +4,7 @@ use Rattle.arm_expr.specs.Print.{arguments_onto, left_onto, HaveInts}
 use Rattle.arm_expr.specs.View.{text_of, tree_of}
 use Rattle.arm_expr.proofs.printer.+printing.Given as goal
 
--- what is left goes behind what is written, and its ints are all that is to be shown
+-- what is left goes after what is written, and its ints are all that is to be shown
 abbrev pub invariant-put_arguments-loop-argument : goal.invariant-put_arguments-loop-argument
 invariant-put_arguments-loop-argument l =
     ((k : List ℕ) → text_of l.out ++ left_onto l.first (trees (map tree_of (drop l.argument-index l.arguments))) k

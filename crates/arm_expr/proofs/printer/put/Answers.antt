@@ -1,7 +1,7 @@
 use Rattle.std.proofs.Common.{◌∙◌, ap, rules}
 use Rattle.std.specs.Str.{chars}
 use Rattle.std.proofs.lemmas.Str.{IsUtf8-had}
-use Rattle.arm_expr.proofs.LexerLemmas.{chars-push}
+use Rattle.foundation.proofs.Characters.{chars-push}
 use Rattle.arm_expr.proofs.printer.put.Goals as goal
 
 pub returns : goal.returns

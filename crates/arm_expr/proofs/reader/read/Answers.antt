@@ -37,14 +37,14 @@ pub returns-in-Ok-None-clause-spelled : goal.returns-in-Ok-None-clause-spelled
 returns-in-Ok-None-clause-spelled c =
     λ e s l d. read_as (chars c.args.text.now) (Err TooDeep) e 24576 64 (returns-in-Ok-None-clause-answer c) s l d
 
-pub returns-in-Err-NotAnExpression-clause-answer : goal.returns-in-Err-NotAnExpression-clause-answer
-returns-in-Err-NotAnExpression-clause-answer c = (
+pub returns-in-Err-Refused-clause-answer : goal.returns-in-Err-Refused-clause-answer
+returns-in-Err-Refused-clause-answer c = (
   omega arith,
   answered (chars c.args.text.now) (chars c.in-Some.inner.now) None c.in-Some.ensures
-      (rw c.in-Err-NotAnExpression.field-0-is at c.in-Err-NotAnExpression.ensures),
+      (rw c.in-Err-Refused.field-0-is at c.in-Err-Refused.ensures),
 )
 
-pub returns-in-Err-NotAnExpression-clause-spelled : goal.returns-in-Err-NotAnExpression-clause-spelled
-returns-in-Err-NotAnExpression-clause-spelled c =
+pub returns-in-Err-Refused-clause-spelled : goal.returns-in-Err-Refused-clause-spelled
+returns-in-Err-Refused-clause-spelled c =
     λ e s l d. read_as (chars c.args.text.now) (Err NotAnExpression) e 24576 64
-    (returns-in-Err-NotAnExpression-clause-answer c) s l d
+    (returns-in-Err-Refused-clause-answer c) s l d

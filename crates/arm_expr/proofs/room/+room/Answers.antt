@@ -4,13 +4,13 @@ use Rattle.arm_expr.specs.View.{tree_of}
 use Rattle.arm_expr.proofs.PrintLemmas.{one_at_least, next_argument}
 use Rattle.arm_expr.proofs.room.+room.Goals as goal
 
-pub behind_arguments-returns-in_err-left : goal.behind_arguments-returns-in_err-left
-behind_arguments-returns-in_err-left t c =
+pub left_after_arguments-returns-in_err-left : goal.left_after_arguments-returns-in_err-left
+left_after_arguments-returns-in_err-left t c =
     rw c.from_residual.ensures
     (omega (arith, one_at_least 0 (trees (map tree_of c.args.arguments.now)), c.in_err-left.ensures))
 
-pub behind_arguments-returns-in_err-checked_sub : goal.behind_arguments-returns-in_err-checked_sub
-behind_arguments-returns-in_err-checked_sub t c =
+pub left_after_arguments-returns-in_err-checked_sub : goal.left_after_arguments-returns-in_err-checked_sub
+left_after_arguments-returns-in_err-checked_sub t c =
     let xs = c.args.arguments.now in
     let i = c.loop-argument.argument-index in
     rw c.from_residual-in_err-checked_sub.ensures
@@ -22,8 +22,8 @@ behind_arguments-returns-in_err-checked_sub t c =
       c.in_err-checked_sub.ensures,
     ))
 
-pub behind_arguments-returns-in_err-left-2 : goal.behind_arguments-returns-in_err-left-2
-behind_arguments-returns-in_err-left-2 t c =
+pub left_after_arguments-returns-in_err-left-2 : goal.left_after_arguments-returns-in_err-left-2
+left_after_arguments-returns-in_err-left-2 t c =
     let xs = c.args.arguments.now in
     let i = c.loop-argument.argument-index in
     rw c.from_residual-in_err-left-2.ensures

@@ -1,31 +1,34 @@
-use Rattle.std.proofs.Common.{sym, ap, ◌∙◌, codes}
+use Rattle.std.proofs.Common.{◌≡◌, ℕ, List, Bool, chars, codes, sym, ap, ◌∙◌}
 use Rattle.arm_value.specs.Look.{is_same_folded}
 use Rattle.arm_ids.proofs.WordLemmas.{chars_subscriptions, chars_groups, chars_providers}
 use Rattle.arm_ids.proofs.id.are_words.Goals as goal
 use Rattle.foundation.proofs.TruthValues.{first_fails, second_fails, third_decides}
 
-pub returns-then-not-is_word : goal.returns-then-not-is_word
-returns-then-not-is_word c =
-    first_fails (is_same_folded c.args.subscriptions.now (codes "subscriptions"))
-    (is_same_folded c.args.groups.now (codes "resourceGroups"))
-    (is_same_folded c.args.providers.now (codes "providers"))
-    (ap (is_same_folded c.args.subscriptions.now) (sym chars_subscriptions) ∙ sym c.is_word.ensures
-    ∙ c.if-not-is_word.true)
+-- the test of a segment against a fixed word
+test : (word segment : List ℕ) (r b : Bool) → r ≡ is_same_folded (chars word) segment → chars word ≡ word → r ≡ b
+    → is_same_folded word segment ≡ b
+test word segment r b e own known = ap (λ w. is_same_folded w segment) (sym own) ∙ sym e ∙ known
 
-pub returns-then-not-is_word-2 : goal.returns-then-not-is_word-2
-returns-then-not-is_word-2 c =
-    second_fails (is_same_folded c.args.subscriptions.now (codes "subscriptions"))
-    (is_same_folded c.args.groups.now (codes "resourceGroups"))
-    (is_same_folded c.args.providers.now (codes "providers"))
-    (ap (is_same_folded c.args.subscriptions.now) (sym chars_subscriptions) ∙ sym c.is_word.ensures
-    ∙ c.if-not-is_word.false) (ap (is_same_folded c.args.groups.now) (sym chars_groups) ∙ sym c.is_word-2.ensures
-    ∙ c.if-not-is_word-2.true)
+pub returns-then-not-equals_ignore_case : goal.returns-then-not-equals_ignore_case
+returns-then-not-equals_ignore_case c =
+    first_fails (is_same_folded (codes "subscriptions") c.args.subscriptions.now)
+    (is_same_folded (codes "resourceGroups") c.args.groups.now)
+    (is_same_folded (codes "providers") c.args.providers.now)
+    (test _ _ _ _ c.equals_ignore_case.ensures chars_subscriptions c.if-not-equals_ignore_case.true)
+
+pub returns-then-not-equals_ignore_case-2 : goal.returns-then-not-equals_ignore_case-2
+returns-then-not-equals_ignore_case-2 c =
+    second_fails (is_same_folded (codes "subscriptions") c.args.subscriptions.now)
+    (is_same_folded (codes "resourceGroups") c.args.groups.now)
+    (is_same_folded (codes "providers") c.args.providers.now)
+    (test _ _ _ _ c.equals_ignore_case.ensures chars_subscriptions c.if-not-equals_ignore_case.false)
+    (test _ _ _ _ c.equals_ignore_case-2.ensures chars_groups c.if-not-equals_ignore_case-2.true)
 
 pub returns : goal.returns
 returns c =
-    third_decides (is_same_folded c.args.subscriptions.now (codes "subscriptions"))
-    (is_same_folded c.args.groups.now (codes "resourceGroups"))
-    (is_same_folded c.args.providers.now (codes "providers")) c.is_word-3.result
-    (ap (is_same_folded c.args.subscriptions.now) (sym chars_subscriptions) ∙ sym c.is_word.ensures
-    ∙ c.if-not-is_word.false) (ap (is_same_folded c.args.groups.now) (sym chars_groups) ∙ sym c.is_word-2.ensures
-    ∙ c.if-not-is_word-2.false) (c.is_word-3.ensures ∙ ap (is_same_folded c.args.providers.now) chars_providers)
+    third_decides (is_same_folded (codes "subscriptions") c.args.subscriptions.now)
+    (is_same_folded (codes "resourceGroups") c.args.groups.now)
+    (is_same_folded (codes "providers") c.args.providers.now) c.equals_ignore_case-3.result
+    (test _ _ _ _ c.equals_ignore_case.ensures chars_subscriptions c.if-not-equals_ignore_case.false)
+    (test _ _ _ _ c.equals_ignore_case-2.ensures chars_groups c.if-not-equals_ignore_case-2.false)
+    (c.equals_ignore_case-3.ensures ∙ ap (λ w. is_same_folded w c.args.providers.now) chars_providers)

@@ -1,8 +1,8 @@
 use Rattle.std.proofs.Common.{◌≡◌, drop, ◌<◌, ◌^◌, ◌-◌, ◌≤◌}
-use Rattle.bicep_lexer.specs.Escapes.{closed_number}
+use Rattle.bicep_lexer.specs.Reader.Scanning.{closed_number}
 use Rattle.bicep_lexer.proofs.escapes.closed_number.Given as goal
 
--- what the rest writes behind the digits so far is what all bytes write, and the number fits its digits
+-- the bytes that are left, after the digits so far, write what all bytes write, and the number fits its digits
 abbrev pub invariant-loop-byte : goal.invariant-loop-byte
 invariant-loop-byte l = record {
   same : closed_number l.digits l.number (drop l.byte-index l.bytes) ≡ closed_number 6 0 l.bytes;

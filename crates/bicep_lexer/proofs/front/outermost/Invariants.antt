@@ -1,5 +1,5 @@
 use Rattle.std.proofs.Common.{◌≡◌, drop}
-use Rattle.bicep_lexer.specs.Fronts.{outermost}
+use Rattle.bicep_lexer.specs.Grammar.{outermost}
 use Rattle.bicep_lexer.proofs.front.outermost.Given as goal
 
 -- no text was open so far

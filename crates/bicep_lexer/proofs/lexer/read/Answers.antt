@@ -1,5 +1,7 @@
 use Rattle.std.proofs.Common.{map, [], refl, ap, ◌∙◌, arith}
-use Rattle.bicep_lexer.specs.Reading.{standing, mark_length, reading}
+use Rattle.bicep_lexer.specs.Reading.{standing}
+use Rattle.bicep_lexer.specs.Grammar.{mark_length}
+use Rattle.bicep_lexer.specs.Reader.Steps.{reading}
 use Rattle.bicep_lexer.proofs.Steps.{whole-start, whole_same}
 use Rattle.bicep_lexer.proofs.lexer.read.Goals as goal
 

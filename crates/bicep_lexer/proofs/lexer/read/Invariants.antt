@@ -1,6 +1,7 @@
 use Rattle.std.proofs.Common.{◌≡◌, ◌≤◌, ◌-◌, length, map}
-use Rattle.bicep_lexer.specs.Reading.{standing, reading}
-use Rattle.bicep_lexer.specs.Progress.{whole}
+use Rattle.bicep_lexer.specs.Reading.{standing}
+use Rattle.bicep_lexer.specs.Reader.Steps.{reading}
+use Rattle.bicep_lexer.specs.Reader.Steps.{whole}
 use Rattle.bicep_lexer.proofs.lexer.read.Given as goal
 
 -- what was found and what is left are read as the source is

@@ -1,4 +1,4 @@
-use Rattle.bicep_lexer.proofs.Laws.{spelled, alone, faultless, refused, refused_alone, unspelled, sliced}
+use Rattle.bicep_lexer.proofs.Laws.{spelled, alone, faultless, refused, refused_alone, unspelled, sliced, signed}
 use Rattle.bicep_lexer.proofs.lexer.tokens.Goals as goal
 
 pub returns-clause-spelled : goal.returns-clause-spelled
@@ -21,3 +21,6 @@ returns-clause-unspelled c = unspelled c.args.text.now c.read.result c.read.ensu
 
 pub returns-clause-sliced : goal.returns-clause-sliced
 returns-clause-sliced c = sliced c.args.text.now c.read.result c.read.ensures.tokens
+
+pub returns-clause-signed : goal.returns-clause-signed
+returns-clause-signed c = signed c.args.text.now c.read.result c.read.ensures.tokens

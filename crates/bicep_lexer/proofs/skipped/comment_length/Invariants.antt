@@ -1,5 +1,5 @@
 use Rattle.std.proofs.Common.{◌≡◌, ◌+◌, drop, option_map}
-use Rattle.bicep_lexer.specs.Skipped.{comment_length}
+use Rattle.bicep_lexer.specs.Reader.Scanning.{comment_length}
 use Rattle.bicep_lexer.proofs.skipped.comment_length.Given as goal
 
 -- what the rest still has, and what was passed

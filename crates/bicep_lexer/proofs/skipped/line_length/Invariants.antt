@@ -1,5 +1,5 @@
 use Rattle.std.proofs.Common.{◌≡◌, ◌+◌, drop}
-use Rattle.bicep_lexer.specs.Skipped.{line_length}
+use Rattle.bicep_lexer.specs.Reader.Scanning.{line_length}
 use Rattle.bicep_lexer.proofs.skipped.line_length.Given as goal
 
 -- what the rest still has, and what was passed

@@ -1,5 +1,5 @@
 use Rattle.std.proofs.Common.{◌∙◌, ◌+◌, sym, true, false}
-use Rattle.bicep_lexer.specs.Texts.{piece_end}
+use Rattle.bicep_lexer.specs.Reader.Scanning.{piece_end}
 use Rattle.bicep_lexer.proofs.Scans.{escaped_step, plain_step, escape_step, tail_is, ended_step}
 use Rattle.bicep_lexer.proofs.texts.piece_end.Goals as goal
 use Rattle.bicep_lexer.proofs.texts.piece_end.Goals.{then-escaped}

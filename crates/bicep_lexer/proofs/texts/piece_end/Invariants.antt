@@ -1,5 +1,5 @@
 use Rattle.std.proofs.Common.{◌≡◌, drop, false}
-use Rattle.bicep_lexer.specs.Texts.{piece_end, further}
+use Rattle.bicep_lexer.specs.Reader.Scanning.{piece_end, further}
 use Rattle.bicep_lexer.proofs.texts.piece_end.Given as goal
 
 -- how the rest ends, seen from the front

@@ -1,5 +1,5 @@
 use Rattle.std.proofs.Common.{◌≡◌, ◌+◌, drop, option_map}
-use Rattle.bicep_lexer.specs.Texts.{verbatim_length}
+use Rattle.bicep_lexer.specs.Reader.Scanning.{verbatim_length}
 use Rattle.bicep_lexer.proofs.texts.verbatim_length.Given as goal
 
 -- what the rest still has, and what was passed

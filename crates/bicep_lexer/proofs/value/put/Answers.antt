@@ -1,7 +1,7 @@
 use Rattle.std.proofs.Common.{◌∙◌, ap, rules}
 use Rattle.std.specs.Str.{chars}
 use Rattle.std.proofs.lemmas.Str.{IsUtf8-had}
-use Rattle.bicep_lexer.proofs.Characters.{chars-push}
+use Rattle.foundation.proofs.Characters.{chars-push}
 use Rattle.bicep_lexer.proofs.value.put.Goals as goal
 
 pub returns : goal.returns

@@ -8,7 +8,7 @@ returns-in-Ok-clause-declared c = declared_sound (file_of c.args.file.now) c.in-
 pub returns-in-Ok-clause-literal : goal.returns-in-Ok-clause-literal
 returns-in-Ok-clause-literal c = declared_literal (file_of c.args.file.now) c.in-Ok.resources.items c.in-Ok.ensures
 
-pub returns-in-Err-NotLiteral-clause-refused : goal.returns-in-Err-NotLiteral-clause-refused
-returns-in-Err-NotLiteral-clause-refused c =
-    let none = rw c.in-Err-NotLiteral.field-0-is at c.in-Err-NotLiteral.ensures in
+pub returns-in-Err-Refused-clause-refused : goal.returns-in-Err-Refused-clause-refused
+returns-in-Err-Refused-clause-refused c =
+    let none = rw c.in-Err-Refused.field-0-is at c.in-Err-Refused.ensures in
     λ e. none_declared (file_of c.args.file.now) none

@@ -8,13 +8,13 @@ use Rattle.bicep_parser.specs.Refused.{Refuses, TellsPlace}
 use Rattle.literal_template.specs.declared.resource.Resource.{Resource}
 use Rattle.bicep_literal.specs.Source.{TreeDeclares}
 use Rattle.bicep_literal.specs.Refused.{IsRefused}
-use Rattle.bicep_literal.proofs.Sources.{refused_told, no_file_told, not_literal}
+use Rattle.bicep_literal.proofs.Sources.{refused_lexical, refused_syntax, not_literal}
 use Rattle.bicep_literal.proofs.source.resources.Goals as goal
 
 pub returns-in-Err-clause-refused : goal.returns-in-Err-clause-refused
 returns-in-Err-clause-refused c =
-    subst (IsRefused c.args.source.now) (sym c.told.ensures)
-    (refused_told c.args.source.now c.in-Err.fault c.in-Err.ensures.refused c.in-Err.ensures.unspelled)
+    subst (IsRefused c.args.source.now) (sym c.lexical_fault.ensures)
+    (refused_lexical c.args.source.now c.in-Err.fault c.in-Err.ensures.refused c.in-Err.ensures.unspelled)
 
 pub returns-in-Err-parse-clause-refused : goal.returns-in-Err-parse-clause-refused
 returns-in-Err-parse-clause-refused c =
@@ -23,8 +23,8 @@ returns-in-Err-parse-clause-refused c =
     let place =
     subst (λ (ts : List Token). TellsPlace (map standing ts) c.in-Err-parse.fault) c.as_slice.ensures.value
     c.in-Err-parse.ensures.place in
-    subst (IsRefused c.args.source.now) (sym c.told_syntax.ensures)
-    (no_file_told c.tokens_spell_one_file.ensures c.args.source.now (map standing c.in-Ok.found.items)
+    subst (IsRefused c.args.source.now) (sym c.syntax_fault.ensures)
+    (refused_syntax c.tokens_spell_one_file.ensures c.args.source.now (map standing c.in-Ok.found.items)
     c.in-Err-parse.fault c.in-Ok.ensures.spelled refused place)
 
 pub returns-in-Err-NotLiteral-clause-refused : goal.returns-in-Err-NotLiteral-clause-refused

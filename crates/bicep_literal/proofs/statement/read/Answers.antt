@@ -1,14 +1,15 @@
 use Rattle.std.proofs.Common.{map, sym}
 use Rattle.bicep_tree.specs.View as view
 use Rattle.bicep_literal.specs.Entries.{statement_entry}
-use Rattle.bicep_literal.proofs.LoopLemmas.{entries_are, rest_begins, rest_more, rest_stops, rest_ends}
+use Rattle.foundation.proofs.OptionLoops.{rest_begins, rest_more, rest_stops, rest_ends}
+use Rattle.bicep_literal.proofs.PartLemmas.{entries_are}
 use Rattle.bicep_literal.proofs.statement.read.Goals as goal
 
 pub loop-statement-init : goal.loop-statement-init
 loop-statement-init c =
     rw c.new-found.ensures.items
     (rest_begins statement_entry view.statement_of c.args.file.now _
-    (sym (entries_are (map view.statement_of c.args.file.now))))
+    (sym (entries_are view.statement_of c.args.file.now)))
 
 pub returns-in-Err : goal.returns-in-Err
 returns-in-Err c =

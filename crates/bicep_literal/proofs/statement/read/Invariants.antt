@@ -1,7 +1,7 @@
 use Rattle.std.proofs.Common.{drop}
 use Rattle.bicep_tree.specs.View as view
 use Rattle.bicep_literal.specs.Entries.{statement_entry, read}
-use Rattle.bicep_literal.proofs.LoopLemmas.{Rest}
+use Rattle.foundation.proofs.OptionLoops.{Rest}
 use Rattle.bicep_literal.proofs.statement.read.Given as goal
 
 -- the entries so far, and those of what is left

@@ -1,6 +1,6 @@
 use Rattle.std.proofs.Common.{◌≤◌, length, subst}
 use Rattle.bicep_tree.specs.View as view
-use Rattle.bicep_literal.proofs.LoopLemmas.{none_decorated}
+use Rattle.bicep_literal.proofs.PartLemmas.{none_decorated}
 use Rattle.bicep_literal.proofs.statement.statement_entry.Goals as goal
 
 pub returns-in-len1-up : goal.returns-in-len1-up

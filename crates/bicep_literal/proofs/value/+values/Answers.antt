@@ -4,14 +4,15 @@ use Rattle.bicep_tree.specs.View as view
 use Rattle.bicep_tree.specs.View.{tree_of}
 use Rattle.bicep_literal.specs.Values.{value_of, member_of}
 use Rattle.bicep_literal.proofs.ValueLemmas.{map-push}
-use Rattle.bicep_literal.proofs.LoopLemmas.{values_are, members_are, rest_begins, rest_more, rest_stops, rest_ends}
+use Rattle.foundation.proofs.OptionLoops.{rest_begins, rest_more, rest_stops, rest_ends}
+use Rattle.bicep_literal.proofs.PartLemmas.{values_are, members_are}
 use Rattle.bicep_literal.proofs.value.+values.Goals as goal
 
 pub fields-loop-member-init : goal.fields-loop-member-init
 fields-loop-member-init t c =
     rw (ap (map member) c.new-found.ensures.items)
     (rest_begins member_of view.member_of c.args.members.now _
-    (sym (members_are (map view.member_of c.args.members.now))))
+    (sym (members_are view.member_of c.args.members.now)))
 
 pub fields-returns-in-Err : goal.fields-returns-in-Err
 fields-returns-in-Err t c =
@@ -35,7 +36,7 @@ fields-returns t c = rest_ends member_of view.member_of (map member c.loop-membe
 pub values-loop-expr-init : goal.values-loop-expr-init
 values-loop-expr-init t c =
     rw (ap (map json) c.new-found.ensures.items)
-    (rest_begins value_of tree_of c.args.exprs.now _ (sym (values_are (map tree_of c.args.exprs.now))))
+    (rest_begins value_of tree_of c.args.exprs.now _ (sym (values_are tree_of c.args.exprs.now)))
 
 pub values-returns-in-Err : goal.values-returns-in-Err
 values-returns-in-Err t c =

@@ -5,7 +5,7 @@ use Rattle.bicep_tree.specs.View.{tree_of}
 use Rattle.bicep_literal.specs.Values.{value_of, values_of, each_of, member_of}
 use Rattle.bicep_tree.specs.Tree.{trees}
 use Rattle.bicep_tree.specs.Tree as tree
-use Rattle.bicep_literal.proofs.LoopLemmas.{Rest}
+use Rattle.foundation.proofs.OptionLoops.{Rest}
 use Rattle.bicep_literal.proofs.value.+values.Given as goal
 
 -- the members so far, and those of what is left

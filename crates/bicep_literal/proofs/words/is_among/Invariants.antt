@@ -5,5 +5,5 @@ use Rattle.bicep_literal.proofs.words.is_among.Given as goal
 
 abbrev pub invariant-loop-word : goal.invariant-loop-word
 invariant-loop-word l =
-    list_any (λ (w : Bor (List ℕ)). is_same_folded (chars l.text) (chars w.now)) l.words
-    ≡ list_any (λ (w : Bor (List ℕ)). is_same_folded (chars l.text) (chars w.now)) (drop l.word-index l.words)
+    list_any (λ (w : Bor (List ℕ)). is_same_folded (chars w.now) l.text) l.words
+    ≡ list_any (λ (w : Bor (List ℕ)). is_same_folded (chars w.now) l.text) (drop l.word-index l.words)

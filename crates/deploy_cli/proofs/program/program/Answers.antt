@@ -20,16 +20,16 @@ returns-in-Err-resources-clause-refused c =
     (subst (λ (b : List ℕ). IsNoSource b c.in-Err-resources.fault) (c.in-Ok.ensures.cases.0 ∙ c.as_slice.ensures)
     c.in-Err-resources.ensures.refused)
 
-pub returns-then-as_slice-gt-LARGEST_TEMPLATE-clause-refused
-    : goal.returns-then-as_slice-gt-LARGEST_TEMPLATE-clause-refused
-returns-then-as_slice-gt-LARGEST_TEMPLATE-clause-refused c =
+pub returns-then-as_slice-gt-MAX_TEMPLATE_BYTES-clause-refused
+    : goal.returns-then-as_slice-gt-MAX_TEMPLATE_BYTES-clause-refused
+returns-then-as_slice-gt-MAX_TEMPLATE_BYTES-clause-refused c =
     too_large c.args.bytes.now c.in-Ok-resources.declared.items c.a_source_declares_one_list.ensures
     (subst (λ (b : List ℕ). IsUtf8 b) c.as_slice.ensures c.in-Ok.ensures.cases.1)
     (subst (λ (b : List ℕ). SourceDeclares b c.in-Ok-resources.declared.items) (c.in-Ok.ensures.cases.0
     ∙ c.as_slice.ensures) c.in-Ok-resources.ensures.declared)
     (omega (
       arith,
-      c.if-as_slice-gt-LARGEST_TEMPLATE.true,
+      c.if-as_slice-gt-MAX_TEMPLATE_BYTES.true,
       ap (λ (b : List ℕ). length b) (c.as_slice-3.ensures ∙ c.in-Ok-write.ensures.text
           ∙ ap template_bytes c.as_slice-2.ensures.value),
     ))
@@ -47,7 +47,7 @@ returns-in-Ok-read-clause-program c =
       small =
           omega (
             arith,
-            c.if-as_slice-gt-LARGEST_TEMPLATE.false,
+            c.if-as_slice-gt-MAX_TEMPLATE_BYTES.false,
             ap (λ (b : List ℕ). length b) (c.as_slice-3.ensures ∙ c.in-Ok-write.ensures.text
                 ∙ ap template_bytes c.as_slice-2.ensures.value),
           );

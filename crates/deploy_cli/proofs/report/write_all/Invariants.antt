@@ -4,7 +4,8 @@ use Rattle.deploy_cli.proofs.report.write_all.Given as goal
 abbrev pub invariant-loop-done : goal.invariant-loop-done
 invariant-loop-done g l = record {
   within : l.done ≤ length l.bytes;
-  told : g.O.Sink.tells_written ≡ true → g.O.Sink.written l.out ≡ g.O.Sink.written l.initial.out ++ take l.done l.bytes;
+  written : g.O.Sink.tells_written ≡ true
+      → g.O.Sink.written l.out ≡ g.O.Sink.written l.initial.out ++ take l.done l.bytes;
   faults : g.O.Sink.faults l.out ≡ g.O.Sink.faults l.initial.out;
 }
 

@@ -10,6 +10,6 @@ pub returns : goal.returns
 returns c =
     let same = kept_same (object (pairs c.args.fields))
     (json c.in_ok-outputs.outputs) c.in_ok-outputs.ensures in
-    let all = shown_put (object (pairs c.args.fields)) c.set.new.self
-    (rw (c.in_ok-set.ensures, c.new-whole.ensures, same) refl) in
+    let all = shown_put (object (pairs c.args.fields)) c.in_ok-whole.whole
+    (rw (c.in_ok-whole.ensures, c.new.ensures, same) refl) in
     subst (λ (j : Json). Gives json c.keep-2.result (given (kept j))) all c.keep-2.ensures

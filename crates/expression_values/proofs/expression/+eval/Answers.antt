@@ -5,7 +5,6 @@ use Rattle.std.proofs.lemmas.List.{drop_all}
 use Rattle.std.specs.Prelude.{if◌then◌else◌}
 use Rattle.arm_value.specs.Json.{Json, bool, null}
 use Rattle.arm_value.specs.View.{json}
-use Rattle.arm_value.proofs.JsonLemmas.{map-push}
 use Rattle.arm_expr.specs.View.{tree_of}
 use Rattle.arm_expr.specs.declared.expr.Expr.{Expr}
 use Rattle.function_numbers.specs.Kinds.{truth_of}
@@ -14,17 +13,17 @@ use Rattle.expression_values.specs.Row.{if_row, all_true, one_true, first_there,
 use Rattle.expression_values.specs.Row.{is_null, chosen}
 use Rattle.arm_env.specs.Look.{Looking}
 use Rattle.expression_values.specs.Meaning.{value, held}
-use Rattle.arm_env.specs.Answer.{Answer, answered, Gives, is, so_far, outcome_answer}
-use Rattle.arm_env.specs.Sight.{known_by, here}
-use Rattle.expression_values.specs.Args.{outs}
-use Rattle.arm_env.proofs.Answers.{goes, stops, answered-done}
+use Rattle.arm_env.specs.Answer.{Answer, answered, Gives, is, given}
+use Rattle.arm_env.specs.Sight.{known_by, here, held_of}
+use Rattle.expression_values.specs.Args.{outs, all_json}
+use Rattle.arm_env.proofs.Answers.{goes, stops, answered-done, outcome_gives}
 use Rattle.expression_values.proofs.EvalLemmas.{turn, stops_at, too_few, three, if_wrong, if_args}
 use Rattle.expression_values.proofs.EvalLemmas.{held-Member, held-Index, index_told, index_stops}
 use Rattle.expression_values.proofs.EvalLemmas.{base_stops_index}
-use Rattle.arm_env.proofs.Gather.{gathered-nil, one_value, one_none, all_stops}
+use Rattle.arm_env.proofs.Gather.{gathered-nil}
+use Rattle.arm_env.proofs.Turns.{turned, turn_stops, all_turned, all_given, all_stop}
+use Rattle.expression_values.proofs.EvalLemmas.{there, nowhere}
 use Rattle.expression_values.proofs.expression.+eval.Goals as goal
-use Rattle.expression_values.proofs.expression.+eval.Goals.{all_values-in-Some+in_ok-push-in-Some}
-use Rattle.expression_values.proofs.expression.+eval.Goals.{all_values-in-None}
 use Rattle.expression_values.proofs.expression.+eval.Goals.{if_value-in_default-via-then-args-lt3}
 use Rattle.expression_values.proofs.expression.+eval.Goals.{if_value-in_default-via-else-args-lt3+else-args-lt4}
 
@@ -134,23 +133,24 @@ first_there-returns-in_err-value t c =
     c.arg-item.result c.loop-arg-test.true c.arg-item.is c.loop-arg.invariant)
     c.in_err-value.ensures)
 
-pub first_there-returns-then-not-is_null : goal.first_there-returns-then-not-is_null
-first_there-returns-then-not-is_null t c =
+pub first_there-returns-in-Some : goal.first_there-returns-in-Some
+first_there-returns-in-Some t c =
     let p = known_by c.args.sight.now in
-    let is : is_null (json c.in_ok-value.value) ≡ false = grind arith in
+    let found = there (is_null (json c.in_ok-value.value)) _ _ c.in-Some.ensures in
     let rest =
     first_there (outs (here c.args.sight.now) (drop (c.loop-arg.arg-index + 1) c.args.args.now))
     in
     turn first_there p (here c.args.sight.now) c.args.args.now c.loop-arg.arg-index
     c.arg-item.result c.loop-arg-test.true c.arg-item.is c.loop-arg.invariant
     ∙ goes p _ _ _ c.in_ok-value.ensures
-    ∙ ap (λ b. answered p (if b then rest else pure (json c.in_ok-value.value))) is
-    ∙ answered-done p (Some (json c.in_ok-value.value))
+    ∙ ap (λ b. answered p (if b then rest else pure (json c.in_ok-value.value))) found.0
+    ∙ answered-done p (Some (json c.in_ok-value.value)) ∙ ap is (sym found.1)
 
 pub first_there-loop-arg-preserved : goal.first_there-loop-arg-preserved
 first_there-loop-arg-preserved t c =
     let p = known_by c.args.sight.now in
-    let is : is_null (json c.in_ok-value.value) ≡ true = grind arith in
+    let is : is_null (json c.in_ok-value.value) ≡ true =
+    nowhere (is_null (json c.in_ok-value.value)) _ c.in-None.ensures in
     let rest =
     first_there (outs (here c.args.sight.now) (drop (c.loop-arg.arg-index + 1) c.args.args.now))
     in
@@ -178,45 +178,44 @@ pub coalesce_value-returns-then-args-lt1 : goal.coalesce_value-returns-then-args
 coalesce_value-returns-then-args-lt1 t c =
     too_few 1 (known_by c.args.sight.now) (here c.args.sight.now) c.args.args.now _ (omega arith)
 
+pub outcome-returns : goal.outcome-returns
+outcome-returns t c =
+    rw c.outcome.ensures (outcome_gives json c.value_of.result _ c.value_of.ensures)
+
+pub held_outcome-returns : goal.held_outcome-returns
+held_outcome-returns t c =
+    rw c.outcome.ensures (outcome_gives held_of c.held.result _ c.held.ensures)
+
 pub all_values-loop-arg-init : goal.all_values-loop-arg-init
 all_values-loop-arg-init t c = gathered-nil Json (known_by c.args.sight.now) (List Json) (λ xs. xs)
-    ∙ ap (λ vs. is (map json vs)) (sym c.new-values.ensures.items)
+    ∙ ap (λ vs. is (map json vs)) (sym c.new.ensures.items)
 
-pub all_values-returns-in_err-value : goal.all_values-returns-in_err-value
-all_values-returns-in_err-value t c =
-    let r = err_from_is_err_and c.from_residual.result c.from_residual.ensures.1 in
-    rw (r.1, r.2) (all_stops Json Expr (known_by c.args.sight.now)
+pub all_values-returns-in-Err : goal.all_values-returns-in-Err
+all_values-returns-in-Err t c =
+    let p = known_by c.args.sight.now in
+    rw c.stopped.ensures
+    (all_stop p _ _ (turn_stops Json p (List Json) (λ xs. xs) Expr
     (λ e. value (here c.args.sight.now) (tree_of e)) _ c.args.args.now c.loop-arg.arg-index
-    c.arg-item.result c.loop-arg.complete
-    (map json c.loop-arg.values.items) c.loop-arg-test.true c.arg-item.is c.loop-arg.invariant
-    c.in_err-value.ensures)
+    c.arg-item.result (option_map all_json c.loop-arg.values) c.loop-arg-test.true c.arg-item.is
+    c.loop-arg.invariant c.in-Err.ensures))
 
 pub all_values-loop-arg-preserved : goal.all_values-loop-arg-preserved
 all_values-loop-arg-preserved t c =
+    turned Json (known_by c.args.sight.now) (List Json) (λ xs. xs) Expr
+    (λ e. value (here c.args.sight.now) (tree_of e)) (λ xs v. xs ++ v ∷ []) (λ xs v. refl)
+    c.args.args.now c.loop-arg.arg-index c.arg-item.result (option_map all_json c.loop-arg.values) _
+    c.loop-arg-test.true c.arg-item.is c.loop-arg.invariant c.in-Ok.ensures
+    ∙ ap given (sym c.in_ok-values-in-Ok.ensures)
+
+pub all_values-returns : goal.all_values-returns
+all_values-returns t c =
     let p = known_by c.args.sight.now in
-    let h : Expr → Looking Json = λ e. value (here c.args.sight.now) (tree_of e) in
-    elim c.match-branch-2.branch [
-      | all_values-in-Some+in_ok-push-in-Some w ↦
-          let found : outcome_answer (answered p (h c.arg-item.result))
-          ≡ is (Some (json w.in-Some.value)) =
-          c.in_ok-value.ensures ∙ ap (λ o. is (option_map json o)) w.in-Some.is in
-          let items = ap (λ v. v.items) w.values-is ∙ w.in_ok-push-in-Some.ensures.items in
-          one_value Json p (List Json) (λ xs. xs) Expr h (λ xs v. xs ++ v ∷ [])
-          (λ xs v. refl) c.args.args.now c.loop-arg.arg-index c.arg-item.result
-          c.loop-arg.complete (map json c.loop-arg.values.items)
-          (json w.in-Some.value) c.loop-arg-test.true c.arg-item.is c.loop-arg.invariant found
-          ∙ ap (so_far c.loop-arg.complete)
-          (sym (ap (map json) items ∙ map-push json c.loop-arg.values.items w.in-Some.value))
-          ∙ ap (λ b. so_far b (map json c.match-branch-2.values.items)) (sym w.complete-is)
-      | all_values-in-None w ↦
-          let found : outcome_answer (answered p (h c.arg-item.result)) ≡ is None =
-          c.in_ok-value.ensures ∙ ap (λ o. is (option_map json o)) w.in-None.is in
-          one_none Json p (List Json) (λ xs. xs) Expr h c.args.args.now c.loop-arg.arg-index
-          c.arg-item.result c.loop-arg.complete (map json c.loop-arg.values.items)
-          (map json c.match-branch-2.values.items) c.loop-arg-test.true c.arg-item.is
-          c.loop-arg.invariant found
-          ∙ ap (λ b. so_far b (map json c.match-branch-2.values.items)) (sym w.complete-is)
-    ]
+    let P : Answer (List Json) → Type 0 = Gives all_json c.if_all.result in
+    subst P
+    (sym (all_given p _ _ (all_turned Json p (List Json) (λ xs. xs) Expr
+    (λ e. value (here c.args.sight.now) (tree_of e)) c.args.args.now c.loop-arg.arg-index
+    (option_map all_json c.loop-arg.values) c.loop-arg-test.false c.loop-arg.invariant)))
+    c.if_all.ensures
 
 pub if_value-returns-in_default : goal.if_value-returns-in_default
 if_value-returns-in_default t c =
@@ -266,8 +265,8 @@ if_value-returns-in-Some-false t c =
     (chosen b (value h (tree_of c.yes-item.result)) (value h (tree_of c.no-item.result)))) is))
     c.value_of-in-Some-false.ensures
 
-pub if_value-returns : goal.if_value-returns
-if_value-returns t c =
+pub if_value-returns-in-None : goal.if_value-returns-in-None
+if_value-returns-in-None t c =
     let p = known_by c.args.sight.now in
     let h = here c.args.sight.now in
     let args = if_args p h _ _ _ _ _ (omega arith) c.condition-item.is c.yes-item.is c.no-item.is
@@ -279,8 +278,8 @@ if_value-returns t c =
 
 pub held-returns-in_err-base-in-Member : goal.held-returns-in_err-base-in-Member
 held-returns-in_err-base-in-Member t c =
-    let r = err_from_is_err_and c.from_residual-in_err-base-in-Member.result
-    c.from_residual-in_err-base-in-Member.ensures.1 in
+    let r = err_from_is_err_and c.from_residual.result
+    c.from_residual.ensures.1 in
     let h = here c.args.sight.now in
     let whole = ap (λ e. held h (tree_of e)) c.in-Member.is
     ∙ held-Member h c.in-Member.base c.in-Member.name in
@@ -312,20 +311,18 @@ held-returns-in_err-base-in-Index t c =
     (base_stops_index _ (known_by c.args.sight.now) h
     (held h (tree_of c.deref-in-Index.result.now)) _ c.in_err-base-in-Index.ensures)
 
-pub held-returns-in_err-index-in-Index : goal.held-returns-in_err-index-in-Index
-held-returns-in_err-index-in-Index t c =
-    let r = err_from_is_err_and c.from_residual-in_err-index-in-Index.result
-    c.from_residual-in_err-index-in-Index.ensures.1 in
+pub held-returns-in-Err : goal.held-returns-in-Err
+held-returns-in-Err t c =
     let h = here c.args.sight.now in
     let whole = ap (λ e. held h (tree_of e)) c.in-Index.is
     ∙ held-Index h c.in-Index.base c.in-Index.index in
-    rw (r.1, r.2, whole, sym c.deref-in-Index.ensures, sym c.deref-in-Index-2.ensures)
+    rw (c.stopped.ensures, whole, sym c.deref-in-Index.ensures, sym c.deref-in-Index-2.ensures)
     (index_stops _ (known_by c.args.sight.now) h (held h (tree_of c.deref-in-Index.result.now))
     (value h (tree_of c.deref-in-Index-2.result.now)) _ c.in_ok-base-in-Index.ensures
-    c.in_err-index-in-Index.ensures)
+    c.in-Err.ensures)
 
-pub held-returns-in_ok-index-in-Index : goal.held-returns-in_ok-index-in-Index
-held-returns-in_ok-index-in-Index t c =
+pub held-returns-in-Ok : goal.held-returns-in-Ok
+held-returns-in-Ok t c =
     let h = here c.args.sight.now in
     let whole = ap (λ e. held h (tree_of e)) c.in-Index.is
     ∙ held-Index h c.in-Index.base c.in-Index.index in
@@ -336,5 +333,5 @@ held-returns-in_ok-index-in-Index t c =
       index_told
           (known_by c.args.sight.now) h (held h (tree_of c.deref-in-Index.result.now))
           (value h (tree_of c.deref-in-Index-2.result.now)) _ _ c.in_ok-base-in-Index.ensures
-          c.in_ok-index-in-Index.ensures,
+          c.in-Ok.ensures,
     ) c.indexed.ensures

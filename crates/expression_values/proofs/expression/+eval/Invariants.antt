@@ -1,11 +1,10 @@
-use Rattle.std.proofs.Common.{◌≡◌, drop, take, map}
-use Rattle.arm_value.specs.View.{json}
+use Rattle.std.proofs.Common.{◌≡◌, drop, take, map, option_map}
 use Rattle.arm_expr.specs.View.{tree_of}
 use Rattle.expression_values.specs.Row.{all_true, one_true, first_there}
 use Rattle.expression_values.specs.Meaning.{value}
-use Rattle.arm_env.specs.Answer.{answered, gathered, so_far}
+use Rattle.arm_env.specs.Answer.{answered, gathered, given}
 use Rattle.arm_env.specs.Sight.{known_by, here}
-use Rattle.expression_values.specs.Args.{outs}
+use Rattle.expression_values.specs.Args.{outs, all_json}
 use Rattle.expression_values.proofs.expression.+eval.Given as goal
 
 -- the rest gives what the whole gives
@@ -29,4 +28,4 @@ abbrev pub invariant-all_values-loop-arg : goal.invariant-all_values-loop-arg
 invariant-all_values-loop-arg l =
     gathered (λ xs. xs) (known_by l.sight)
     (map (λ e. value (here l.sight) (tree_of e)) (take l.arg-index l.args))
-    ≡ so_far l.complete (map json l.values.items)
+    ≡ given (option_map all_json l.values)

@@ -1,6 +1,6 @@
-use Rattle.std.proofs.Common.{◌≡◌, ◌≤◌, ◌++◌, ◌∷◌, [], ℕ, List, ap, sym, ◌∙◌, map, subst, arith, IfOk}
+use Rattle.std.proofs.Common.{◌≡◌, ◌++◌, ap, sym, ◌∙◌, map, subst, arith, IfOk}
 use Rattle.arm_value.specs.Json.{members_nesting, pairs, IsInOrder}
-use Rattle.arm_value.specs.View.{json, member}
+use Rattle.arm_value.specs.View.{member}
 use Rattle.arm_value.proofs.JsonLemmas.{member_nests}
 use Rattle.function_lists.proofs.MergeLemmas.{merged, starts, united_in_order}
 use Rattle.function_lists.proofs.UnionLemmas.{united_more, united_ends, united_nests, rest_in_order}

@@ -1,5 +1,5 @@
 use Rattle.std.proofs.Common.{◌≡◌, ◌∙◌, [], ap, sym, map, option_map, subst, IfOk}
-use Rattle.arm_value.specs.Json.{object, pairs, put_each, IsInOrder}
+use Rattle.arm_value.specs.Json.{object, pairs, IsInOrder}
 use Rattle.arm_value.specs.View.{json, member}
 use Rattle.arm_value.proofs.JsonLemmas.{IsInOrder-nil}
 use Rattle.function_lists.specs.Values.{capped}

@@ -2,7 +2,7 @@ use Rattle.std.proofs.Common.{◌∙◌, ap, is_some, codes, refl}
 use Rattle.arm_value.specs.Json.{pairs}
 use Rattle.arm_value.specs.Look.{look_in}
 use Rattle.literal_template.specs.Template.{text_of}
-use Rattle.literal_template.proofs.Words.{word}
+use Rattle.foundation.proofs.AsciiWords.{word}
 use Rattle.literal_template.proofs.ReadLemmas.{is_some-map}
 use Rattle.literal_template.proofs.reader.has_version.Goals as goal
 

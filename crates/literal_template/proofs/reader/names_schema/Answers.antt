@@ -2,7 +2,7 @@ use Rattle.std.proofs.Common.{◌∙◌, ap, codes, refl}
 use Rattle.arm_value.specs.Json.{pairs}
 use Rattle.arm_value.specs.Look.{look_in}
 use Rattle.literal_template.specs.Template.{text_of, names_schema}
-use Rattle.literal_template.proofs.Words.{word}
+use Rattle.foundation.proofs.AsciiWords.{word}
 use Rattle.literal_template.proofs.reader.names_schema.Goals as goal
 
 pub returns-in_ok-is_schema-in-Some : goal.returns-in_ok-is_schema-in-Some

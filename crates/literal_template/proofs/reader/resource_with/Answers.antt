@@ -2,7 +2,7 @@ use Rattle.std.proofs.Common.{◌∙◌, sym, ap, codes, refl}
 use Rattle.arm_value.specs.Json.{pairs}
 use Rattle.arm_value.specs.Look.{look_in}
 use Rattle.literal_template.specs.Template.{text_of}
-use Rattle.literal_template.proofs.Words.{word}
+use Rattle.foundation.proofs.AsciiWords.{word}
 use Rattle.literal_template.proofs.ReadLemmas.{with_directive, other_heads, three_heads, no_kind, no_api, no_name}
 use Rattle.literal_template.proofs.ReadLemmas.{all_heads}
 use Rattle.literal_template.proofs.reader.resource_with.Goals as goal

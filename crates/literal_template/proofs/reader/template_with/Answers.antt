@@ -2,7 +2,7 @@ use Rattle.std.proofs.Common.{◌∙◌, sym, ap, is_some, codes, refl}
 use Rattle.arm_value.specs.Json.{pairs}
 use Rattle.arm_value.specs.Look.{look_in}
 use Rattle.literal_template.specs.Template.{text_of, has_three, names_schema, resources_in}
-use Rattle.literal_template.proofs.Words.{word}
+use Rattle.foundation.proofs.AsciiWords.{word}
 use Rattle.literal_template.proofs.ReadLemmas.{refused, accepted, not_first, not_second, not_third}
 use Rattle.literal_template.proofs.reader.template_with.Goals as goal
 

@@ -4,5 +4,5 @@ use Rattle.literal_template.proofs.resources.is_among.Given as goal
 
 abbrev pub invariant-loop-other : goal.invariant-loop-other
 invariant-loop-other l =
-    is_among (map (λ n. chars n.now) l.names) (chars l.name)
-    ≡ is_among (map (λ n. chars n.now) (drop l.other-index l.names)) (chars l.name)
+    is_among (map (λ n. chars n.now) l.names) l.name
+    ≡ is_among (map (λ n. chars n.now) (drop l.other-index l.names)) l.name

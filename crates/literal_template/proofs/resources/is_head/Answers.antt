@@ -1,8 +1,7 @@
-use Rattle.std.proofs.Common.{◌∙◌, ap}
 use Rattle.std.specs.Str.{chars}
-use Rattle.literal_template.specs.Resources.{is_among, heads, is_head}
+use Rattle.literal_template.specs.Resources.{is_head}
 use Rattle.literal_template.proofs.resources.is_head.Goals as goal
 
 pub returns : goal.returns
 unfolding is_head chars
-returns c = c.is_among.ensures ∙ ap (is_among heads) c.as_str.ensures.characters
+returns c = c.is_among.ensures

@@ -1,5 +1,5 @@
 use Rattle.std.proofs.Common.{codes, refl}
-use Rattle.literal_template.proofs.Words.{word}
+use Rattle.foundation.proofs.AsciiWords.{word}
 use Rattle.literal_template.proofs.WriteLemmas.{resource_made}
 use Rattle.literal_template.proofs.WholeLemmas.{whole_text}
 use Rattle.literal_template.proofs.writer.resource_value.Goals as goal

@@ -1,6 +1,6 @@
 use Rattle.std.proofs.Common.{codes, refl}
 use Rattle.literal_template.specs.Template.{schema}
-use Rattle.literal_template.proofs.Words.{word}
+use Rattle.foundation.proofs.AsciiWords.{word}
 use Rattle.literal_template.proofs.WriteLemmas.{head_made}
 use Rattle.literal_template.proofs.writer.template_head.Goals as goal
 

@@ -1,6 +1,6 @@
 use Rattle.std.proofs.Common.{ap, codes, refl, arith}
 use Rattle.arm_value.specs.Json.{items_nesting}
-use Rattle.literal_template.proofs.Words.{word}
+use Rattle.foundation.proofs.AsciiWords.{word}
 use Rattle.literal_template.proofs.WholeLemmas.{whole_head, whole_array}
 use Rattle.literal_template.proofs.WriteLemmas.{resources_nest, template_made}
 use Rattle.literal_template.proofs.writer.template_value.Goals as goal

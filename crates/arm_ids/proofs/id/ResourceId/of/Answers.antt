@@ -1,9 +1,10 @@
-use Rattle.std.proofs.Common.{chars, sym, ◌∙◌}
+use Rattle.std.proofs.Common.{chars, ap}
+use Rattle.arm_ids.specs.declared.id.ResourceId.{ResourceId}
 use Rattle.arm_ids.proofs.IdLemmas.{made}
 use Rattle.arm_ids.proofs.id.ResourceId.of.Goals as goal
 
-pub returns-clause-is_id : goal.returns-clause-is_id
-returns-clause-is_id c =
-    made _ (chars c.args.kind.now) (chars c.args.name.now) c.in_ok-segments.ensures c.in_ok-segments-2.ensures
-    (sym c.has_empty_segment.ensures ∙ c.if-has_empty_segment.false) (sym c.is_paired.ensures
-    ∙ c.if-not-is_paired.false)
+pub returns-in-None-clause-is_id : goal.returns-in-None-clause-is_id
+returns-in-None-clause-is_id c =
+    made _ (chars c.args.kind.now) (chars c.args.name.now)
+    (ap (λ (i : ResourceId). i.types) c.in_ok-id.ensures) (ap (λ (i : ResourceId). i.names) c.in_ok-id.ensures)
+    c.in-None.ensures.none.0 c.in-None.ensures.none.1

@@ -1,8 +1,8 @@
-use Rattle.std.proofs.Common.{Ok, Err, map, sym, ap, ◌∙◌, arith}
+use Rattle.std.proofs.Common.{Ok, Err, map, sym, arith}
 use Rattle.std.proofs.lemmas.List.{length-drop}
 use Rattle.bicep_lexer.specs.declared.front.Front.TheVariants as front
-use Rattle.bicep_lexer.specs.Reading.{standing, turned}
-use Rattle.bicep_lexer.proofs.Steps.{step_is, whole_same}
+use Rattle.bicep_lexer.specs.Reading.{standing}
+use Rattle.bicep_lexer.proofs.Steps.{step_is, whole_same, whole_same_at}
 use Rattle.bicep_lexer.proofs.lexer.Lexer.step.Goals as goal
 
 pub returns-in-Err-clause-fault : goal.returns-in-Err-clause-fault
@@ -36,16 +36,14 @@ returns-in_ok-push-in-Ok-Newline-clause-reading c =
     (sym (step_is s.text.now s.at s.opened.items s.line (map standing s.found.items)
     (Ok (front.Newline c.in-Ok-Newline.count)) c.requires is))
 
-pub push-requires-in-Ok-Word : goal.push-requires-in-Ok-Word
-push-requires-in-Ok-Word c = rw c.in-Ok-Word.field-0-is at c.in-Ok-Word.ensures.span
+pub word-requires : goal.word-requires
+word-requires c = rw c.in-Ok-Word.field-0-is at c.in-Ok-Word.ensures.span
 
-pub returns-in_ok-turn-in-Ok-Word-clause-reading : goal.returns-in_ok-turn-in-Ok-Word-clause-reading
-returns-in_ok-turn-in-Ok-Word-clause-reading c =
+pub returns-in_ok-word-in-Ok-Word-clause-reading : goal.returns-in_ok-word-in-Ok-Word-clause-reading
+returns-in_ok-word-in-Ok-Word-clause-reading c =
     let s = c.args.self.now in
     let is = rw c.in-Ok-Word.field-0-is at c.in-Ok-Word.ensures.value in
-    let p = c.in_ok-push-in-Ok-Word.ensures in
-    let t = c.in_ok-turn-in-Ok-Word.ensures in
-    whole_same _ _ _ _ _ _ _ _ _ _ (t.rest.0 ∙ p.rest.0) (t.rest.1 ∙ p.at) (t.opened
-    ∙ ap (turned c.in-Ok-Word.turn) p.rest.1) (t.rest.3 ∙ p.found)
+    let w = c.in_ok-word-in-Ok-Word.ensures in
+    whole_same_at _ _ _ _ _ _ _ _ _ _ _ w.text w.at w.opened w.line w.found
     (sym (step_is s.text.now s.at s.opened.items s.line (map standing s.found.items)
     (Ok (front.Word c.in-Ok-Word.kind c.in-Ok-Word.count c.in-Ok-Word.turn)) c.requires is))

@@ -1,14 +1,15 @@
-use Rattle.provider_trait.proofs.PlainLemmas.{nothing_named}
+use Rattle.provider_trait.specs.declared.named.Named.{Named}
+use Rattle.provider_trait.proofs.PlainLemmas.{nothing_named, if_field}
 use Rattle.provider_trait.proofs.named.Named.of.Goals as goal
 
-pub returns-in_ok-of-in-Err-NotAnId-2-clause-kind : goal.returns-in_ok-of-in-Err-NotAnId-2-clause-kind
-returns-in_ok-of-in-Err-NotAnId-2-clause-kind c =
-    (nothing_named c.args.id.now _ c.in_ok-of-in-Err-NotAnId.field-0 c.in-Err-NotAnId.field-0
-    c.as_str.ensures.characters c.in-Err-NotAnId.field-0-is c.in-Err-NotAnId.ensures.fault
-    c.in_ok-of-in-Err-NotAnId.ensures).0
+pub returns-in-Err-NotAnId-clause-kind : goal.returns-in-Err-NotAnId-clause-kind
+returns-in-Err-NotAnId-clause-kind c =
+    if_field (λ (n : Named). n.kind) c.nameless.result _ _
+    (nothing_named c.args.id.now _ c.in-Err-NotAnId.field-0 c.as_str.ensures.characters
+    c.in-Err-NotAnId.field-0-is c.in-Err-NotAnId.ensures.fault).0 c.nameless.ensures.kind
 
-pub returns-in_ok-of-in-Err-NotAnId-2-clause-name : goal.returns-in_ok-of-in-Err-NotAnId-2-clause-name
-returns-in_ok-of-in-Err-NotAnId-2-clause-name c =
-    (nothing_named c.args.id.now _ c.in_ok-of-in-Err-NotAnId-2.field-0 c.in-Err-NotAnId.field-0
-    c.as_str.ensures.characters c.in-Err-NotAnId.field-0-is c.in-Err-NotAnId.ensures.fault
-    c.in_ok-of-in-Err-NotAnId-2.ensures).1
+pub returns-in-Err-NotAnId-clause-name : goal.returns-in-Err-NotAnId-clause-name
+returns-in-Err-NotAnId-clause-name c =
+    if_field (λ (n : Named). n.name) c.nameless.result _ _
+    (nothing_named c.args.id.now _ c.in-Err-NotAnId.field-0 c.as_str.ensures.characters
+    c.in-Err-NotAnId.field-0-is c.in-Err-NotAnId.ensures.fault).1 c.nameless.ensures.name

@@ -1,0 +1,13 @@
+use Rattle.std.proofs.Common.{lit<}
+use Rattle.std.proofs.lemmas.Result.{IfOk-weaker}
+use Rattle.std.proofs.lemmas.Iterator.Consumers.{map_from_collect}
+use Rattle.std.proofs.lemmas.Iterator.Splits.{YieldsList-from_str_split}
+use Rattle.arm_ids.proofs.TextLemmas.{parts_are}
+use Rattle.arm_ids.proofs.segment.parts.Goals as goal
+
+pub returns : goal.returns
+returns c =
+    IfOk-weaker _ _ _ (λ v. parts_are v.items c.args.text.now c.utf8.text)
+    (map_from_collect _ c.collect.ensures.ran
+    (YieldsList-from_str_split 47 c.args.text.now (lit< tt) c.split.ensures.text c.split.ensures.has_more
+    c.split.ensures.pattern))

@@ -38,7 +38,7 @@ pub trait Disk: Send {
 
     /// The length of the part.
     fn length(&mut self, part: Part) -> Result<u64, Failed>
-        ensures told { IfOk result (λ n. tells_reads ≡ true
+        ensures size { IfOk result (λ n. tells_reads ≡ true
             → n ≡ length (on part (reads self.old))) }
         ensures reads { reads self.new ≡ reads self.old }
         ensures images { tells_images ≡ true → GoesOn moment left Unchanged self.old self.new }
@@ -49,7 +49,7 @@ pub trait Disk: Send {
     /// empty is the end.
     fn read_at(&mut self, part: Part, at: u64, buf: &mut [u8]) -> Result<usize, Failed>
         ensures bound { IfOk result (λ n. n ≤ length buf.old) }
-        ensures told { IfOk result (λ n. tells_reads ≡ true
+        ensures read { IfOk result (λ n. tells_reads ≡ true
             → ReadsAt at n (on part (reads self.old)) buf.new) }
         ensures reads { reads self.new ≡ reads self.old }
         ensures images { tells_images ≡ true → GoesOn moment left Unchanged self.old self.new }
@@ -60,7 +60,7 @@ pub trait Disk: Send {
     /// old end.
     fn write_at(&mut self, part: Part, at: u64, bytes: &[u8]) -> Result<(), Failed>
         requires { at + length bytes.now ≤ reach self.old }
-        ensures told { OnOk result (tells_reads ≡ true
+        ensures written { OnOk result (tells_reads ≡ true
             → At part (λ old new. new ≡ overwritten at bytes.now old)
             (reads self.old) (reads self.new)) }
         ensures other_part { tells_reads ≡ true
@@ -74,7 +74,7 @@ pub trait Disk: Send {
     /// past that length.
     fn cut(&mut self, part: Part, length: u64) -> Result<(), Failed>
         requires { length ≤ reach self.old }
-        ensures told { OnOk result (tells_reads ≡ true
+        ensures cut { OnOk result (tells_reads ≡ true
             → At part (λ old new. new ≡ resized length old) (reads self.old) (reads self.new)) }
         ensures other_part { tells_reads ≡ true
             → on (other part) (reads self.new) ≡ on (other part) (reads self.old) }

@@ -18,9 +18,9 @@ impl<D: Disk> Disk for &mut D {
 
     ghost reach_fits = { λ d. D.reach_fits d.now };
 
-    ghost reads_fit = { λ d told. D.reads_fit d.now told };
+    ghost reads_fit = { λ d reported. D.reads_fit d.now reported };
 
-    ghost reads_an_image = { λ d told. D.reads_an_image d.now told };
+    ghost reads_an_image = { λ d reported. D.reads_an_image d.now reported };
 
     fn length(&mut self, part: Part) -> Result<u64, Failed> {
         (**self).length(part)

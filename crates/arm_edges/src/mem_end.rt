@@ -69,7 +69,7 @@ impl Source for MemEnd {
 
     fn read(&mut self, buf: &mut [u8]) -> Result<usize, Failed>
         ensures bound { IfOk result (λ n. n ≤ length buf.old) }
-        ensures told { IfOk result (λ n. true ≡ true
+        ensures moved { IfOk result (λ n. true ≡ true
             → Moved n (drop self.old.source.taken self.old.source.bytes.items)
             (drop self.new.source.taken self.new.source.bytes.items) buf.new) }
         ensures received { IfOk result (λ n. true ≡ true
@@ -110,7 +110,7 @@ impl Sink for MemEnd {
     fn write(&mut self, bytes: &[u8]) -> Result<usize, Failed>
         ensures bound { IfOk result (λ n. n ≤ length bytes.now) }
         ensures some { IfOk result (λ n. 0 < length bytes.now → 0 < n) }
-        ensures told { IfOk result (λ n. true ≡ true
+        ensures written { IfOk result (λ n. true ≡ true
             → self.new.sink.bytes.items ≡ self.old.sink.bytes.items ++ take n bytes.now) }
         ensures failed { OnErr result (true ≡ true
             → self.new.sink.bytes.items ≡ self.old.sink.bytes.items) }

@@ -65,7 +65,7 @@ impl Sink for MemSink {
     fn write(&mut self, bytes: &[u8]) -> Result<usize, Failed>
         ensures bound { IfOk result (λ n. n ≤ length bytes.now) }
         ensures some { IfOk result (λ n. 0 < length bytes.now → 0 < n) }
-        ensures told { IfOk result (λ n. true ≡ true
+        ensures written { IfOk result (λ n. true ≡ true
             → self.new.bytes.items ≡ self.old.bytes.items ++ take n bytes.now) }
         ensures failed { OnErr result (true ≡ true → self.new.bytes.items ≡ self.old.bytes.items) }
         ensures apart { nothing_in ≡ nothing_in }

@@ -50,7 +50,7 @@ impl Source for MemSource {
 
     fn read(&mut self, buf: &mut [u8]) -> Result<usize, Failed>
         ensures bound { IfOk result (λ n. n ≤ length buf.old) }
-        ensures told { IfOk result (λ n. true ≡ true
+        ensures moved { IfOk result (λ n. true ≡ true
             → Moved n (drop self.old.taken self.old.bytes.items)
             (drop self.new.taken self.new.bytes.items) buf.new) }
         ensures received { IfOk result (λ n. true ≡ true

@@ -60,7 +60,7 @@ impl Tree for MemTree {
     ghost faults = { λ t. t.calls.faults };
 
     fn read_file(&mut self, alloc: Global, name: &str) -> Result<Option<Bytes>, TreeFault>
-        ensures told { true ≡ true → AnswersFile (file_in self.old.files.items name.now) result }
+        ensures answers { true ≡ true → AnswersFile (file_in self.old.files.items name.now) result }
         ensures size { IfOk result (λ o. IfSome o (λ bytes. length bytes ≤ 4194304)) }
         ensures stays { file_in self.new.files.items ≡ file_in self.old.files.items }
         ensures cause { FileCause self.old.calls.faults self.new.calls.faults result }

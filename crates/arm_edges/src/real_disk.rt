@@ -159,9 +159,9 @@ impl<R: Files<File = File> + Send + Drop> Disk for RealDisk<R> {
 
     ghost reach_fits = { λ _. largest_fits };
 
-    ghost reads_fit = { λ _ told. Prim.cc };
+    ghost reads_fit = { λ _ reported. Prim.cc };
 
-    ghost reads_an_image = { λ _ told. Prim.cc };
+    ghost reads_an_image = { λ _ reported. Prim.cc };
 
     fn length(&mut self, part: Part) -> Result<u64, Failed> {
         let answer = self.files.length(part);

@@ -60,7 +60,7 @@ impl<R: Net<Listener = TcpListener, Stream = TcpStream> + Drop> Link for RealLin
 
     ghost faults = { λ l. l.faults };
 
-    ghost ends_tell = { λ told. Prim.cc };
+    ghost ends_tell = { λ reported. Prim.cc };
 
     fn listen(&mut self, port: u16) -> Result<(), Failed> {
         let bound = TcpListener::bind(&self.rt, (Ipv4Addr::LOCALHOST, port));

@@ -65,7 +65,7 @@ impl<R: Files<File = File> + Drop> Tree for RealTree<R> {
 
     /// There is no file of a name that leaves the folder, or that begins at the root.
     fn read_file(&mut self, alloc: Global, name: &str) -> Result<Option<Bytes>, TreeFault>
-        ensures told { false ≡ true → AnswersFile (no_files name.now) result }
+        ensures answers { false ≡ true → AnswersFile (no_files name.now) result }
         ensures size { IfOk result (λ o. IfSome o (λ bytes. length bytes ≤ 4194304)) }
         ensures stays { no_files ≡ no_files }
         ensures cause { FileCause self.old.faults self.new.faults result }

@@ -24,7 +24,7 @@ pub trait Sink {
     fn write(&mut self, bytes: &[u8]) -> Result<usize, Failed>
         ensures bound { IfOk result (λ n. n ≤ length bytes.now) }
         ensures some { IfOk result (λ n. 0 < length bytes.now → 0 < n) }
-        ensures told { IfOk result (λ n. tells_written ≡ true
+        ensures written { IfOk result (λ n. tells_written ≡ true
             → written self.new ≡ written self.old ++ take n bytes.now) }
         ensures failed { OnErr result (tells_written ≡ true → written self.new ≡ written self.old) }
         ensures apart { incoming self.new ≡ incoming self.old }

@@ -27,7 +27,7 @@ pub trait Source {
     /// end.
     fn read(&mut self, buf: &mut [u8]) -> Result<usize, Failed>
         ensures bound { IfOk result (λ n. n ≤ length buf.old) }
-        ensures told { IfOk result (λ n. tells_rest ≡ true
+        ensures moved { IfOk result (λ n. tells_rest ≡ true
             → Moved n (rest self.old) (rest self.new) buf.new) }
         ensures received { IfOk result (λ n. tells_rest ≡ true
             → received self.new ≡ received self.old ++ take n buf.new) }

@@ -19,7 +19,7 @@ pub trait Tree {
 
     /// The file of that name, or none where there is no such file. A file above 4,194,304 bytes is too large.
     fn read_file(&mut self, alloc: Global, name: &str) -> Result<Option<Bytes>, TreeFault>
-        ensures told { tells_files ≡ true → AnswersFile (file self.old name.now) result }
+        ensures answers { tells_files ≡ true → AnswersFile (file self.old name.now) result }
         ensures size { IfOk result (λ o. IfSome o (λ bytes. length bytes ≤ 4194304)) }
         ensures stays { file self.new ≡ file self.old }
         ensures cause { FileCause (faults self.old) (faults self.new) result };

@@ -17,36 +17,36 @@ use Rattle.arm_env.proofs.Answers.{both_answers, answered-done, answered-continu
 abbrev pub before : {A : Type 0} → Answer A → Answer (List A) → Answer (List A)
 before s t = next (both_answers s t) (λ p. is (p.0 ∷ p.1))
 
-abbrev pub behind : {A : Type 0} → Answer (List A) → Answer (List A) → Answer (List A)
-behind s t = next (both_answers s t) (λ p. is (p.0 ++ p.1))
+abbrev pub followed : {A : Type 0} → Answer (List A) → Answer (List A) → Answer (List A)
+followed s t = next (both_answers s t) (λ p. is (p.0 ++ p.1))
 
 module _ (A : Type 0) where
-  before_behind : (s : Answer A) (t u : Answer (List A))
-      → before s (behind t u) ≡ behind (before s t) u
-  before_behind (needs k) t u = refl
-  before_behind is_late t u = refl
-  before_behind (is x) (needs k) u = refl
-  before_behind (is x) is_late u = refl
-  before_behind (is x) (is xs) (is ys) = refl
-  before_behind (is x) (is xs) is_none = refl
-  before_behind (is x) (is xs) (needs k) = refl
-  before_behind (is x) (is xs) is_late = refl
-  before_behind (is x) is_none (is ys) = refl
-  before_behind (is x) is_none is_none = refl
-  before_behind (is x) is_none (needs k) = refl
-  before_behind (is x) is_none is_late = refl
-  before_behind is_none (needs k) u = refl
-  before_behind is_none is_late u = refl
-  before_behind is_none (is xs) (is ys) = refl
-  before_behind is_none (is xs) is_none = refl
-  before_behind is_none (is xs) (needs k) = refl
-  before_behind is_none (is xs) is_late = refl
-  before_behind is_none is_none (is ys) = refl
-  before_behind is_none is_none is_none = refl
-  before_behind is_none is_none (needs k) = refl
-  before_behind is_none is_none is_late = refl
+  before_followed : (s : Answer A) (t u : Answer (List A))
+      → before s (followed t u) ≡ followed (before s t) u
+  before_followed (needs k) t u = refl
+  before_followed is_late t u = refl
+  before_followed (is x) (needs k) u = refl
+  before_followed (is x) is_late u = refl
+  before_followed (is x) (is xs) (is ys) = refl
+  before_followed (is x) (is xs) is_none = refl
+  before_followed (is x) (is xs) (needs k) = refl
+  before_followed (is x) (is xs) is_late = refl
+  before_followed (is x) is_none (is ys) = refl
+  before_followed (is x) is_none is_none = refl
+  before_followed (is x) is_none (needs k) = refl
+  before_followed (is x) is_none is_late = refl
+  before_followed is_none (needs k) u = refl
+  before_followed is_none is_late u = refl
+  before_followed is_none (is xs) (is ys) = refl
+  before_followed is_none (is xs) is_none = refl
+  before_followed is_none (is xs) (needs k) = refl
+  before_followed is_none (is xs) is_late = refl
+  before_followed is_none is_none (is ys) = refl
+  before_followed is_none is_none is_none = refl
+  before_followed is_none is_none (needs k) = refl
+  before_followed is_none is_none is_late = refl
 
-  nothing_before : (t : Answer (List A)) → behind (is []) t ≡ t
+  nothing_before : (t : Answer (List A)) → followed (is []) t ≡ t
   nothing_before (is xs) = refl
   nothing_before is_none = refl
   nothing_before (needs k) = refl
@@ -71,18 +71,18 @@ module _ (A : Type 0) where
         ∙ ap (λ t. next t (λ q. is (q.0 ∷ q.1))) (answered-both p o (all os))
 
     all-append : (os ps : List (Looking A))
-        → answered p (all (os ++ ps)) ≡ behind (answered p (all os)) (answered p (all ps))
-    all-append [] ps = sym (ap (λ t. behind t (answered p (all ps))) all-nil ∙ nothing_before _)
+        → answered p (all (os ++ ps)) ≡ followed (answered p (all os)) (answered p (all ps))
+    all-append [] ps = sym (ap (λ t. followed t (answered p (all ps))) all-nil ∙ nothing_before _)
     all-append (o ∷ os) ps =
         all-cons o (os ++ ps) ∙ ap (before (answered p o)) (all-append os ps)
-        ∙ before_behind (answered p o) _ _
-        ∙ ap (λ t. behind t (answered p (all ps))) (sym (all-cons o os))
+        ∙ before_followed (answered p o) _ _
+        ∙ ap (λ t. followed t (answered p (all ps))) (sym (all-cons o os))
 
     all-more : (os : List (Looking A)) (o : Looking A)
-        → answered p (all (os ++ o ∷ [])) ≡ behind (answered p (all os))
+        → answered p (all (os ++ o ∷ [])) ≡ followed (answered p (all os))
         (before (answered p o) (is []))
     all-more os o = all-append os (o ∷ [])
-        ∙ ap (behind (answered p (all os))) (all-cons o [] ∙ ap (before (answered p o)) all-nil)
+        ∙ ap (followed (answered p (all os))) (all-cons o [] ∙ ap (before (answered p o)) all-nil)
 
     module _ (B : Type 0) (f : List A → B) where
       pub gathered-nil : gathered f p [] ≡ is (f [])
@@ -92,7 +92,7 @@ module _ (A : Type 0) where
       turn_value : (g : B → A → B) → ((xs : List A) (x : A) → f (xs ++ x ∷ []) ≡ g (f xs) x)
           → (t : Answer (List A)) (c : Bool) (b : B) (x : A)
           → next t (λ xs. is (f xs)) ≡ so_far c b
-          → next (behind t (before (is x) (is []))) (λ xs. is (f xs)) ≡ so_far c (g b x)
+          → next (followed t (before (is x) (is []))) (λ xs. is (f xs)) ≡ so_far c (g b x)
       turn_value g h (is xs) true b x e = let same : f xs ≡ b = cc in
           ap is (h xs x ∙ ap (λ b. g b x) same)
       turn_value g h (is xs) false b x e = absurd cc
@@ -104,7 +104,7 @@ module _ (A : Type 0) where
       turn_value g h is_late false b x e = absurd cc
 
       turn_none : (t : Answer (List A)) (c : Bool) (b : B) → next t (λ xs. is (f xs)) ≡ so_far c b
-          → next (behind t (before is_none (is []))) (λ xs. is (f xs)) ≡ is_none
+          → next (followed t (before is_none (is []))) (λ xs. is (f xs)) ≡ is_none
       turn_none (is xs) c b e = refl
       turn_none is_none c b e = refl
       turn_none (needs k) true b e = absurd cc
@@ -114,7 +114,7 @@ module _ (A : Type 0) where
 
       turn_stops : (s : Stop) (t u : Answer (List A)) (c : Bool) (b : B) (a : Answer A)
           → next t (λ xs. is (f xs)) ≡ so_far c b → Stops s (outcome_answer a)
-          → Stops s (next (behind t (before a u)) (λ xs. is (f xs)))
+          → Stops s (next (followed t (before a u)) (λ xs. is (f xs)))
       turn_stops stop.NoValue t u c b (is x) e h = absurd cc
       turn_stops stop.NoValue t u c b is_none e h = absurd cc
       turn_stops stop.NoValue t u c b (needs k) e h = absurd cc
@@ -166,7 +166,7 @@ module _ (A : Type 0) where
 
         more_is : (xs : List X) (i : ℕ) (x : X) → i < length xs → x ≡ get_or xs i x
             → gathered f p (map h (take (i + 1) xs))
-            ≡ next (behind (answered p (all (map h (take i xs))))
+            ≡ next (followed (answered p (all (map h (take i xs))))
             (before (answered p (h x)) (is []))) (λ xs. is (f xs))
         more_is xs i x l e =
             rw add-one (ap (gathered f p) (taken xs i x l e)
@@ -179,7 +179,7 @@ module _ (A : Type 0) where
             → gathered f p (map h (take (i + 1) xs)) ≡ so_far c (g b a)
         one_value g k xs i x c b a l e before_it found =
             more_is xs i x l e
-            ∙ ap (λ t. next (behind (answered p (all (map h (take i xs)))) (before t (is [])))
+            ∙ ap (λ t. next (followed (answered p (all (map h (take i xs)))) (before t (is [])))
             (λ xs. is (f xs))) (valued _ a found)
             ∙ turn_value g k (answered p (all (map h (take i xs)))) c b a before_it
 
@@ -189,7 +189,7 @@ module _ (A : Type 0) where
             → gathered f p (map h (take (i + 1) xs)) ≡ so_far false d
         one_none xs i x c b d l e before_it found =
             more_is xs i x l e
-            ∙ ap (λ t. next (behind (answered p (all (map h (take i xs)))) (before t (is [])))
+            ∙ ap (λ t. next (followed (answered p (all (map h (take i xs)))) (before t (is [])))
             (λ xs. is (f xs))) (voided _ found)
             ∙ turn_none (answered p (all (map h (take i xs)))) c b before_it
 
@@ -200,12 +200,12 @@ module _ (A : Type 0) where
         one_stops s xs i x c b l e before_it found =
             let rest = answered p (all (map h (drop (suc i) xs))) in
             let whole : gathered f p (map h xs)
-            ≡ next (behind (answered p (all (map h (take i xs))))
+            ≡ next (followed (answered p (all (map h (take i xs))))
             (before (answered p (h x)) rest)) (λ xs. is (f xs)) =
             ap (gathered f p) (cut xs i x l e)
             ∙ ap (λ t. next t (λ xs. is (f xs)))
             (all-append (map h (take i xs)) (h x ∷ map h (drop (suc i) xs))
-            ∙ ap (behind (answered p (all (map h (take i xs)))))
+            ∙ ap (followed (answered p (all (map h (take i xs)))))
             (all-cons (h x) (map h (drop (suc i) xs)))) in
             let P : Answer B → Type 0 = Stops s in
             subst P (sym whole)

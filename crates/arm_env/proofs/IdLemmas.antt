@@ -7,11 +7,8 @@ use Rattle.std.proofs.Math.Seq.{drop-cons}
 use Rattle.std.proofs.lemmas.List.{drop_all, length_push}
 use Rattle.std.proofs.lemmas.Bool.Decides.{nat_tests}
 use Rattle.arm_ids.specs.Segments.{slashed, has_slash, is_slash}
-
-slashed-append : (xs ys : List (List ℕ)) → slashed (xs ++ ys) ≡ slashed xs ++ slashed ys
-slashed-append [] ys = refl
-slashed-append (x ∷ xs) ys = ap (λ r. 47 ∷ (x ++ r)) (slashed-append xs ys)
-    ∙ sym (ap (λ r. 47 ∷ r) (append_assoc x (slashed xs) (slashed ys)))
+use Rattle.foundation.proofs.Lists.{next_character}
+use Rattle.arm_ids.proofs.IdLemmas.{slashed-append}
 
 -- a text with a segment more
 pub one_more : (xs : List (List ℕ)) (t u s : List ℕ) → t ≡ slashed xs → u ≡ t ++ 47 ∷ s
@@ -31,11 +28,6 @@ first t u s a e f g = f ∙ ap (λ t. t ++ 47 ∷ s) e ∙ ap (λ r. 47 ∷ r) (
 pub next_one : (xs : List (List ℕ)) (t u s a : List ℕ) → t ≡ slashed xs → u ≡ t ++ 47 ∷ s → s ≡ a
     → u ≡ slashed (xs ++ a ∷ [])
 next_one xs t u s a e f g = one_more xs t u s e f ∙ ap (λ s. slashed (xs ++ s ∷ [])) g
-
--- the next character of a text that is searched for a slash
-next_character : (cs : List ℕ) (i c : ℕ) → i < length cs → c ≡ get_or cs i c
-    → drop i cs ≡ c ∷ drop (i + 1) cs
-next_character cs i c l e = rw (add-one, drop-cons cs i c l) (ap (λ d. d ∷ drop (suc i) cs) (sym e))
 
 pub slash_there : (cs ys : List ℕ) (c : ℕ) → (length ys < length cs) × (c ≡ get_or cs (length ys) c)
     → c ≡ 47 → has_slash cs ≡ has_slash (drop (length ys) cs) → true ≡ has_slash cs

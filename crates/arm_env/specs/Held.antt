@@ -10,6 +10,16 @@ use Rattle.arm_env.specs.Part.{part_of, kept}
 use Rattle.arm_env.specs.Object.{object_of}
 use Rattle.arm_env.specs.Find.{outputs_of, output_named}
 
+-- an output of the nested deployment at a key
+pub record OutputOf : Type 0 where
+  pub key : ResourceId
+  pub output : Declared
+
+-- an output of a name that is not listed among those of the nested deployment at a key
+pub record NoOutputOf : Type 0 where
+  pub key : ResourceId
+  pub name : List ℕ
+
 -- a value, a whole state, or a nested deployment, its outputs, one of them, or an output of a name
 -- that is not listed among them, which are looked at when they are used
 pub data Held : Type 0 where
@@ -17,8 +27,8 @@ pub data Held : Type 0 where
   state_whole : Json → Held
   deployment : ResourceId → Held
   outputs : ResourceId → Held
-  one_output : ResourceId → Declared → Held
-  no_output : ResourceId → List ℕ → Held
+  one_output : OutputOf → Held
+  no_output : NoOutputOf → Held
 
 -- no value where it nests deeper than 100
 unfoldable pub capped : Looking Json → Looking Json
@@ -68,18 +78,19 @@ forced here (state_whole j) = pure j
 forced here (deployment k) =
     continued (all_outputs here k) (λ ms. pure (object_of ((codes "outputs", object_of ms) ∷ [])))
 forced here (outputs k) = continued (all_outputs here k) (λ ms. pure (object_of ms))
-forced here (one_output k x) =
-    continued (all_outputs here k) (λ ms. continued (output_value k x) (λ j. pure (typed x j)))
-forced here (no_output k name) = no_part here k
+forced here (one_output o) =
+    continued (all_outputs here o.key)
+    (λ ms. continued (output_value o.key o.output) (λ j. pure (typed o.output j)))
+forced here (no_output o) = no_part here o.key
 
 abbrev pub is_word : List ℕ → Json → Bool
-is_word word (text name) = is_same_folded name word
+is_word word (text name) = is_same_folded word name
 is_word word _ = false
 
 -- an output by its name, listed or not
 abbrev pub output_by : ResourceId → List ℕ → Option Declared → Looking Held
-output_by k name None = pure (no_output k name)
-output_by k name (Some x) = pure (one_output k x)
+output_by k name None = pure (no_output (record { key = k; name = name }))
+output_by k name (Some x) = pure (one_output (record { key = k; output = x }))
 
 abbrev pub output_at : Surroundings → ResourceId → Json → Looking Held
 output_at here k (text name) = output_by k name (output_named name (outputs_at here k))
@@ -90,16 +101,16 @@ abbrev pub kind_of_output : Surroundings → ResourceId → Declared → Looking
 kind_of_output here k x = continued (all_outputs here k) (λ ms. pure (plain (text x.kind)))
 
 -- the part of an output: its value looks at this output alone
-abbrev pub part_of_output : Surroundings → ResourceId → Declared → Json → Looking Held
-part_of_output here k x i =
-    if is_word (codes "value") i then held_value (output_value k x)
-    else if is_word (codes "type") i then kind_of_output here k x
-    else no_part here k
+abbrev pub part_of_output : Surroundings → OutputOf → Json → Looking Held
+part_of_output here o i =
+    if is_word (codes "value") i then held_value (output_value o.key o.output)
+    else if is_word (codes "type") i then kind_of_output here o.key o.output
+    else no_part here o.key
 
 -- the part of an output that is not listed: its value looks at this output alone
-abbrev pub part_of_no_output : Surroundings → ResourceId → List ℕ → Json → Looking Held
-part_of_no_output here k name i =
-    if is_word (codes "value") i then held_value (value_named k name) else no_part here k
+abbrev pub part_of_no_output : Surroundings → NoOutputOf → Json → Looking Held
+part_of_no_output here o i =
+    if is_word (codes "value") i then held_value (value_named o.key o.name) else no_part here o.key
 
 -- the part under a name or at a place
 abbrev pub access : Surroundings → Held → Json → Looking Held
@@ -108,8 +119,8 @@ access here (state_whole j) i = held_value (done (part_of j i))
 access here (deployment k) i =
     if is_word (codes "outputs") i then pure (outputs k) else no_part here k
 access here (outputs k) i = output_at here k i
-access here (one_output k x) i = part_of_output here k x i
-access here (no_output k name) i = part_of_no_output here k name i
+access here (one_output o) i = part_of_output here o i
+access here (no_output o) i = part_of_no_output here o i
 
 -- by an index that may have no value, where all is looked at all the same
 abbrev pub access_by : Surroundings → Held → Option Json → Looking Held

@@ -15,15 +15,20 @@ are_paired types names =
     && (not (list_any is_empty types)
     && (not (list_any is_empty names) && not (list_any has_slash names)))
 
-abbrev pub id_of : List ℕ → List ℕ → List ℕ → List (List ℕ) → ResourceId
-id_of subscription group kind names =
-    record { subscription = subscription; group = group; types = segments kind; names = names }
+-- a resource group of a subscription
+pub record Group : Type 0 where
+  pub subscription : List ℕ
+  pub name : List ℕ
+
+abbrev pub id_of : Group → List ℕ → List (List ℕ) → ResourceId
+id_of group kind names =
+    record { subscription = group.subscription; group = group.name; types = segments kind; names = names }
 
 -- the id of a type and names in a group
-abbrev pub id_in_group : List ℕ → List ℕ → List ℕ → List (List ℕ) → Option (List ℕ)
-id_in_group subscription group kind names =
-    if not (is_empty subscription) && (not (is_empty group) && are_paired (segments kind) names)
-    then Some (text_of (id_of subscription group kind names))
+abbrev pub id_in_group : Group → List ℕ → List (List ℕ) → Option (List ℕ)
+id_in_group group kind names =
+    if not (is_empty group.subscription) && (not (is_empty group.name) && are_paired (segments kind) names)
+    then Some (text_of (id_of group kind names))
     else None
 
 -- the id of a type and names in a subscription
@@ -35,23 +40,24 @@ id_in_subscription subscription kind names =
     else None
 
 -- `resourceId` of a subscription and a group, and then a type and names
-abbrev pub with_both : List ℕ → List ℕ → List (List ℕ) → Option (List ℕ)
-with_both subscription group [] = None
-with_both subscription group (t ∷ ts) =
-    if has_slash t then id_in_group subscription group t ts else None
+abbrev pub with_both : Group → List (List ℕ) → Option (List ℕ)
+with_both group [] = None
+with_both group (t ∷ ts) = if has_slash t then id_in_group group t ts else None
 
 -- of a group, or of a subscription and a group, where the first text is none of a type
 abbrev pub with_group : List ℕ → List ℕ → List (List ℕ) → Option (List ℕ)
 with_group subscription group [] = None
 with_group subscription group (t ∷ ts) =
-    if has_slash t then id_in_group subscription group t ts else with_both group t ts
+    if has_slash t then id_in_group (record { subscription = subscription; name = group }) t ts
+    else with_both (record { subscription = group; name = t }) ts
 
 -- the first text with a slash is the type: names follow it, and nothing, a group, or a subscription
 -- and a group come before it
 abbrev pub resource_id : Place → List (List ℕ) → Option (List ℕ)
 resource_id place [] = None
 resource_id place (t ∷ ts) =
-    if has_slash t then id_in_group place.subscription place.group t ts
+    if has_slash t
+    then id_in_group (record { subscription = place.subscription; name = place.group }) t ts
     else with_group place.subscription t ts
 
 abbrev pub with_subscription : List ℕ → List (List ℕ) → Option (List ℕ)

@@ -9,7 +9,7 @@ ghost use Rattle.arm_env.specs.Sight.{here};
 
 use crate::env::{ModuleAt, Spelled};
 use crate::ids::push_segment;
-use crate::sight::{Sight, is_folded, is_key};
+use crate::sight::{Sight, is_key};
 use arm_ids::{IdFault, Key, ResourceId};
 use arm_value::{OutOfMemory, Text};
 use std::alloc::{AllocError, Global};
@@ -28,11 +28,11 @@ fn id_key(alloc: Global, text: &Text) -> Result<Option<Key>, OutOfMemory>
 fn names_resource(alloc: Global, resource: &Spelled, text: &Text) -> Result<bool, OutOfMemory>
     ensures { IfOk result (λ b. b ≡ names_resource text.now resource.now) }
 {
-    if is_folded(text, &resource.spelling) {
+    if resource.spelling.equals_ignore_case(text.as_str()) {
         return Ok(true);
     }
     let name = resource.key.parts().full_name(alloc)?;
-    Ok(is_folded(text, &name))
+    Ok(name.equals_ignore_case(text.as_str()))
 }
 
 fn first_named<'a>(
@@ -77,11 +77,11 @@ fn names_key(alloc: Global, key: &Key, text: &Text) -> Result<bool, OutOfMemory>
     ensures { IfOk result (λ b. b ≡ names_key text.now key.now) }
 {
     let spelling = spelling(alloc, key)?;
-    if is_folded(text, &spelling) {
+    if spelling.equals_ignore_case(text.as_str()) {
         return Ok(true);
     }
     let name = key.parts().full_name(alloc)?;
-    Ok(is_folded(text, &name))
+    Ok(name.equals_ignore_case(text.as_str()))
 }
 
 // The key of the first nested deployment that the text names.

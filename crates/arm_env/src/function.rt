@@ -1,10 +1,8 @@
 // The functions of the evaluator, and their names.
-ghost use Rattle.std.specs.Prelude.{◌≡◌, chars, map, option_map};
-ghost use Rattle.arm_value.specs.View.{json};
-ghost use Rattle.arm_value.specs.Look.{is_same_folded};
+ghost use Rattle.std.specs.Prelude.{◌≡◌};
 ghost use Rattle.arm_env.specs.Names.{lazy_named, placed_named, strict_named};
 
-use arm_value::{Text, Value, folded_eq};
+use arm_value::Text;
 
 /// A function that looks at its arguments only as far as needed.
 #[derive(Clone, Copy, PartialEq, Eq, Debug)]
@@ -53,26 +51,18 @@ pub enum Asked {
     Whole,
 }
 
-/// Whether the name is the word but for the case of ASCII letters.
-#[tactic(auto, using(function_numbers::proofs::WordLemmas::is_folded))]
-pub fn is_word(name: &Text, word: &str) -> bool
-    ensures { result ≡ is_same_folded name.now (chars word.now) }
-{
-    folded_eq(name.as_str(), word)
-}
-
 /// The function of the name that looks at its arguments only as far as needed.
 #[tactic(auto, unfolding(crate::specs::Names::lazy_named), using(crate::proofs::Words::words))]
 pub fn lazy_named(name: &Text) -> Option<Lazy>
     ensures { result ≡ lazy_named name.now }
 {
-    if is_word(name, "if") {
+    if name.equals_ignore_case("if") {
         Some(Lazy::If)
-    } else if is_word(name, "and") {
+    } else if name.equals_ignore_case("and") {
         Some(Lazy::And)
-    } else if is_word(name, "or") {
+    } else if name.equals_ignore_case("or") {
         Some(Lazy::Or)
-    } else if is_word(name, "coalesce") {
+    } else if name.equals_ignore_case("coalesce") {
         Some(Lazy::Coalesce)
     } else {
         None
@@ -84,15 +74,15 @@ pub fn lazy_named(name: &Text) -> Option<Lazy>
 fn placed_named(name: &Text) -> Option<Strict>
     ensures { result ≡ placed_named name.now }
 {
-    if is_word(name, "resourceId") {
+    if name.equals_ignore_case("resourceId") {
         Some(Strict::ResourceId)
-    } else if is_word(name, "subscriptionResourceId") {
+    } else if name.equals_ignore_case("subscriptionResourceId") {
         Some(Strict::SubscriptionResourceId)
-    } else if is_word(name, "resourceGroup") {
+    } else if name.equals_ignore_case("resourceGroup") {
         Some(Strict::ResourceGroup)
-    } else if is_word(name, "subscription") {
+    } else if name.equals_ignore_case("subscription") {
         Some(Strict::Subscription)
-    } else if is_word(name, "deployment") {
+    } else if name.equals_ignore_case("deployment") {
         Some(Strict::Deployment)
     } else {
         None
@@ -104,13 +94,13 @@ fn placed_named(name: &Text) -> Option<Strict>
 pub fn strict_named(name: &Text) -> Option<Strict>
     ensures { result ≡ strict_named name.now }
 {
-    if is_word(name, "parameters") {
+    if name.equals_ignore_case("parameters") {
         Some(Strict::Parameters)
-    } else if is_word(name, "variables") {
+    } else if name.equals_ignore_case("variables") {
         Some(Strict::Variables)
-    } else if is_word(name, "reference") {
+    } else if name.equals_ignore_case("reference") {
         Some(Strict::Reference)
-    } else if is_word(name, "copyIndex") {
+    } else if name.equals_ignore_case("copyIndex") {
         Some(Strict::CopyIndex)
     } else {
         placed_named(name)

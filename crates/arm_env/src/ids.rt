@@ -182,7 +182,8 @@ fn id_in_group(
     names: &[Text],
 ) -> Result<Option<Value>, OutOfMemory>
     ensures { IfOk result (λ v. option_map json v
-        ≡ option_map text (id_in_group subscription.now group.now kind.now names.now)) }
+        ≡ option_map text (id_in_group (record { subscription = subscription.now; name = group.now })
+        kind.now names.now)) }
 {
     let types = segments(alloc, kind)?;
     if is_blank(subscription) || is_blank(group) || !are_paired(types.as_slice(), names) {
@@ -232,7 +233,7 @@ fn with_both(
     texts: &[Text],
 ) -> Result<Option<Value>, OutOfMemory>
     ensures { IfOk result (λ v. option_map json v
-        ≡ option_map text (with_both subscription.now group.now texts.now)) }
+        ≡ option_map text (with_both (record { subscription = subscription.now; name = group.now }) texts.now)) }
 {
     match texts {
         [kind, names @ ..] => if has_slash(kind.as_str()) {

@@ -6,14 +6,13 @@ ghost use Rattle.arm_env.specs.Loop.{is_named, index_named, main_index, nearest_
 ghost use Rattle.arm_env.specs.Loop.{shifted, index_by, index_from, copy_index};
 
 use crate::env::Looping;
-use crate::sight::is_folded;
 use arm_value::{Text, Value};
 
 fn is_named(looping: &Looping, name: &Text) -> bool
     ensures { result ≡ is_named name.now looping.now.name }
 {
     match &looping.name {
-        Some(known) => is_folded(name, known),
+        Some(known) => known.equals_ignore_case(name.as_str()),
         None => false,
     }
 }

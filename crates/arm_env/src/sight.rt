@@ -1,6 +1,6 @@
 // The view that an expression has of its environment, and searches for entries of it.
 ghost use Rattle.std.specs.Prelude.{◌≡◌, ◌≤◌, map, option_map, Some, IfOk};
-ghost use Rattle.arm_value.specs.Look.{fold, is_same_folded};
+ghost use Rattle.arm_value.specs.Look.{fold};
 ghost use Rattle.arm_value.specs.View.{json};
 ghost use Rattle.arm_value.specs.Json.{nesting};
 ghost use Rattle.arm_ids.specs.declared.id.ResourceId.{ResourceId};
@@ -16,7 +16,7 @@ ghost use Rattle.arm_env.specs.Sight.{known_by, here};
 use crate::env::{Env, Looping, ModuleAt, Named, OutputAt, Seen, Slot, StateAt, Unlisted};
 use crate::stop::Stop;
 use arm_ids::Key;
-use arm_value::{Text, Value, folded_eq};
+use arm_value::{Text, Value};
 use foundation::limits::MAX_VALUE_NESTING;
 use std::alloc::Global;
 
@@ -31,14 +31,6 @@ pub struct Sight<'a> {
     pub loops: &'a [Looping],
 }
 
-/// Whether the names are equal but for the case of ASCII letters.
-#[tactic(auto, using(function_numbers::proofs::WordLemmas::is_folded))]
-pub(crate) fn is_folded(name: &Text, other: &Text) -> bool
-    ensures { result ≡ is_same_folded name.now other.now }
-{
-    folded_eq(name.as_str(), other.as_str())
-}
-
 /// Whether both are one key.
 #[tactic(auto, using(crate::proofs::KeyLemmas::same_key))]
 pub(crate) fn is_key(key: &Key, other: &Key) -> bool
@@ -51,7 +43,7 @@ fn find_slot<'a>(named: &'a [Named], name: &Text) -> Option<&'a Slot>
     ensures { option_map (λ s. s.now) result ≡ slot_named (fold name.now) named.now }
 {
     for entry in named {
-        if is_folded(name, &entry.name) {
+        if entry.name.equals_ignore_case(name.as_str()) {
             return Some(&entry.slot);
         }
     }
@@ -86,7 +78,7 @@ pub(crate) fn find_output<'a>(outputs: &'a [OutputAt], name: &Text) -> Option<&'
     ensures { option_map (λ x. x.now) result ≡ output_with (fold name.now) outputs.now }
 {
     for output in outputs {
-        if is_folded(name, &output.name) {
+        if output.name.equals_ignore_case(name.as_str()) {
             return Some(output);
         }
     }

@@ -4,7 +4,7 @@ ghost use Rattle.arm_env.specs.Answer.{outcome_of};
 ghost use Rattle.arm_env.specs.declared.stop.Stop.TheVariants.{OutOfMemory};
 
 use arm_ids::Key;
-use std::alloc::{AllocError, AllocFailed};
+use std::alloc::AllocError;
 
 /// Why there is no value.
 #[derive(Drop)]
@@ -23,14 +23,6 @@ impl From<AllocError> for Stop {
     ghost from_gives = { λ _ e. e ≡ OutOfMemory };
 
     fn from(_fault: AllocError) -> Stop {
-        Stop::OutOfMemory
-    }
-}
-
-impl<T: Drop> From<AllocFailed<T>> for Stop {
-    ghost from_gives = { λ _ e. e ≡ OutOfMemory };
-
-    fn from(_fault: AllocFailed<T>) -> Stop {
         Stop::OutOfMemory
     }
 }

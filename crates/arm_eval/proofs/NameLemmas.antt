@@ -19,13 +19,10 @@ use Rattle.arm_value.specs.declared.value.Field.{Field}
 use Rattle.arm_value.proofs.JsonLemmas.{map-take-more}
 use Rattle.arm_eval.specs.Trees.{are_new, differ, names_of}
 use Rattle.arm_eval.specs.Free.{are_free, text_cmp, AreNames}
+use Rattle.foundation.proofs.Words.{swapped}
+use Rattle.foundation.proofs.TruthValues.{last_or}
 
 -- ---- names in UTF-8
-
-swapped : (s t : List ℕ) → bytes_eq s t ≡ bytes_eq t s
-swapped s t =
-    both_ways (bytes_eq s t) (bytes_eq t s) (λ h. (bytes_eq-Decides t s).1 (sym ((bytes_eq-Decides s t).0 h)))
-    (λ h. (bytes_eq-Decides s t).1 (sym ((bytes_eq-Decides t s).0 h)))
 
 encoded : (s t : List ℕ) → bytes_eq (encode_utf8_all s) (encode_utf8_all t) ≡ bytes_eq s t
 encoded s t =
@@ -49,12 +46,6 @@ is_named set key ns name h e = h key ∙ ap (λ s. list_any (λ n. bytes_eq s (e
 
 pub no_names : (set : BTreeSet (Bor (List ℕ))) → IsEmpty set → AreNames set []
 no_names set e = λ s. ap (list_any _) e
-
-last_or : (a b : Bool) → cond a true b ≡ (b || (a || false))
-last_or true true = refl
-last_or true false = refl
-last_or false true = refl
-last_or false false = refl
 
 pub names_more : (old new : BTreeSet (Bor (List ℕ))) (key : Bor (List ℕ)) (ns : List (List ℕ)) (name : List ℕ)
     → AreNames old ns → key.now ≡ encode_utf8_all name → Updates text_cmp old new key true

@@ -28,6 +28,7 @@ use Rattle.arm_env.proofs.Answers.{both_answers, answered-done, answered-continu
 use Rattle.arm_env.proofs.Answers.{stops}
 use Rattle.arm_eval.proofs.TurnLemmas.{turn_at, array_given, array_stops}
 use Rattle.arm_env.proofs.Turns.{given_in}
+use Rattle.arm_value.proofs.TreeLemmas.{row-items}
 
 -- ---- lists of the code and rows
 
@@ -46,10 +47,6 @@ copies_given here (v ∷ vs) = ap (λ os. copied here (copy_in (json v)) ∷ os)
 pub keys_are : (ms : List Member) → pair_keys (pairs ms) ≡ names_of ms
 keys_are [] = refl
 keys_are (m ∷ ms) = ap (λ ks. m.0 ∷ ks) (keys_are ms)
-
-row-items : (js : Row) → row (items js) ≡ js
-row-items no_items = refl
-row-items (item j js) = ap (item j) (row-items js)
 
 -- an array and an object of the code
 pub array_is : (here : Surroundings) (js : List Json) (vs : List Value) → map json vs ≡ js

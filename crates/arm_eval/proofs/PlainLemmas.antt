@@ -22,6 +22,7 @@ use Rattle.arm_eval.specs.Plain.{IsPlain, RowIsPlain, PairsArePlain}
 use Rattle.arm_eval.specs.Trees as trees
 use Rattle.arm_eval.specs.Trees.{tree_value, row_values, own_member, own_members, given_members, said_value, is_copy}
 use Rattle.arm_eval.specs.Trees.{array_of, object_by, concat}
+use Rattle.arm_value.proofs.TreeLemmas.{row-items, pairs-members}
 
 -- ---- members in order are put at the end
 
@@ -72,14 +73,6 @@ within n h = grind (arith, nat_tests)
 capped-sure : (j : Json) → nesting j ≤ 100 → capped (sure j) ≡ sure j
 unfolding capped continued
 capped-sure j h = ap (λ b. done (if b then Some j else None)) (within (nesting j) h)
-
-row-items : (js : Row) → row (items js) ≡ js
-row-items no_items = refl
-row-items (item j js) = ap (item j) (row-items js)
-
-pairs-members : (ms : Pairs) → pairs (members ms) ≡ ms
-pairs-members no_pairs = refl
-pairs-members (pair k j ms) = ap (pair k j) (pairs-members ms)
 
 array-sure : (js : Row) → nesting (array js) ≤ 100 → array_of (map sure (items js)) ≡ sure (array js)
 unfolding continued

@@ -27,23 +27,23 @@ last_closes [] = refl
 last_closes (c ∷ []) = refl
 last_closes (c ∷ d ∷ cs) = last_closes (d ∷ cs)
 
-behind : (c : ℕ) (cs : List ℕ) → c ≡ 91 → closes (c ∷ cs) ≡ true → closes cs ≡ true
-behind c [] e h = let wrong : closes (c ∷ []) ≡ false = grind (arith, nat_tests) in cc
-behind c (d ∷ cs) e h = h
+rest_closes : (c : ℕ) (cs : List ℕ) → c ≡ 91 → closes (c ∷ cs) ≡ true → closes cs ≡ true
+rest_closes c [] e h = let wrong : closes (c ∷ []) ≡ false = grind (arith, nat_tests) in cc
+rest_closes c (d ∷ cs) e h = h
 
 brackets : (t : List ℕ) → is_bracketed t ≡ true → t ≡ in_brackets (inside t)
 brackets [] h = cc
 brackets (c ∷ cs) h =
     let each = both (opens (c ∷ cs)) (closes (c ∷ cs)) h in
     let first : c ≡ 91 = eqb-true c 91 each.0 in
-    ap (λ r. c ∷ r) (closes_last cs (behind c cs first each.1)) ∙ ap (λ c. c ∷ (without_last cs ++ 93 ∷ [])) first
+    ap (λ r. c ∷ r) (closes_last cs (rest_closes c cs first each.1)) ∙ ap (λ c. c ∷ (without_last cs ++ 93 ∷ [])) first
 
-closes_behind : (cs : List ℕ) → closes cs ≡ true → closes (91 ∷ cs) ≡ true
-closes_behind [] h = cc
-closes_behind (c ∷ cs) h = h
+closes_after_bracket : (cs : List ℕ) → closes cs ≡ true → closes (91 ∷ cs) ≡ true
+closes_after_bracket [] h = cc
+closes_after_bracket (c ∷ cs) h = h
 
 bracketed : (inner : List ℕ) → is_bracketed (in_brackets inner) ≡ true
-bracketed inner = closes_behind (inner ++ 93 ∷ []) (last_closes inner)
+bracketed inner = closes_after_bracket (inner ++ 93 ∷ []) (last_closes inner)
 
 never : (t inner : List ℕ) → is_bracketed t ≡ false → t ≢ in_brackets inner
 never t inner h e = let yes : is_bracketed t ≡ true = ap is_bracketed e ∙ bracketed inner in cc

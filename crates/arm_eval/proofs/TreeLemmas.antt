@@ -59,7 +59,7 @@ module _ (name : List ℕ) (v : Json) where
   part_found : (ms : List Member) → Some v ≡ option_map tree_in (part_named name (parts (pairs ms)))
       → IsPart (part_named name (parts (pairs ms))) v
   part_found [] e = absurd cc
-  part_found (m ∷ ms) e = part_if (is_same_folded m.0 name) m.0 m.1 (part_named name (parts (pairs ms)))
+  part_found (m ∷ ms) e = part_if (is_same_folded name m.0) m.0 m.1 (part_named name (parts (pairs ms)))
       (part_found ms) e
 
 part_missing : (o : Option Part) → None ≡ option_map tree_in o → o ≡ None

@@ -40,7 +40,7 @@ is_copy name = bytes_eq name (codes "copy")
 -- the first member of the name
 abbrev pub part_named : List ℕ → List Part → Option Part
 part_named name [] = None
-part_named name (p ∷ ps) = if is_same_folded p.name name then Some p else part_named name ps
+part_named name (p ∷ ps) = if is_same_folded name p.name then Some p else part_named name ps
 
 -- the loop of a name, by the other two members
 abbrev pub with_name : List ℕ → Option Part → Option Part → Option Copy

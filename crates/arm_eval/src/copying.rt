@@ -8,7 +8,6 @@ ghost use Rattle.arm_eval.specs.Trees.{parts, looping_of};
 ghost use Rattle.arm_eval.specs.Words.{copying_of, NestsBelow, tree_in, trees_in, copy_tree};
 
 use arm_env::env::Looping;
-use arm_env::function::is_word;
 use arm_env::stop::let_go;
 use arm_value::{Field, OutOfMemory, Text, Value};
 use foundation::limits::MAX_COPY_COUNT;
@@ -57,7 +56,7 @@ fn part_named<'a>(fields: &'a [Field], name: &str) -> Option<&'a Value>
         (λ v. nesting (json v.now) ≤ members_nesting (map member fields.now)) }
 {
     for field in fields {
-        if is_word(&field.name, name) {
+        if field.name.equals_ignore_case(name) {
             return Some(&field.value);
         }
     }

@@ -79,7 +79,7 @@ pub fn eval_with(alloc: Global, env: &Env, unlisted: Unlisted, e: &Expr) -> Resu
 /// listed among the states has none.
 ///
 /// A text in brackets is an expression; one that spells none, or that is beyond the limits of
-/// expressions, has no value. Behind `[[` it is plain, without its first `[`. The member of exactly
+/// expressions, has no value. After `[[` it is plain, without its first `[`. The member of exactly
 /// the name `copy` of an object is an array of loops, each an object of a name, a count from 0 to
 /// 800 and an input (these three words in letters of any case), and gives the object an array under
 /// each name. A `copy` of another form, and a name that the object has already or that comes twice,

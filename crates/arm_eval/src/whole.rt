@@ -1,15 +1,14 @@
 // Arrays and objects of what their parts give.
-ghost use Rattle.std.specs.Prelude.{◌≡◌, ◌≤◌, ◌∷◌, ◌++◌, [], Some, Err, map, option_map, IfOk, OnOk, MatchOption};
+ghost use Rattle.std.specs.Prelude.{◌≡◌, ◌≤◌, ◌∷◌, ◌++◌, [], Some, map, option_map, IfOk, OnOk, MatchOption};
 ghost use Rattle.arm_value.specs.Json.{nesting, members_nesting, put_each};
 ghost use Rattle.arm_value.specs.View.{json, member};
 ghost use Rattle.arm_eval.specs.Trees.{names_of};
 ghost use Rattle.arm_eval.specs.Words.{own_of, with_each, kept_array, kept_object, whole_object};
 ghost use Rattle.arm_env.specs.Answer.{given, with_last, Gives};
-ghost use Rattle.arm_env.specs.declared.stop.Stop.TheVariants.{NoValue, OutOfMemory};
 
 use crate::names::are_free;
 use arm_env::held::keep;
-use arm_env::stop::Stop;
+use arm_env::stop::{Stop, stopped};
 use arm_value::{Field, Fields, Items, OutOfMemory, Text, Value};
 use std::alloc::Global;
 
@@ -144,22 +143,6 @@ pub(crate) fn field_of(alloc: Global, name: &Text, values: Option<Items>) -> Res
     })
 }
 
-// No value, after the drop of what is not needed.
-fn refuse<T: Drop>(dropped: T) -> Result<Value, Stop>
-    ensures { result ≡ Err NoValue }
-{
-    drop(dropped);
-    Err(Stop::NoValue)
-}
-
-// Out of memory, after the drop of what is not needed.
-fn lacks_memory<T: Drop>(dropped: T) -> Result<Value, Stop>
-    ensures { result ≡ Err OutOfMemory }
-{
-    drop(dropped);
-    Err(Stop::OutOfMemory)
-}
-
 /// The object of own members and of those that loops give, whose names it does not have and which
 /// differ, where it nests at most 100 deep.
 ///
@@ -176,7 +159,7 @@ pub(crate) fn whole_object(
 {
     match own {
         Some(own) => object_with(alloc, fields, own, added),
-        None => refuse(added),
+        None => stopped(Stop::NoValue, added),
     }
 }
 
@@ -197,9 +180,9 @@ fn object_with(
         Ok(free) => if free {
             joined(alloc, own, added)
         } else {
-            refuse((own, added))
+            stopped(Stop::NoValue, (own, added))
         },
-        Err(_) => lacks_memory((own, added)),
+        Err(_) => stopped(Stop::OutOfMemory, (own, added)),
     }
 }
 

@@ -14,12 +14,9 @@ use Rattle.arm_value.proofs.SetLemmas.{equal_keys}
 use Rattle.function_numbers.specs.Kinds.{members_of}
 use Rattle.function_lists.specs.Members.{value_at, under, updated, united, united_all, union}
 use Rattle.arm_functions.specs.Laws.{united_values, later_value}
-use Rattle.arm_value.proofs.TreeLemmas.{pairs-members}
+use Rattle.arm_value.proofs.TreeLemmas.{pairs-members, members-pairs}
 
 -- ---- keys
-
-itself : (k : List ℕ) → bytes_eq k k ≡ true
-itself k = (bytes_eq-Decides k k).1 refl
 
 not_reversed : (o : Ordering) → o ≡ ordering_reverse o → o ≡ Greater → ⊥
 not_reversed Less e f = cc
@@ -70,12 +67,12 @@ unfolding hit
 replaced_or true j i o = refl
 replaced_or false j i o = refl
 
-behind_or : (b c : Bool) (j i : Json) (o : Option Json) → (b ≡ true → c ≡ false)
+later_or : (b c : Bool) (j i : Json) (o : Option Json) → (b ≡ true → c ≡ false)
     → (if c then Some i else or_else (hit b j) o) ≡ or_else (hit b j) (if c then Some i else o)
 unfolding hit
-behind_or true true j i o h = absurd (let e : true ≡ false = h refl in cc)
-behind_or true false j i o h = refl
-behind_or false c j i o h = refl
+later_or true true j i o h = absurd (let e : true ≡ false = h refl in cc)
+later_or true false j i o h = refl
+later_or false c j i o h = refl
 
 at_put_by : (o : Ordering) (k n : List ℕ) (j : Json) (m : Member) (ms : List Member) → key_cmp n m.0 ≡ o
     → value_at k (put n j ms) ≡ or_else (hit (bytes_eq k n) j) (value_at k ms)
@@ -89,7 +86,7 @@ at_put_by Equal k n j m ms c h =
     ∙ ap (or_else (hit (bytes_eq k n) j)) (sym (at-cons k m ms))
 at_put_by Greater k n j m ms c h =
     at-cons k m (put n j ms) ∙ ap (λ o. if bytes_eq k m.0 then Some m.1 else o) h
-    ∙ behind_or (bytes_eq k n) (bytes_eq k m.0) j m.1 (value_at k ms) (one_of k n m.0 c)
+    ∙ later_or (bytes_eq k n) (bytes_eq k m.0) j m.1 (value_at k ms) (one_of k n m.0 c)
     ∙ ap (or_else (hit (bytes_eq k n) j)) (sym (at-cons k m ms))
 
 at_put : (k n : List ℕ) (j : Json) (ms : List Member)
@@ -173,10 +170,6 @@ last_updated k ms (pair l j ns) =
     ap (λ o. or_else o (hit (bytes_eq k l) (over (value_at l ms) j))) (last_updated k ms ns)
     ∙ last_updated_by (bytes_eq k l) (over (value_at k ms)) (over (value_at l ms) j) j (last_at k (members ns))
     (λ e. ap (λ (x : List ℕ). over (value_at x ms) j) (sym ((bytes_eq-Decides k l).0 e)))
-
-members-pairs : (ms : List Member) → members (pairs ms) ≡ ms
-members-pairs [] = refl
-members-pairs (m ∷ ms) = ap (λ ns. m ∷ ns) (members-pairs ms)
 
 union_of_two : (ms ns : Pairs) → union (object ms ∷ object ns ∷ []) ≡ Some (object (pairs (united (members ms) ns)))
 unfolding united_all

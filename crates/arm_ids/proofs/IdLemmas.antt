@@ -11,13 +11,14 @@ use Rattle.arm_ids.specs.Id.{reading_of}
 use Rattle.arm_ids.specs.Id.{are_words, if_whole}
 use Rattle.arm_ids.specs.declared.id.ResourceId.{ResourceId}
 use Rattle.arm_ids.proofs.TextLemmas.{some_segment}
-use Rattle.arm_ids.proofs.SegmentLemmas.{segments_cut, segments-slashed, nor, none_in_front, none_after}
+use Rattle.arm_ids.proofs.SegmentLemmas.{segments_cut, segments-slashed, none_in_front, none_after}
 use Rattle.arm_ids.proofs.SegmentLemmas.{none_in_turns, none_in_firsts, none_in_seconds, firsts-by_turns}
 use Rattle.arm_ids.proofs.SegmentLemmas.{seconds-by_turns}
 use Rattle.std.proofs.lemmas.Bool.{eqb-true}
 use Rattle.std.proofs.lemmas.List.{take_all}
 use Rattle.std.proofs.lemmas.Bool.Decides.{nat_tests}
 use Rattle.arm_ids.specs.Segments.{segments, slashed, joined, is_empty, has_slash, firsts, seconds, by_turns}
+use Rattle.foundation.proofs.TruthValues.{nor}
 
 -- a slash and a segment after a text
 pub pushed : (a b c segment : List ℕ) → IsUtf8 a → IsUtf8 b → b ≡ a ++ encode 47 → c ≡ b ++ segment
@@ -43,7 +44,7 @@ made i kind name types names filled paired = record {
 }
 
 -- segments of two lists as one text
-slashed-append : (xs ys : List (List ℕ)) → slashed (xs ++ ys) ≡ slashed xs ++ slashed ys
+pub slashed-append : (xs ys : List (List ℕ)) → slashed (xs ++ ys) ≡ slashed xs ++ slashed ys
 slashed-append [] ys = refl
 slashed-append (x ∷ xs) ys =
     ap (λ r. 47 ∷ r) (ap (λ r. x ++ r) (slashed-append xs ys) ∙ sym (append_assoc x (slashed xs) (slashed ys)))

@@ -15,6 +15,7 @@ use Rattle.arm_ids.specs.declared.row.Row.{Row}
 use Rattle.arm_ids.proofs.HeldLemmas.{find_at, put_at, without_at, IsGap, gap, find_gap, put_gap, without_gap}
 use Rattle.arm_ids.proofs.HeldLemmas.{IsInOrder-put, IsInOrder-without, IsInOrder-nil, find-put, find-without}
 use Rattle.arm_ids.proofs.HeldLemmas.{HaveKeys-put, HaveKeys-without}
+use Rattle.foundation.proofs.Lists.{map-insert}
 
 -- the row at the place of an id
 record IsAt (id : List ℕ) (rows : List Row) (i : ℕ) (row : Row) : Type 0 where
@@ -84,11 +85,6 @@ row_replaced rows i row h order key place =
     becomes (set rows i row) (put r rs) (map-set order_of rows i row ∙ ap₂ (λ ids id. set ids i id) h.ordered order
     ∙ sym (map-set held_by rs i r) ∙ ap (map held_by) (sym (map-set row_held rows i row))) held
     (IsInOrder-put r rs h.in_order) (HaveKeys-put r rs key h.named)
-
-map-insert : {A B : Type 0} (f : A → B) (xs : List A) (i : ℕ) (x : A)
-    → map f (insert xs i x) ≡ insert (map f xs) i (f x)
-map-insert f xs i x =
-    map-append f (take i xs) (x ∷ drop i xs) ∙ ap₂ (λ a b. a ++ f x ∷ b) (sym (take-map f i xs)) (sym (drop-map f i xs))
 
 map-remove : {A B : Type 0} (f : A → B) (xs : List A) (i : ℕ) → map f (remove xs i) ≡ remove (map f xs) i
 map-remove f xs i =

@@ -5,7 +5,7 @@ use Rattle.std.proofs.Common.{Result, Ok, Err, IfOk}
 use Rattle.std.specs.List.{list_any}
 use Rattle.std.proofs.lemmas.List.{length-map}
 use Rattle.std.proofs.lemmas.Slice.Eq.{bytes_eq-Decides}
-use Rattle.foundation.proofs.TruthValues.{both, and_true}
+use Rattle.foundation.proofs.TruthValues.{both, and_true, nor}
 use Rattle.arm_value.specs.Look.{fold, is_same_folded}
 use Rattle.arm_ids.specs.Segments.{segments, slashed, is_empty, has_slash}
 use Rattle.arm_ids.specs.Id.{IsPlain, IsIdOf, IsNoKey}
@@ -16,7 +16,7 @@ use Rattle.arm_ids.specs.declared.fault.IdFault.{IdFault}
 use Rattle.arm_ids.specs.declared.fault.IdFault.TheVariants.{EmptySegment, SegmentsDiffer, NotAnId, OutOfMemory}
 use Rattle.arm_ids.specs.declared.scope.Scope.{Scope}
 use Rattle.arm_ids.specs.declared.scope.Scope.TheVariants.{Subscription, Group, Resource}
-use Rattle.arm_ids.proofs.SegmentLemmas.{segments_cut, segments-slashed, slashed-segments, segments-fold, nor}
+use Rattle.arm_ids.proofs.SegmentLemmas.{segments_cut, segments-slashed, slashed-segments, segments-fold}
 use Rattle.arm_ids.proofs.SegmentLemmas.{none_in_front, none_after, has_slash-fold}
 use Rattle.arm_ids.proofs.IdLemmas.{reads}
 use Rattle.arm_ids.proofs.KeyLemmas.{reads_as_key}

@@ -9,21 +9,10 @@ use Rattle.std.proofs.lemmas.List.Splits.{slice_split-cons_yes, slice_split-cons
 use Rattle.arm_value.specs.Look.{fold}
 use Rattle.arm_ids.specs.Segments.{is_slash, segments, slashed, is_empty, has_slash, firsts, seconds, by_turns}
 use Rattle.arm_ids.proofs.TextLemmas.{onto_segments}
+use Rattle.foundation.proofs.TruthValues.{or_left, or_right, nor}
 
 slash_is : (c : ℕ) → is_slash c ≡ true → c ≡ 47
 slash_is c e = grind (arith, nat_tests)
-
-or_left : (a b : Bool) → (a || b) ≡ false → a ≡ false
-or_left false b e = refl
-or_left true b e = e
-
-or_right : (a b : Bool) → (a || b) ≡ false → b ≡ false
-or_right false b e = e
-or_right true b e = absurd (true≢false e)
-
-pub nor : (a b : Bool) → a ≡ false → b ≡ false → (a || b) ≡ false
-nor false b e f = f
-nor true b e f = e
 
 pub none_in_front : {A : Type 0} (p : A → Bool) (x : A) (xs : List A) → list_any p (x ∷ xs) ≡ false → p x ≡ false
 none_in_front p x xs e = or_left (p x) (list_any p xs) e

@@ -94,7 +94,7 @@ unfolding IsStrictlySortedBy
 last_in_order [] m x more h = (tt, tt)
 last_in_order (n ∷ ms) m x more h = (all_before_last n.0 ms m x more h.0, last_in_order ms m x more h.1)
 
-or_else_none : (a b : Option (List ℕ)) → or_else a b ≡ None → b ≡ None
+pub or_else_none : (a b : Option (List ℕ)) → or_else a b ≡ None → b ≡ None
 or_else_none None b e = e
 or_else_none (Some p) b e = absurd (cc)
 
@@ -105,11 +105,11 @@ item_depth [] i v h e = absurd (omega arith)
 item_depth (x ∷ vs) zero v h e = let same = ap (λ y. d.depth (view y)) e in omega arith
 item_depth (x ∷ vs) (suc i) v h e = omega (arith, item_depth vs i v (omega arith) e)
 
-or_else_first : (a b : Option (List ℕ)) → or_else a b ≡ None → a ≡ None
+pub or_else_first : (a b : Option (List ℕ)) → or_else a b ≡ None → a ≡ None
 or_else_first None b e = refl
 or_else_first (Some p) b e = e
 
-mapped_none : (f : List ℕ → List ℕ) (o : Option (List ℕ)) → option_map f o ≡ None → o ≡ None
+pub mapped_none : (f : List ℕ → List ℕ) (o : Option (List ℕ)) → option_map f o ≡ None → o ≡ None
 mapped_none f None e = refl
 mapped_none f (Some p) e = absurd (cc)
 

@@ -13,8 +13,8 @@ use Rattle.arm_value.specs.Json.{Member, members_nesting, keys, put, put_each, k
 use Rattle.arm_value.specs.View.{json, member, entry}
 use Rattle.arm_value.specs.declared.value.Value.{Value}
 use Rattle.arm_value.specs.declared.value.Field.{Field}
-use Rattle.arm_value.proofs.JsonLemmas.{map-push}
 use Rattle.arm_value.proofs.SetLemmas.{equal_keys, members_nesting-put}
+use Rattle.foundation.proofs.Lists.{map-push}
 
 -- an entry of a map of values by their names
 abbrev pub Entry : Type 0

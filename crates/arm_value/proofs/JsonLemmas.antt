@@ -9,10 +9,6 @@ use Rattle.arm_value.specs.declared.value.Field.{Field}
 use Rattle.arm_value.specs.Json.{Json, Member, keys, nesting, items_nesting, members_nesting, row, pairs}
 use Rattle.arm_value.specs.Json.{RowIsOrderly, PairsAreOrderly, IsOrderly, IsInOrder}
 
-pub map-push : {A B : Type 0} (f : A → B) (xs : List A) (x : A) → map f (xs ++ x ∷ []) ≡ map f xs ++ f x ∷ []
-map-push f [] x = refl
-map-push f (y ∷ ys) x = ap (λ r. f y ∷ r) (map-push f ys x)
-
 pub items_nesting-push : (js : List Json) (j : Json) → items_nesting (js ++ j ∷ []) ≡ max (items_nesting js) (nesting j)
 items_nesting-push [] j = omega arith
 items_nesting-push (x ∷ js) j = omega (arith, items_nesting-push js j)

@@ -1,6 +1,6 @@
 -- Members with one more, or with another value at a key.
 use Rattle.std.proofs.Math.ListN.{set}
-use Rattle.std.proofs.Common.{◌≡◌, ◌<◌, ◌≤◌, ◌+◌, ℕ, zero, suc, max, length, get_or, take, drop, drop-cons, add-one}
+use Rattle.std.proofs.Common.{◌≡◌, ◌<◌, ◌≤◌, ◌+◌, ℕ, zero, suc, max, length, get_or, drop, drop-cons, add-one}
 use Rattle.std.proofs.Common.{List, [], ◌∷◌, ◌++◌, map, Result, Ok, Err, Ordering, Less, Equal, Greater}
 use Rattle.std.proofs.Common.{encode_utf8_all, refl, sym, ap, ◌∙◌, arith, subst}
 use Rattle.std.proofs.lemmas.List.{length-map}
@@ -21,7 +21,7 @@ use Rattle.std.proofs.lemmas.Slice.Eq.{bytes_eq-Decides}
 use Rattle.std.proofs.lemmas.Map.Text.{is_eq-slice_cmp}
 use Rattle.std.proofs.lemmas.List.Sorted.{IsNonDecreasingBy-from_all_adjacent}
 use Rattle.std.specs.List.Sorted.{IsNonDecreasingBy, IsBinarySearchResult, IsSearchInRange}
-use Rattle.arm_value.proofs.JsonLemmas.{map-take}
+use Rattle.foundation.proofs.Lists.{map-insert}
 
 pub drop_from : {A : Type 0} (xs : List A) (i : ℕ) (x : A) → i < length xs → x ≡ get_or xs i x
     → drop i xs ≡ x ∷ drop (i + 1) xs
@@ -240,10 +240,6 @@ map-drop f [] zero = refl
 map-drop f [] (suc i) = refl
 map-drop f (x ∷ xs) zero = refl
 map-drop f (x ∷ xs) (suc i) = map-drop f xs i
-
-pub map-insert : {A B : Type 0} (f : A → B) (xs : List A) (i : ℕ) (x : A)
-    → map f (insert xs i x) ≡ insert (map f xs) i (f x)
-map-insert f xs i x = map-append f (take i xs) _ ∙ (λ k. map-take f xs i k ++ f x ∷ map-drop f xs i k)
 
 members_nesting-insert : (ms : List Member) (i : ℕ) (m : Member) → i ≤ length ms
     → members_nesting (insert ms i m) ≡ max (members_nesting ms) (nesting m.1)

@@ -1,8 +1,28 @@
--- Members as a list and as the pairs of an object, and how deep an object nests with one member more.
-use Rattle.std.proofs.Common.{◌≡◌, ◌≤◌, ℕ, List, [], ◌∷◌, Ordering, Less, Equal, Greater, refl, ap, arith}
+-- Lists as the parts of arrays and objects, whole numbers as numbers of data, and how deep an object nests with one
+-- member more.
+use Rattle.std.proofs.Common.{◌≡◌, ◌≤◌, ℕ, ℤ, pos, negsuc, List, [], ◌∷◌, Ordering, Less, Equal, Greater, refl, ap}
+use Rattle.std.proofs.Common.{arith}
 use Rattle.std.specs.Ordering.{match_ordering}
-use Rattle.arm_value.specs.Json.{Json, Pairs, no_pairs, pair, Member, pairs, members, nesting, members_nesting}
+use Rattle.serde_json.specs.Data as d
+use Rattle.serde_json.specs.Find.{of_integer}
+use Rattle.arm_value.specs.Json.{Json, Row, no_items, item, row, items, Pairs, no_pairs, pair, Member, pairs, members}
+use Rattle.arm_value.specs.Json.{nesting, members_nesting}
 use Rattle.arm_value.specs.Json.{key_cmp, put}
+
+-- the whole number of a number that has no fraction
+abbrev pub integer_in : d.Num → ℤ
+integer_in (d.unsigned n) = pos n
+integer_in (d.negative z) = z
+integer_in (d.float x) = pos 0
+
+pub integer_back : (z : ℤ) → integer_in (of_integer z) ≡ z
+integer_back (pos n) = refl
+integer_back (negsuc n) = refl
+
+-- items go to a row and back
+pub row-items : (js : Row) → row (items js) ≡ js
+row-items no_items = refl
+row-items (item j js) = ap (item j) (row-items js)
 
 -- members go to an object and back
 pub members-pairs : (ms : List Member) → members (pairs ms) ≡ ms

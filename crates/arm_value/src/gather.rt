@@ -9,8 +9,10 @@ use crate::value::{Field, Fields, Value};
 use std::alloc::Global;
 use std::collections::BTreeMap;
 
-// The values by their names, of equal names the last.
-fn sorted(alloc: Global, members: Vec<Field>) -> Result<BTreeMap<String, Value>, OutOfMemory>
+/// The values by their names, in the order of the bytes of the names; of equal names the last.
+///
+/// It takes time in the order of n log n for n members.
+pub fn sorted(alloc: Global, members: Vec<Field>) -> Result<BTreeMap<String, Value>, OutOfMemory>
     ensures { IfOk result (λ m. map entry m.entries ≡ put_each [] (map member members.items)) }
 {
     let mut sorted = BTreeMap::new(alloc);

@@ -23,6 +23,7 @@ pub mod value;
 mod write;
 
 pub use bytes::Bytes;
+pub use gather::sorted;
 pub use list_of::ListOf;
 pub use look::folded_eq;
 pub use memory::OutOfMemory;

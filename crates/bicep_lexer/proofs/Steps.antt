@@ -27,10 +27,10 @@ reading-skip (suc n) at os l (b ∷ bs) h =
     reading-skip n (at + 1) os l bs (omega arith) ∙ ap (λ i. reading_from 0 i os l (drop n bs)) e
 
 -- what is left after the first bytes
-left_behind : (n at : ℕ) (os : List Open) (l : Line) (b : ℕ) (bs : List ℕ) → 0 < n → n ≤ suc (length bs)
+left_after : (n at : ℕ) (os : List Open) (l : Line) (b : ℕ) (bs : List ℕ) → 0 < n → n ≤ suc (length bs)
     → reading_from (n - 1) (at + 1) os l bs ≡ reading_from 0 (at + n) os l (drop n (b ∷ bs))
-left_behind zero at os l b bs some within = absurd (omega arith)
-left_behind (suc n) at os l b bs some within =
+left_after zero at os l b bs some within = absurd (omega arith)
+left_after (suc n) at os l b bs some within =
     let less : suc n - 1 ≡ n = omega arith in
     ap (λ i. reading_from i (at + 1) os l bs) less ∙ reading-skip (suc n) at os l (b ∷ bs) within
 
@@ -46,11 +46,11 @@ by_front at os left (Ok (front.Word kind n t)) =
 follow_front : (at : ℕ) (os : List Open) (b : ℕ) (bs : List ℕ) (o : Result Front LexFault) → OnFront o (b ∷ bs)
     → follow at os (b ∷ bs) o (λ n os' l'. reading_from n (at + 1) os' l' bs) ≡ by_front at os (b ∷ bs) o
 follow_front at os b bs (Err f) h = refl
-follow_front at os b bs (Ok (front.Skipped n l)) h = left_behind n at os l b bs h.0 h.1
+follow_front at os b bs (Ok (front.Skipped n l)) h = left_after n at os l b bs h.0 h.1
 follow_front at os b bs (Ok (front.Newline n)) h =
-    ap (before (k.Newline, at, take n (b ∷ bs))) (left_behind n at os line.Folded b bs h.some h.within)
+    ap (before (k.Newline, at, take n (b ∷ bs))) (left_after n at os line.Folded b bs h.some h.within)
 follow_front at os b bs (Ok (front.Word kind n t)) h =
-    ap (before (kind, at, take n (b ∷ bs))) (left_behind n at (turned t os) line.Within b bs h.some h.within)
+    ap (before (kind, at, take n (b ∷ bs))) (left_after n at (turned t os) line.Within b bs h.some h.within)
 
 pub read_front : (at : ℕ) (os : List Open) (l : Line) (left : List ℕ) → 0 < length left
     → reading_from 0 at os l left ≡ by_front at os left (front_of at os l left)

@@ -8,11 +8,11 @@ use Rattle.bicep_literal.specs.Literal.{Declaration}
 use Rattle.bicep_literal.specs.Source.{Differ, taken, symbol_of, kind_and_name, KeysDiffer, DeclareEach, FileDeclares}
 use Rattle.bicep_literal.specs.Checks.{is_taken, is_same_symbol, is_same_key, clash, are_apart, are_proper}
 use Rattle.bicep_literal.specs.declared.entry.Entry.{Entry}
-use Rattle.bicep_literal.proofs.ValueLemmas.{eq_word, word_eq}
 use Rattle.bicep_literal.proofs.Putting.{all_map}
 use Rattle.bicep_literal.proofs.EntryLemmas.{or_parts, not_true, within, below}
-use Rattle.foundation.proofs.TruthValues.{both as and_parts, unless}
+use Rattle.foundation.proofs.TruthValues.{both as and_parts, unless, nor}
 use Rattle.bicep_literal.proofs.Entering.{EnterEach}
+use Rattle.foundation.proofs.Words.{eq_word, word_eq}
 
 abbrev pub folded_symbol : Entry → List ℕ
 folded_symbol e = fold e.symbol
@@ -78,9 +78,6 @@ pairs_apart a b ne =
     ne
     (ap₂ pair_of (eq_word (fold a.resource.kind) (fold b.resource.kind) p.0)
     (eq_word (fold a.resource.name) (fold b.resource.name) p.1)))
-
-nor : (a b : Bool) → a ≡ false → b ≡ false → (a || b) ≡ false
-nor a b p q = rw p q
 
 -- ---- no two clash
 

@@ -8,7 +8,7 @@ use Rattle.arm_value.specs.Json.{text, Pairs, no_pairs, pair, Member, pairs, mem
 use Rattle.arm_value.specs.Json.{pair_keys, keys, put_each}
 use Rattle.arm_value.specs.Look.{first_by}
 use Rattle.arm_ids.specs.Segments.{segments, is_empty}
-use Rattle.literal_template.specs.Resources.{is_deployment}
+use Rattle.arm_ids.specs.Members.{is_deployment_type}
 use Rattle.literal_template.specs.declared.resource.Resource.{Resource}
 use Rattle.bicep_literal.specs.Literal.{Declaration}
 use Rattle.bicep_literal.specs.Source.{in_order, each_in_order, Differ, without_name, is_reserved, Fits, Declares}
@@ -125,18 +125,18 @@ version_some (c ∷ cs) h = refl
 
 record Proper (kind api name : List ℕ) : Type 0 where
   versioned : api ≢ []
-  no_deployment : is_deployment kind ≡ false
+  no_deployment : is_deployment_type kind ≡ false
   fits : Fits kind name
 
 proper_sound : (kind api name : List ℕ) → is_proper kind api name ≡ true → Proper kind api name
 unfolding is_proper
 proper_sound kind api name h =
-    let a = and_parts (not (is_empty api)) (not (is_deployment kind) && is_fit kind name) h in
-    let b = and_parts (not (is_deployment kind)) (is_fit kind name) a.1 in
+    let a = and_parts (not (is_empty api)) (not (is_deployment_type kind) && is_fit kind name) h in
+    let b = and_parts (not (is_deployment_type kind)) (is_fit kind name) a.1 in
     record {
       versioned = some_version api (not_true (is_empty api) a.0);
       no_deployment =
-          not_true (is_deployment kind) b.0;
+          not_true (is_deployment_type kind) b.0;
       fits = fit_sound kind name b.1;
     }
 
@@ -285,7 +285,7 @@ declares symbol path raw e fine h =
         unreserved = ap (λ ks. list_any is_reserved ks) (sym (each-keys (without_name raw))
             ∙ ap pair_keys (without_each raw) ∙ out_keys) ∙ b.unreserved;
         shallow = subst (λ x. x ≤ 90) (pairs_nesting_stays raw fine.0) (p.shallow 90 deep);
-        no_deployment = subst (λ x. is_deployment x ≡ false) w.kind_is w.proper.no_deployment;
+        no_deployment = subst (λ x. is_deployment_type x ≡ false) w.kind_is w.proper.no_deployment;
         fits = subst (λ x. Fits x e.resource.name) w.kind_is (subst (λ x. Fits d.kind x) w.name_is w.proper.fits);
       },
     )

@@ -1,14 +1,17 @@
 -- What is declared can be stated by a literal template.
-use Rattle.std.proofs.Common.{◌≡◌, ◌≤◌, ℕ, List, [], ◌∷◌, ◌++◌, Bool, true, false, ◌||◌, refl, sym, ap, ◌∙◌, subst}
+use Rattle.std.proofs.Common.{◌≡◌, ◌≤◌, ℕ, List, [], ◌∷◌, ◌++◌, Bool, true, false, ◌||◌, drop, refl, sym, ap}
+use Rattle.std.proofs.Common.{◌∙◌, subst}
 use Rattle.std.specs.List.{AllByRecursion, list_any}
 use Rattle.arm_value.specs.Json.{Pairs, no_pairs, pair, pairs, pairs_nesting, members_nesting, pair_keys, keys}
 use Rattle.arm_value.specs.Json.{put_each, AreMembers}
 use Rattle.arm_value.specs.Look.{is_same_folded}
 use Rattle.literal_template.specs.Literals.{pairs_are_plain}
-use Rattle.literal_template.specs.Resources.{heads, directives, is_head, is_directive, IsLiteral}
+use Rattle.arm_ids.specs.Members.{is_among, declaration_members, is_declaration_member, is_refused_member}
+use Rattle.literal_template.specs.Resources.{heads, is_head, is_directive, IsLiteral}
 use Rattle.literal_template.specs.declared.resource.Resource.{Resource}
 use Rattle.bicep_literal.specs.Literal.{Declaration}
-use Rattle.bicep_literal.specs.Source.{each_in_order, without_name, is_reserved, Declares, DeclareEach}
+use Rattle.bicep_literal.specs.Source.{each_in_order, without_name, reference_members, is_reserved, Declares}
+use Rattle.bicep_literal.specs.Source.{DeclareEach}
 use Rattle.bicep_literal.specs.Entries.{is_name}
 use Rattle.bicep_literal.proofs.Ordered.{each, keys-each, pair_plain, plain_pair, put_plain}
 use Rattle.arm_value.proofs.TreeLemmas.{pairs-members}
@@ -24,12 +27,16 @@ any_front q (x ∷ xs) ys h =
     let r = any_front q xs ys p.1 in
     (rw p.0 r.0, r.1)
 
-unreserved_by : (name : List ℕ) (a b c : Bool) → (a || (b || c)) ≡ false → c ≡ false
-unreserved_by name a b c h = (or_parts b c (or_parts a (b || c) h).1).1
+no_head : (name : List ℕ) → is_declaration_member name ≡ false → is_head name ≡ false
+unfolding is_declaration_member is_head
+no_head name h = (any_front (λ other. is_same_folded other name) heads (drop 3 declaration_members) h).0
 
 unreserved : (name : List ℕ) → is_reserved name ≡ false → (is_head name ≡ false) × (is_directive name ≡ false)
-unfolding is_reserved is_head is_directive
-unreserved name h = any_front (λ other. is_same_folded other name) heads directives (unreserved_by name _ _ _ h)
+unfolding is_reserved is_directive
+unreserved name h =
+    let p = or_parts (is_among reference_members name || is_declaration_member name) (is_refused_member name) h in
+    let q = or_parts (is_among reference_members name) (is_declaration_member name) p.0 in
+    (no_head name q.1, rw p.1 (rw q.1 refl))
 
 none_reserved : (ks : List (List ℕ)) → list_any is_reserved ks ≡ false → (list_any is_head ks ≡ false)
     × (list_any is_directive ks ≡ false)

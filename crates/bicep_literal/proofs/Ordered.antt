@@ -16,10 +16,6 @@ use Rattle.arm_value.proofs.TreeLemmas.{pairs-members}
 
 -- ---- lists and rows
 
-pub row-items : (js : Row) → row (items js) ≡ js
-row-items no_items = refl
-row-items (item j js) = ap (item j) (row-items js)
-
 pub each-keys : (ms : Pairs) → pair_keys (each_in_order ms) ≡ pair_keys ms
 each-keys no_pairs = refl
 each-keys (pair k j ms) = ap (λ ks. k ∷ ks) (each-keys ms)

@@ -8,9 +8,9 @@ use Rattle.arm_value.specs.Json.{pairs_nesting, pair_keys}
 use Rattle.arm_value.specs.Look.{first_by}
 use Rattle.bicep_literal.specs.Source.{in_order, each_in_order, Differ, without_name}
 use Rattle.bicep_literal.specs.Entries.{name_text, parted_by, is_name, parting}
-use Rattle.bicep_literal.proofs.ValueLemmas.{eq_word, word_eq}
 use Rattle.bicep_literal.proofs.Putting.{all_map}
 use Rattle.foundation.proofs.TruthValues.{both_ways}
+use Rattle.foundation.proofs.Words.{eq_word, word_eq}
 
 named_parts : (p q : List ℕ × List Member) → Some p ≡ Some q → (p.0 ≡ q.0) × (p.1 ≡ q.1)
 named_parts p q h =

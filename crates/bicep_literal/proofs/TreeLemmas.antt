@@ -17,10 +17,11 @@ use Rattle.bicep_literal.specs.Source.{in_order, row_in_order, Differ}
 use Rattle.bicep_literal.specs.Values.{array_of, object_of, plain_name, value_of, values_of, each_of, member_of}
 use Rattle.bicep_literal.specs.Values.{given_of}
 use Rattle.bicep_literal.proofs.Entering.{Fine, FineRow, FinePairs}
-use Rattle.bicep_literal.proofs.Ordered.{each, row-items, keys-each, nesting-each, item_plain, plain_item, pair_plain}
+use Rattle.bicep_literal.proofs.Ordered.{each, keys-each, nesting-each, item_plain, plain_item, pair_plain}
 use Rattle.bicep_literal.proofs.Ordered.{plain_pair, row_nesting_stays, pairs_nesting_stays}
 use Rattle.bicep_literal.proofs.ValueLemmas.{array_is, object_is}
 use Rattle.bicep_literal.proofs.EntryLemmas.{distinct_complete}
+use Rattle.arm_value.proofs.TreeLemmas.{row-items}
 
 -- ---- what is computed
 

@@ -9,16 +9,7 @@ use Rattle.arm_value.proofs.JsonLemmas.{IsInOrder-nil}
 use Rattle.bicep_literal.specs.Source.{Differ}
 use Rattle.bicep_literal.specs.Values.{distinct, array_of, object_of}
 use Rattle.bicep_literal.proofs.Putting.{differing}
-
-pub eq_word : (xs ys : List ℕ) → bytes_eq xs ys ≡ true → xs ≡ ys
-eq_word xs ys e = (bytes_eq-Decides xs ys).0 e
-
-pub word_eq : (xs ys : List ℕ) → xs ≡ ys → bytes_eq xs ys ≡ true
-word_eq xs ys e = (bytes_eq-Decides xs ys).1 e
-
-pub map-push : {A B : Type 0} (f : A → B) (xs : List A) (x : A) → map f (xs ++ x ∷ []) ≡ map f xs ++ f x ∷ []
-map-push f [] x = refl
-map-push f (y ∷ ys) x = ap (λ ts. f y ∷ ts) (map-push f ys x)
+use Rattle.foundation.proofs.Lists.{map-push}
 
 pub ruleset views = (map-push)
 

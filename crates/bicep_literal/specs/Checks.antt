@@ -3,6 +3,7 @@ use Rattle.std.specs.Prelude.{ℕ, nat_le, ◌&&◌, ◌||◌, not, Bool, true, 
 use Rattle.std.specs.Prelude.{option_and_then, if◌then◌else◌}
 use Rattle.std.specs.List.{list_any}
 use Rattle.arm_value.specs.Look.{is_same_folded}
+use Rattle.arm_ids.specs.Members.{is_among}
 use Rattle.bicep_tree.specs.Tree.{FileTree}
 use Rattle.literal_template.specs.declared.resource.Resource.{Resource}
 use Rattle.bicep_literal.specs.Source.{taken}
@@ -11,7 +12,7 @@ use Rattle.bicep_literal.specs.declared.entry.Entry.{Entry}
 
 -- whether no resource may have the symbol
 unfoldable pub is_taken : List ℕ → Bool
-is_taken symbol = list_any (λ word. is_same_folded word symbol) taken
+is_taken symbol = is_among taken symbol
 
 -- whether both have one symbol, in letters of any case
 abbrev pub is_same_symbol : Entry → Entry → Bool

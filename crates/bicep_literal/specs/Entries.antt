@@ -4,7 +4,7 @@ use Rattle.std.specs.Prelude.{length, bytes_eq, Option, Some, None, option_map, 
 use Rattle.std.specs.List.{list_any}
 use Rattle.arm_value.specs.Json.{Json, text, Member, members_nesting, keys}
 use Rattle.arm_ids.specs.Segments.{segments, is_empty}
-use Rattle.literal_template.specs.Resources.{is_deployment}
+use Rattle.arm_ids.specs.Members.{is_deployment_type}
 use Rattle.literal_template.specs.declared.resource.Resource.{Resource}
 use Rattle.bicep_literal.specs.Source.{is_reserved}
 use Rattle.bicep_tree.specs.Tree as tree
@@ -49,7 +49,7 @@ is_fit kind name = not (list_any is_empty (segments kind) || list_any is_empty (
 
 -- whether a resource may have this type, version and name
 unfoldable pub is_proper : List ℕ → List ℕ → List ℕ → Bool
-is_proper kind api name = not (is_empty api) && (not (is_deployment kind) && is_fit kind name)
+is_proper kind api name = not (is_empty api) && (not (is_deployment_type kind) && is_fit kind name)
 
 -- the body of these members, where they may form one
 unfoldable pub body_of : List Member → Option (List Member)

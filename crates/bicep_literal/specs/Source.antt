@@ -1,6 +1,6 @@
 -- Which resources a source in the literal form declares.
 use Rattle.std.specs.Prelude.{◌≡◌, ◌≢◌, ℕ, suc, ◌≤◌, ◌==◌, Bool, true, false, List, [], ◌∷◌, ◌++◌, map, length}
-use Rattle.std.specs.Prelude.{bytes_eq, Some, codes, if◌then◌else◌}
+use Rattle.std.specs.Prelude.{◌||◌, bytes_eq, Some, codes, if◌then◌else◌}
 use Rattle.std.specs.List.{list_any, AllByRecursion}
 use Rattle.arm_value.specs.Json.{Json, null, bool, int, text, array, object, Row, no_items, item, Pairs, no_pairs}
 use Rattle.arm_value.specs.Json.{pair, pairs, pair_keys, pairs_nesting, members, put_each}
@@ -9,7 +9,7 @@ use Rattle.arm_ids.specs.Segments.{segments, is_empty}
 use Rattle.bicep_lexer.specs.Reading.{Standing}
 use Rattle.bicep_lexer.specs.Grammar as lexer
 use Rattle.literal_template.specs.Literals.{pairs_are_plain}
-use Rattle.literal_template.specs.Resources.{is_among, heads, directives, is_deployment}
+use Rattle.arm_ids.specs.Members.{is_among, is_declaration_member, is_refused_member, is_deployment_type}
 use Rattle.literal_template.specs.declared.resource.Resource.{Resource}
 use Rattle.bicep_tree.specs.Tree.{FileTree}
 use Rattle.bicep_tree.specs.Declarations.{Spells}
@@ -63,12 +63,13 @@ abbrev pub without_name : Pairs → Pairs
 without_name no_pairs = no_pairs
 without_name (pair k j ms) = if bytes_eq k (codes "name") then without_name ms else pair k j (without_name ms)
 
--- the names that no member of a resource has but `name` itself, in letters of any case
-abbrev pub reserved : List (List ℕ)
-reserved = codes "parent" ∷ codes "existing" ∷ (heads ++ directives)
+-- the members by which a declaration refers to a resource that it does not declare
+abbrev pub reference_members : List (List ℕ)
+reference_members = codes "parent" ∷ codes "existing" ∷ []
 
+-- whether no member of a resource has this name but `name` itself
 unfoldable pub is_reserved : List ℕ → Bool
-is_reserved name = is_among reserved name
+is_reserved name = is_among reference_members name || is_declaration_member name || is_refused_member name
 
 -- type and name have no empty segment, and the type has one segment more
 pub record Fits (kind name : List ℕ) : Type 0 where
@@ -88,7 +89,7 @@ pub record Declares (d : Declaration) (r : Resource) : Type 0 where
   pub plain : pairs_are_plain d.members ≡ true
   pub unreserved : list_any is_reserved (pair_keys (without_name d.members)) ≡ false
   pub shallow : pairs_nesting d.members ≤ 90
-  pub no_deployment : is_deployment r.kind ≡ false
+  pub no_deployment : is_deployment_type r.kind ≡ false
   pub fits : Fits r.kind r.name
 
 -- the symbols that are taken

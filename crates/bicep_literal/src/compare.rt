@@ -6,7 +6,7 @@ ghost use Rattle.arm_value.specs.Look.{is_same_folded};
 ghost use Rattle.bicep_literal.specs.Checks.{is_taken, clash, are_apart, are_proper};
 
 use crate::entry::Entry;
-use crate::words::is_among;
+use arm_ids::is_among;
 use arm_value::Text;
 use foundation::limits::MAX_RESOURCES;
 use literal_template::Resource;
@@ -18,7 +18,7 @@ const TAKEN: [&str; 5] = ["sys", "az", "true", "false", "null"];
 fn is_taken(symbol: &Text) -> bool
     ensures { result ≡ is_taken symbol.now }
 {
-    is_among(symbol, &TAKEN)
+    is_among(&TAKEN, symbol)
 }
 
 // Whether one of the symbols is taken.

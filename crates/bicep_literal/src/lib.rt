@@ -16,7 +16,6 @@ mod source;
 mod statement;
 mod stop;
 mod value;
-mod words;
 
 pub use fault::{LiteralFault, SourceFault};
 pub use laws::a_source_declares_one_list;

@@ -1,47 +1,34 @@
 // Which types, versions and names a resource may have.
 
-ghost use Rattle.std.specs.Prelude.{◌≡◌, ◌||◌, map, chars, length, IfOk};
-ghost use Rattle.std.specs.List.{list_any};
-ghost use Rattle.arm_value.specs.Look.{is_same_folded};
-ghost use Rattle.arm_ids.specs.Segments.{segments, is_empty};
-ghost use Rattle.literal_template.specs.Resources.{is_deployment};
-ghost use Rattle.bicep_literal.specs.Source.{is_reserved};
+ghost use Rattle.std.specs.Prelude.{◌≡◌, chars, IfOk};
+ghost use Rattle.arm_ids.specs.Members.{is_among};
+ghost use Rattle.arm_ids.specs.Segments.{is_empty};
+ghost use Rattle.bicep_literal.specs.Source.{reference_members, is_reserved};
 ghost use Rattle.bicep_literal.specs.Entries.{is_fit, is_proper};
 
-use crate::words::is_among;
+use arm_ids::{
+    has_empty_segment, is_among, is_declaration_member, is_deployment_type, is_refused_member,
+    segments,
+};
 use arm_value::{OutOfMemory, Text};
 use std::alloc::Global;
 
-// The names that no member of a resource has but `name` itself, in letters of any case.
-const RESERVED: [&str; 14] = [
-    "parent",
-    "existing",
-    "type",
-    "apiVersion",
-    "name",
-    "condition",
-    "dependsOn",
-    "copy",
-    "resources",
-    "comments",
-    "metadata",
-    "scope",
-    "subscriptionId",
-    "resourceGroup",
-];
+// The members by which a declaration refers to a resource that it does not declare.
+const REFERENCE_MEMBERS: [&str; 2] = ["parent", "existing"];
+
+// Whether a declaration refers by a member of this name to a resource that it does not declare.
+fn is_reference(name: &Text) -> bool
+    ensures { result ≡ is_among reference_members name.now }
+{
+    is_among(&REFERENCE_MEMBERS, name)
+}
 
 /// Whether the name is one that no member of a resource has but `name` itself.
+#[tactic(auto, unfolding(crate::specs::Source::is_reserved))]
 pub fn is_reserved(name: &Text) -> bool
     ensures { result ≡ is_reserved name.now }
 {
-    is_among(name, &RESERVED)
-}
-
-// The parts of a text between its slashes.
-fn segments(alloc: Global, text: &str) -> Result<Vec<&str>, OutOfMemory>
-    ensures { IfOk result (λ v. map (λ x. chars x.now) v.items ≡ segments (chars text.now)) }
-{
-    text.split('/').collect(alloc)
+    is_reference(name) || is_declaration_member(name) || is_refused_member(name)
 }
 
 // Whether the text is empty.
@@ -51,18 +38,6 @@ fn is_blank(text: &str) -> bool
     text.is_empty()
 }
 
-// Whether one of the texts is empty.
-fn has_empty(texts: &[&str]) -> bool
-    ensures { result ≡ list_any is_empty (map (λ x. chars x.now) texts.now) }
-{
-    for text in texts {
-        if is_blank(text) {
-            return true;
-        }
-    }
-    false
-}
-
 // Whether the type has one segment more than the name, and neither has an empty one.
 #[tactic(auto, unfolding(crate::specs::Entries::is_fit))]
 fn is_fit(alloc: Global, kind: &Text, name: &Text) -> Result<bool, OutOfMemory>
@@ -70,17 +45,10 @@ fn is_fit(alloc: Global, kind: &Text, name: &Text) -> Result<bool, OutOfMemory>
 {
     let kinds = segments(alloc, kind.as_str())?;
     let names = segments(alloc, name.as_str())?;
-    if has_empty(kinds.as_slice()) || has_empty(names.as_slice()) {
+    if has_empty_segment(kinds.as_slice()) || has_empty_segment(names.as_slice()) {
         return Ok(false);
     }
     Ok(names.len() < kinds.len() && kinds.len() - names.len() == 1)
-}
-
-// Whether the type is that of nested deployments.
-fn is_deployment(kind: &Text) -> bool
-    ensures { result ≡ is_deployment kind.now }
-{
-    kind.equals_ignore_case("Microsoft.Resources/deployments")
 }
 
 /// Whether a resource may have this type, version and name.
@@ -91,7 +59,7 @@ pub fn is_proper(alloc: Global, kind: &Text, api: &Text, name: &Text) -> Result<
     if is_blank(api.as_str()) {
         return Ok(false);
     }
-    if is_deployment(kind) {
+    if is_deployment_type(kind) {
         return Ok(false);
     }
     is_fit(alloc, kind, name)

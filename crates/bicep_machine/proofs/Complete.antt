@@ -32,7 +32,7 @@ use Rattle.bicep_tree.specs.Forms.{◌▹◌, is_newline, is_separator, one, any
 use Rattle.bicep_tree.specs.Forms.{named, word, quoted, namespace_word, index_sign, prefix_sign, function, decorating}
 use Rattle.bicep_tree.specs.Forms as form
 use Rattle.bicep_tree.specs.Expressions.{expression, loop_names, separators, separated, under, arguments}
-use Rattle.bicep_tree.specs.Expressions.{further_arguments, items, further_items, a_hole, behind_hole, an_object}
+use Rattle.bicep_tree.specs.Expressions.{further_arguments, items, further_items, a_hole, after_hole, an_object}
 use Rattle.bicep_tree.specs.Expressions.{object_members, further_members, a_member, value, a_loop, a_decorator}
 use Rattle.bicep_tree.specs.Expressions.{a_resource, body}
 use Rattle.bicep_tree.specs.Expressions as grammar
@@ -665,7 +665,7 @@ module _ (most : ℕ) (low : 1 ≤ most) (r : Kept FileTree) where
         (complete_after hs e v at u before i S m ks (spined e i ts m inner) rest goal)
 
     complete_after : (hs : Holes) (e : Tree) (v : List ℕ) (at : ℕ) (u : List ℕ) (before : List (Tree × List ℕ))
-        (i : Bool) (S : List Frame) (ts ks : List Placed) → Spined e → behind_hole i v hs ts ks
+        (i : Bool) (S : List Frame) (ts ks : List Placed) → Spined e → after_hole i v hs ts ks
         → Read (done (keep most (interpolated at u (holes (before ++ (e, v) ∷ each_hole hs))))) i S ks
         → Read (done (keep most (last e))) i (spine most e (in_text at u (keep_holes most before) ∷ S)) ts
     complete_after no_hole e v at u before i S ts ks sp tk goal =

@@ -10,7 +10,7 @@ use Rattle.bicep_tree.specs.Terminals.{Placed}
 use Rattle.bicep_tree.specs.Forms.{Form, ◌▹◌, nothing, is_newline, is_separator, one, any, skipped, sign, token_at}
 use Rattle.bicep_tree.specs.Forms.{token}
 use Rattle.bicep_tree.specs.Expressions.{expression, arguments, further_arguments, items, further_items, a_hole}
-use Rattle.bicep_tree.specs.Expressions.{behind_hole, object_members, further_members, a_member, decorated}
+use Rattle.bicep_tree.specs.Expressions.{after_hole, object_members, further_members, a_member, decorated}
 use Rattle.bicep_tree.specs.Expressions.{a_decorator}
 use Rattle.bicep_tree.specs.Declarations.{a_statement, a_file, further_statements}
 
@@ -182,7 +182,7 @@ holes_more i (x ∷ hs) e u a b c d (m, g, (n, q, h)) f s = (m, g, (n, q, holes_
 
 holes_further : (i : Bool) (v : List ℕ) (hs : List (Tree × List ℕ)) (e : Tree) (u : List ℕ) (a b c d : List Placed)
     → (token i (t.MiddlePiece v) ▹ HolesRead i hs) a b → expression i e b c → token i (t.RightPiece u) c d
-    → behind_hole i v (holes (hs ++ (e, u) ∷ [])) a d
+    → after_hole i v (holes (hs ++ (e, u) ∷ [])) a d
 holes_further i v [] e u a b c d (m, q, h) f s = (b, subst (token i (t.MiddlePiece v) a) h q, (c, f, s))
 holes_further i v (x ∷ hs) e u a b c d (m, q, (n, g, h)) f s = (m, q, (n, g, holes_further i x.1 hs e u n b c d h f s))
 

@@ -62,7 +62,7 @@ use Rattle.bicep_machine.proofs.Reading.{parts_put, parts_last, parts_end, decor
 use Rattle.bicep_machine.proofs.ReadSoFar.{flag, IsObject, IsArray, IsFile, IsBody, IsNames, IsOperator, IsNew}
 use Rattle.bicep_machine.proofs.ReadSoFar.{Beginning, word_text, Decorated, Headed, Open, IsFirst, open_body, At}
 use Rattle.bicep_machine.proofs.ReadSoFar.{Holds}
-use Rattle.bicep_machine.proofs.SoundClosing.{eq_word, takes_high, takes_least, to_token, plain_sign, Ended}
+use Rattle.bicep_machine.proofs.SoundClosing.{takes_high, takes_least, to_token, plain_sign, Ended}
 use Rattle.bicep_machine.proofs.SoundClosing.{object_flag, statement_kept, member_closes, members_close}
 use Rattle.bicep_machine.proofs.SoundClosing.{member_stands, items_close, no_argument, paren_stands, bracket_stands}
 use Rattle.bicep_machine.proofs.SoundClosing.{comma_stands, brace_stands, colon_stands, late_colon_stands}
@@ -70,6 +70,7 @@ use Rattle.bicep_machine.proofs.SoundClosing.{middle_stands, right_stands, state
 use Rattle.bicep_machine.proofs.SoundClosing.{newline_stands, over_stands}
 use Rattle.bicep_machine.proofs.SoundClosing as closing
 use Rattle.foundation.proofs.Choices.{if_else}
+use Rattle.foundation.proofs.Words.{eq_word}
 
 -- ---- words
 

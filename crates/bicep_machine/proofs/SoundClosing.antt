@@ -56,9 +56,6 @@ use Rattle.bicep_machine.proofs.ReadSoFar.{flag, Takes, IsObject, assigned_form,
 use Rattle.bicep_machine.proofs.ReadSoFar.{IsFirst, Holds}
 use Rattle.foundation.proofs.Comparisons.{lt_of_false, le_of_true}
 
-pub eq_word : (xs ys : List ℕ) → bytes_eq xs ys ≡ true → xs ≡ ys
-eq_word xs ys e = (bytes_eq-Decides xs ys).0 e
-
 pub takes_high : (S : List Frame) (n : ℕ) → 8 ≤ n → Takes S n
 takes_high [] n h = tt
 takes_high (prefixing at p ∷ S) n h = h

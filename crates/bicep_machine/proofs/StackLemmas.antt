@@ -4,6 +4,7 @@ use Rattle.std.proofs.Common.{option_to_list, MatchOption, length}
 use Rattle.bicep_machine.specs.declared.frame.Frame as frames
 use Rattle.bicep_machine.specs.Stack.{Frame}
 use Rattle.bicep_machine.specs.Views.{frame_of, frames_onto, frames_of}
+use Rattle.foundation.proofs.Lists.{map-push}
 
 onto-push : (S : List Frame) (fs : List frames.Frame) (f : frames.Frame)
     → frames_onto S (fs ++ f ∷ []) ≡ frame_of f ∷ frames_onto S fs
@@ -29,9 +30,5 @@ popped None old new n m h n_is zero = (ap frames_of is_empty, ap frames_of (new_
     is_empty : old ≡ []
     is_empty = empty old (sym n_is ∙ zero.0)
 popped (Some f) old new n m h n_is zero = ap frames_of h ∙ frames_of-push new f
-
-pub map-push : {A B : Type 0} (f : A → B) (xs : List A) (x : A) → map f (xs ++ x ∷ []) ≡ map f xs ++ f x ∷ []
-map-push f [] x = refl
-map-push f (y ∷ ys) x = ap (λ ts. f y ∷ ts) (map-push f ys x)
 
 pub ruleset stacks = (frames_of-push, map-push)

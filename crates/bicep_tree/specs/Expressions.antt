@@ -83,12 +83,12 @@ abbrev mutual
   -- a hole of an interpolated text, and the parts after it
   pub a_hole : Bool → Holes → Form
   a_hole i no_hole = never
-  a_hole i (hole e s hs) = expression i e ▹ behind_hole i s hs
+  a_hole i (hole e s hs) = expression i e ▹ after_hole i s hs
 
   -- the characters after a hole, and the other holes
-  pub behind_hole : Bool → List ℕ → Holes → Form
-  behind_hole i s no_hole = token i (t.RightPiece s)
-  behind_hole i s (hole e u hs) = token i (t.MiddlePiece s) ▹ expression i e ▹ behind_hole i u hs
+  pub after_hole : Bool → List ℕ → Holes → Form
+  after_hole i s no_hole = token i (t.RightPiece s)
+  after_hole i s (hole e u hs) = token i (t.MiddlePiece s) ▹ expression i e ▹ after_hole i u hs
 
   pub an_object : Bool → ObjectTree → Form
   an_object i (braces at ms) = token_at i at t.OpenBrace ▹ separators ▹ object_members ms

@@ -166,11 +166,11 @@ staged records at r old h =
     let taken : take (at + 1) old ≡ front = ap (λ (l : List ℕ). take (at + 1) l) split
     ∙ take_at front h.rest (at + 1) size in
     let end = drop (at + 1 + length (body r (0 ∷ []))) old in
-    let behind : body r (0 ∷ []) ++ end ≡ body r (0 ∷ end) = simp append_assoc in (
+    let joined : body r (0 ∷ []) ++ end ≡ body r (0 ∷ end) = simp append_assoc in (
       end,
       ap (λ (l : List ℕ). l ++ (body r (0 ∷ []) ++ end)) taken
           ∙ append_assoc (front_of records) (h.gate ∷ []) (body r (0 ∷ []) ++ end)
-          ∙ ap (λ (l : List ℕ). front_of records ++ (h.gate ∷ l)) behind,
+          ∙ ap (λ (l : List ℕ). front_of records ++ (h.gate ∷ l)) joined,
     )
 
 pub size_body : (r : Record) (k : List ℕ) → length (body r k) ≡ 17 + length r.first + length r.second + length k

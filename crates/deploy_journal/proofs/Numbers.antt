@@ -76,10 +76,10 @@ pub body_read : (file header first second : List ℕ) (a b : ℕ) → length hea
     → length first ≡ a → length second ≡ b → first ≡ take a (drop 17 file) → second ≡ take b (drop (17 + a) file)
     → file ≡ body_bytes (get_or header 0 0) first second (drop (17 + length first + length second) file)
 body_read file header first second a b size header_at first_len second_len size_a size_b first_is second_is =
-    let behind : drop (17 + length first + length second) file ≡ drop b (drop (17 + a) file) =
+    let after : drop (17 + length first + length second) file ≡ drop b (drop (17 + a) file) =
     ap (λ (n : ℕ). drop n file) (omega arith) ∙ sym (drop-drop b (17 + a) file) in
     let tail : drop (17 + a) file ≡ second ++ drop (17 + length first + length second) file =
-    sym (take-append-drop b (drop (17 + a) file)) ∙ (λ i. sym second_is i ++ sym behind i) in
+    sym (take-append-drop b (drop (17 + a) file)) ∙ (λ i. sym second_is i ++ sym after i) in
     let mid : drop 17 file ≡ first ++ (second ++ drop (17 + length first + length second) file) =
     sym (take-append-drop a (drop 17 file)) ∙ (λ i. sym first_is i ++ drop-drop a 17 file i)
     ∙ ap (λ (l : List ℕ). first ++ l) tail in

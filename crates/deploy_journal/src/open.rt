@@ -24,7 +24,7 @@ pub enum Next {
 fn read_next<D: Disk>(alloc: Global, disk: &mut D, at: u64, left: u64) -> Result<Next, OpenFault>
     requires fits { at + left < 2 ^ 64 }
     requires within { 0 < left }
-    ensures told { IfOk result (λ next. D.tells_reads ≡ true
+    ensures means { IfOk result (λ next. D.tells_reads ≡ true
         → at + left ≡ length (D.reads disk.old).a → NextMeans next (drop at (D.reads disk.old).a)) }
     ensures fits { IfOk result (λ next. NextFits left next) }
     ensures still { Still D.tells_images D.reads D.moment D.left D.reach disk.old disk.new }
@@ -86,7 +86,7 @@ const BEGINNING: [u8; 16] = *b"armdeploy-jrnl-1";
 
 // Whether the file begins as a journal does.
 fn read_beginning<D: Disk>(disk: &mut D, size: u64) -> Result<bool, OpenFault>
-    ensures told { IfOk result (λ b. D.tells_reads ≡ true → size ≡ length (D.reads disk.old).a
+    ensures begins { IfOk result (λ b. D.tells_reads ≡ true → size ≡ length (D.reads disk.old).a
         → (b ≡ true → (D.reads disk.old).a ≡ beginning ++ drop 16 (D.reads disk.old).a)
         × (b ≡ false → (rest : List ℕ) → (D.reads disk.old).a ≡ beginning ++ rest → ⊥)) }
     ensures long { IfOk result (λ b. b ≡ true → 16 ≤ size) }

@@ -25,7 +25,7 @@ pub enum OpenFault {
 // Reads until the buffer is full. False where the part ends before.
 pub(crate) fn read_full<D: Disk>(disk: &mut D, at: u64, buf: &mut [u8]) -> Result<bool, Failed>
     requires { at + length buf.old < 2 ^ 64 }
-    ensures told { IfOk result (λ full. D.tells_reads ≡ true
+    ensures filled { IfOk result (λ full. D.tells_reads ≡ true
         → at + length buf.old ≤ length (D.reads disk.old).a → (full ≡ true)
         × (buf.new ≡ take (length buf.old) (drop at (D.reads disk.old).a))) }
     ensures still { Still D.tells_images D.reads D.moment D.left D.reach disk.old disk.new }
@@ -51,7 +51,7 @@ fn read_bytes<D: Disk>(
 ) -> Result<Option<Bytes>, OpenFault>
     requires { at + count < 2 ^ 64 }
     ensures size { IfOk result (λ o. MatchOption o ⊤ (λ bytes. length bytes ≡ count)) }
-    ensures told { IfOk result (λ o. D.tells_reads ≡ true → at + count ≤ length (D.reads disk.old).a
+    ensures read { IfOk result (λ o. D.tells_reads ≡ true → at + count ≤ length (D.reads disk.old).a
         → MatchOption o ⊥ (λ bytes. bytes ≡ take count (drop at (D.reads disk.old).a))) }
     ensures still { Still D.tells_images D.reads D.moment D.left D.reach disk.old disk.new }
     ensures cause { ReadCause (D.faults disk.old) (D.faults disk.new) result }
@@ -76,7 +76,7 @@ pub(crate) fn read_record<D: Disk>(
     requires { at + left < 2 ^ 64 }
     ensures fits { IfOk result
         (λ o. MatchOption o (⊤) (λ r. 17 + length r.first + length r.second ≤ left)) }
-    ensures told { IfOk result (λ o. D.tells_reads ≡ true → at + left ≡ length (D.reads disk.old).a
+    ensures read { IfOk result (λ o. D.tells_reads ≡ true → at + left ≡ length (D.reads disk.old).a
         → MatchOption o (IsCutShort (drop at (D.reads disk.old).a))
         (λ r. drop at (D.reads disk.old).a
         ≡ body r (drop (at + (17 + length r.first + length r.second)) (D.reads disk.old).a))) }

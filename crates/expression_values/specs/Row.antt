@@ -78,7 +78,7 @@ texts_in (j ∷ js) = option_and_then (λ t. option_map (λ ts. t ∷ ts) (texts
 
 -- what `reference` asks of a state by its third argument
 abbrev pub asked_by : List ℕ → Option Asked
-asked_by full = if is_same_folded full (codes "Full") then Some Whole else None
+asked_by full = if is_same_folded (codes "Full") full then Some Whole else None
 
 -- `reference`: the text that names a resource, and what is asked of its state
 abbrev pub asked : List Json → Option (List ℕ × Asked)

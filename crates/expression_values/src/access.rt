@@ -11,10 +11,9 @@ ghost use Rattle.arm_env.specs.Answer.{answered, given, Gives, Sees};
 ghost use Rattle.expression_values.specs.Meaning.{indexed};
 ghost use Rattle.arm_env.specs.Part.{kept};
 ghost use Rattle.arm_env.specs.Object.{object_of};
-ghost use Rattle.arm_env.specs.Sight.{known_by, here, held_of};
+ghost use Rattle.arm_env.specs.Sight.{known_by, here, held_of, output_of};
 
 use arm_env::env::OutputAt;
-use arm_env::function;
 use arm_env::held::{Held, keep, keep_copy, lend, own_part, part_of};
 use arm_env::objects::with_value;
 use arm_env::outputs::{fields_at, look_at_outputs, output_named, typed};
@@ -29,7 +28,7 @@ fn is_word(word: &str, index: &Value) -> bool
     ensures { result ≡ is_word (chars word.now) (json index.now) }
 {
     match index {
-        Value::Text(name) => function::is_word(name, word),
+        Value::Text(name) => name.equals_ignore_case(word),
         _ => false,
     }
 }
@@ -119,7 +118,7 @@ fn part_of_output<'a>(
     index: &Value,
 ) -> Result<Held<'a>, Stop>
     ensures { Gives held_of result (answered (known_by sight.now)
-        (part_of_output (here sight.now) key.now (declared output.now) (json index.now))) }
+        (part_of_output (here sight.now) (output_of key.now output.now) (json index.now))) }
 {
     if is_word("value", index) {
         return lend(Some(output_value(sight, key, output)?));
@@ -139,7 +138,8 @@ fn part_of_unlisted<'a>(
     index: &Value,
 ) -> Result<Held<'a>, Stop>
     ensures { Gives held_of result (answered (known_by sight.now)
-        (part_of_no_output (here sight.now) key.now name.now (json index.now))) }
+        (part_of_no_output (here sight.now) (record { key = key.now; name = name.now })
+        (json index.now))) }
 {
     if is_word("value", index) {
         return lend(Some(value_named(sight, key, name)?));
@@ -211,7 +211,7 @@ fn look_at_all<'a>(sight: &Sight<'a>, base: &Held<'a>) -> Result<(), Stop>
 // Looks at all outputs of the nested deployment, and at one of them.
 fn look_at_output(sight: &Sight, key: &Key, output: &OutputAt) -> Result<(), Stop>
     ensures { Sees result (answered (known_by sight.now)
-        (forced (here sight.now) (held.one_output key.now (declared output.now)))) }
+        (forced (here sight.now) (held.one_output (output_of key.now output.now)))) }
 {
     look_at_outputs(sight, key)?;
     let _value = output_value(sight, key, output)?;
@@ -305,7 +305,7 @@ fn shown(alloc: Global, fields: Fields) -> Result<Value, Stop>
 #[tactic(auto, using(crate::proofs::Answers::answers))]
 fn used_output(alloc: Global, sight: &Sight, key: &Key, output: &OutputAt) -> Result<Value, Stop>
     ensures { Gives json result (answered (known_by sight.now)
-        (capped (forced (here sight.now) (held.one_output key.now (declared output.now))))) }
+        (capped (forced (here sight.now) (held.one_output (output_of key.now output.now))))) }
 {
     look_at_outputs(sight, key)?;
     let value = output_value(sight, key, output)?;

@@ -17,7 +17,7 @@ ghost use Rattle.arm_env.specs.Answer.{answered, plain_answer, Gives};
 ghost use Rattle.arm_env.specs.Sight.{known_by, here, held_of};
 
 use arm_env::find::key_named;
-use arm_env::function::{Asked, Strict, is_word, strict_named};
+use arm_env::function::{Asked, Strict, strict_named};
 use arm_env::held::{Held, lend, own};
 use arm_env::ids::{resource_id, subscription_id};
 use arm_env::loops::copy_index;
@@ -80,7 +80,7 @@ fn asked_of_two<'a>(text: &'a Value, api: &Value) -> Option<(&'a Text, Asked)>
 fn asked_by(full: &Text) -> Option<Asked>
     ensures { result ≡ row.asked_by full.now }
 {
-    if is_word(full, "Full") {
+    if full.equals_ignore_case("Full") {
         Some(Asked::Whole)
     } else {
         None

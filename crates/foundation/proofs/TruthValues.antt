@@ -1,5 +1,5 @@
 -- Lemmas on truth values.
-use Rattle.std.proofs.Common.{◌≡◌, Bool, true, false, ◌&&◌, refl, sym, true≢false}
+use Rattle.std.proofs.Common.{◌≡◌, Bool, true, false, ◌&&◌, ◌||◌, cond, refl, sym, true≢false}
 
 -- a conjunction that holds, holds of both
 pub both : (a b : Bool) → (a && b) ≡ true → (a ≡ true) × (b ≡ true)
@@ -15,6 +15,27 @@ and_true false b e f = e
 pub and_false : (a b : Bool) → b ≡ false → (a && b) ≡ false
 and_false true b e = e
 and_false false b e = refl
+
+-- a disjunction that fails, fails on both sides
+pub or_left : (a b : Bool) → (a || b) ≡ false → a ≡ false
+or_left false b e = refl
+or_left true b e = e
+
+pub or_right : (a b : Bool) → (a || b) ≡ false → b ≡ false
+or_right false b e = e
+or_right true b e = absurd (true≢false e)
+
+-- what fails on both sides, fails as a disjunction
+pub nor : (a b : Bool) → a ≡ false → b ≡ false → (a || b) ≡ false
+nor false b e f = f
+nor true b e f = e
+
+-- a test that is made after another, as the last of a list of tests
+pub last_or : (a b : Bool) → cond a true b ≡ (b || (a || false))
+last_or true true = refl
+last_or true false = refl
+last_or false true = refl
+last_or false false = refl
 
 -- what does not hold is false
 pub unless : (b : Bool) → (b ≡ true → ⊥) → b ≡ false

@@ -12,17 +12,17 @@ use Rattle.arm_value.specs.declared.value.Value.{Value}
 use Rattle.function_numbers.specs.Kinds.{text_of}
 use Rattle.function_numbers.proofs.RowLemmas.{next_in, none_left}
 use Rattle.function_identities.specs.Base32.{base32, symbol_of}
-use Rattle.function_identities.specs.Identities.{behind_zeros, seed_of, unique_string}
+use Rattle.function_identities.specs.Identities.{after_zeros, seed_of, unique_string}
 use Rattle.function_identities.proofs.BitLemmas.{length-base32, base32_symbol}
 
 zeros-cons : (j : Json) (js : List Json)
-    → behind_zeros (j ∷ js) ≡ option_and_then
-    (λ s. option_map (λ rest. 0 ∷ encode_utf8_all s ++ rest) (behind_zeros js)) (text_of j)
-unfolding behind_zeros
+    → after_zeros (j ∷ js) ≡ option_and_then
+    (λ s. option_map (λ rest. 0 ∷ encode_utf8_all s ++ rest) (after_zeros js)) (text_of j)
+unfolding after_zeros
 zeros-cons j js = refl
 
-zeros-nil : behind_zeros [] ≡ Some []
-unfolding behind_zeros
+zeros-nil : after_zeros [] ≡ Some []
+unfolding after_zeros
 zeros-nil = refl
 
 zeros_on : (front s : List ℕ) (o : Option (List ℕ))
@@ -35,33 +35,33 @@ zeros_on front s (Some rest) =
 pub seed_more : (front mid more s : List ℕ) (vs : List Value) (i : ℕ) (v : Value) (all : Option (List ℕ))
     → i < length vs → v ≡ get_or vs i v → ◌≡◌ {A = Option (List ℕ)} (Some s) (text_of (json v))
     → mid ≡ front ++ 0 ∷ [] → more ≡ mid ++ encode_utf8_all s
-    → option_map (λ rest. front ++ rest) (behind_zeros (map json (drop i vs))) ≡ all
-    → option_map (λ rest. more ++ rest) (behind_zeros (map json (drop (i + 1) vs))) ≡ all
+    → option_map (λ rest. front ++ rest) (after_zeros (map json (drop i vs))) ≡ all
+    → option_map (λ rest. more ++ rest) (after_zeros (map json (drop (i + 1) vs))) ≡ all
 seed_more front mid more s vs i v all h e t m n before =
     let js = map json (drop (i + 1) vs) in
-    let step : behind_zeros (map json (drop i vs)) ≡ option_map (λ rest. 0 ∷ encode_utf8_all s ++ rest)
-    (behind_zeros js) =
-    ap behind_zeros (next_in vs i v h e) ∙ zeros-cons (json v) js
-    ∙ ap (option_and_then (λ t. option_map (λ rest. 0 ∷ encode_utf8_all t ++ rest) (behind_zeros js))) (sym t) in
-    rw (n, m) (sym (zeros_on front (encode_utf8_all s) (behind_zeros js))
+    let step : after_zeros (map json (drop i vs)) ≡ option_map (λ rest. 0 ∷ encode_utf8_all s ++ rest)
+    (after_zeros js) =
+    ap after_zeros (next_in vs i v h e) ∙ zeros-cons (json v) js
+    ∙ ap (option_and_then (λ t. option_map (λ rest. 0 ∷ encode_utf8_all t ++ rest) (after_zeros js))) (sym t) in
+    rw (n, m) (sym (zeros_on front (encode_utf8_all s) (after_zeros js))
     ∙ ap (option_map (λ rest. front ++ rest)) (sym step) ∙ before)
 
 pub seed_fails : (front : List ℕ) (vs : List Value) (i : ℕ) (v : Value) (all : Option (List ℕ)) → i < length vs
     → v ≡ get_or vs i v → ◌≡◌ {A = Option (List ℕ)} None (text_of (json v))
-    → option_map (λ rest. front ++ rest) (behind_zeros (map json (drop i vs))) ≡ all
+    → option_map (λ rest. front ++ rest) (after_zeros (map json (drop i vs))) ≡ all
     → ◌≡◌ {A = Option (List ℕ)} None all
 seed_fails front vs i v all h e t before =
     let js = map json (drop (i + 1) vs) in
-    let step : behind_zeros (map json (drop i vs)) ≡ None =
-    ap behind_zeros (next_in vs i v h e) ∙ zeros-cons (json v) js
-    ∙ ap (option_and_then (λ t. option_map (λ rest. 0 ∷ encode_utf8_all t ++ rest) (behind_zeros js))) (sym t) in
+    let step : after_zeros (map json (drop i vs)) ≡ None =
+    ap after_zeros (next_in vs i v h e) ∙ zeros-cons (json v) js
+    ∙ ap (option_and_then (λ t. option_map (λ rest. 0 ∷ encode_utf8_all t ++ rest) (after_zeros js))) (sym t) in
     sym (ap (option_map (λ rest. front ++ rest)) step) ∙ before
 
 pub seed_ends : (front : List ℕ) (vs : List Value) (i : ℕ) (all : Option (List ℕ)) → length vs ≤ i
-    → option_map (λ rest. front ++ rest) (behind_zeros (map json (drop i vs))) ≡ all
+    → option_map (λ rest. front ++ rest) (after_zeros (map json (drop i vs))) ≡ all
     → ◌≡◌ {A = Option (List ℕ)} (Some front) all
 seed_ends front vs i all h before = ap Some (sym (append-nil front))
-    ∙ sym (ap (option_map (λ rest. front ++ rest)) (ap behind_zeros (none_left vs i h) ∙ zeros-nil)) ∙ before
+    ∙ sym (ap (option_map (λ rest. front ++ rest)) (ap after_zeros (none_left vs i h) ∙ zeros-nil)) ∙ before
 
 -- ---- how long a unique string is, and of which symbols
 

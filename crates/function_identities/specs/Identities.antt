@@ -13,17 +13,17 @@ use Rattle.function_numbers.specs.Kinds.{text_of}
 use Rattle.function_identities.specs.Base32.{base32}
 
 -- the bytes of texts in UTF-8, a zero byte before each; none where one is no text
-unfoldable pub behind_zeros : List Json → Option (List ℕ)
-behind_zeros [] = Some []
-behind_zeros (j ∷ js) =
-    option_and_then (λ s. option_map (λ rest. 0 ∷ encode_utf8_all s ++ rest) (behind_zeros js))
+unfoldable pub after_zeros : List Json → Option (List ℕ)
+after_zeros [] = Some []
+after_zeros (j ∷ js) =
+    option_and_then (λ s. option_map (λ rest. 0 ∷ encode_utf8_all s ++ rest) (after_zeros js))
     (text_of j)
 
 -- the bytes of texts in UTF-8, a zero byte between each two; none of no texts
 abbrev pub seed_of : List Json → Option (List ℕ)
 seed_of [] = None
 seed_of (j ∷ js) =
-    option_and_then (λ s. option_map (λ rest. encode_utf8_all s ++ rest) (behind_zeros js))
+    option_and_then (λ s. option_map (λ rest. encode_utf8_all s ++ rest) (after_zeros js))
     (text_of j)
 
 -- `uniqueString`: the first 8 bytes of the SHA-256 of the texts, in base32

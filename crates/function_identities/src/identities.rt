@@ -9,7 +9,7 @@ ghost use Rattle.arm_value.specs.View.{json};
 ghost use Rattle.function_numbers.specs.Kinds.{text_of};
 ghost use Rattle.function_identities.specs.Base32.{base32};
 ghost use Rattle.function_identities.specs.Identities as row;
-ghost use Rattle.function_identities.specs.Identities.{behind_zeros, seed_of, version_5};
+ghost use Rattle.function_identities.specs.Identities.{after_zeros, seed_of, version_5};
 
 use crate::base32::base32;
 use arm_value::{OutOfMemory, Text, Value};
@@ -31,7 +31,7 @@ fn add(seed: &mut Vec<u8>, text: &Text) -> Result<(), OutOfMemory>
 fn seed_from(alloc: Global, first: &Text, others: &[Value]) -> Result<Option<Vec<u8>>, OutOfMemory>
     ensures { IfOk result (λ seed. option_map (λ v. v.items) seed
         ≡ option_map (λ rest. encode_utf8_all first.now ++ rest)
-        (behind_zeros (map json others.now))) }
+        (after_zeros (map json others.now))) }
 {
     let mut seed = Vec::new(alloc);
     add(&mut seed, first)?;

@@ -20,17 +20,11 @@ use Rattle.arm_value.specs.Same.{is_same}
 use Rattle.arm_value.proofs.SameLemmas.{decides_equal}
 use Rattle.function_lists.specs.Items.{is_among}
 use Rattle.function_lists.specs.Index.{text_of, ReadsBack, text_cmp, IsIndexOf}
+use Rattle.foundation.proofs.Words.{swapped}
+use Rattle.foundation.proofs.TruthValues.{last_or}
+use Rattle.arm_value.proofs.TreeLemmas.{integer_in, integer_back}
 
 -- ---- a tree and its data
-
-abbrev integer_in : d.Num → ℤ
-integer_in (d.unsigned n) = pos n
-integer_in (d.negative z) = z
-integer_in (d.float x) = pos 0
-
-integer_back : (z : ℤ) → integer_in (of_integer z) ≡ z
-integer_back (pos n) = refl
-integer_back (negsuc n) = refl
 
 mutual
   same_data : (j k : Json) → data_of j ≡ data_of k → j ≡ k
@@ -84,17 +78,6 @@ is_indexed texts key js j h e a =
 
 pub index_empty : (texts : BTreeSet (Vec ℕ Global)) → IsEmpty texts → IsIndexOf texts []
 index_empty texts e = record { has = λ s. ap (list_any _) e; read_back = tt }
-
-swapped : (s t : List ℕ) → bytes_eq s t ≡ bytes_eq t s
-swapped s t =
-    both_ways (bytes_eq s t) (bytes_eq t s) (λ h. (bytes_eq-Decides t s).1 (sym ((bytes_eq-Decides s t).0 h)))
-    (λ h. (bytes_eq-Decides s t).1 (sym ((bytes_eq-Decides t s).0 h)))
-
-last_or : (a b : Bool) → cond a true b ≡ (b || (a || false))
-last_or true true = refl
-last_or true false = refl
-last_or false true = refl
-last_or false false = refl
 
 all_push : (js : List Json) (j : Json) → AllByRecursion ReadsBack js → ReadsBack j
     → AllByRecursion ReadsBack (js ++ j ∷ [])

@@ -13,10 +13,11 @@ use Rattle.arm_value.specs.Json.{IsInOrder}
 use Rattle.arm_value.proofs.SetLemmas.{equal_keys, in_order}
 use Rattle.arm_value.specs.View.{member}
 use Rattle.arm_value.specs.declared.value.Field.{Field}
-use Rattle.arm_value.proofs.JsonLemmas.{IsInOrder-nil, map-push}
+use Rattle.arm_value.proofs.JsonLemmas.{IsInOrder-nil}
 use Rattle.function_numbers.specs.Kinds.{members_of}
 use Rattle.function_lists.specs.Members.{value_at, under, updated, united}
 use Rattle.function_lists.specs.Merge.{starts_below, below, from, object_first, without_first}
+use Rattle.foundation.proofs.Lists.{map-push}
 
 -- ---- keys that differ
 

@@ -18,7 +18,7 @@ fn amount(count: i64) -> u64
 }
 
 // The elements after so many.
-fn behind<T>(elements: &[T], count: u64) -> &[T]
+fn after<T>(elements: &[T], count: u64) -> &[T]
     ensures { result.now ≡ drop count elements.now }
 {
     if elements.len() as u64 <= count {
@@ -112,17 +112,17 @@ pub fn last(alloc: Global, args: &[Value]) -> Result<Option<Value>, OutOfMemory>
     }
 }
 
-fn text_behind(alloc: Global, text: &Text, count: u64) -> Result<Text, OutOfMemory>
+fn text_after(alloc: Global, text: &Text, count: u64) -> Result<Text, OutOfMemory>
     ensures { IfOk result (λ t. t ≡ drop count text.now) }
 {
     let characters = characters_of(alloc, text)?;
-    text_of_characters(alloc, behind(characters.as_slice(), count))
+    text_of_characters(alloc, after(characters.as_slice(), count))
 }
 
-fn items_behind(alloc: Global, items: &Items, count: u64) -> Result<Option<Value>, OutOfMemory>
+fn items_after(alloc: Global, items: &Items, count: u64) -> Result<Option<Value>, OutOfMemory>
     ensures { IfOk result (λ value. option_map json value ≡ array_of (drop count items.now)) }
 {
-    let copies = copies(alloc, behind(items.as_slice(), count))?;
+    let copies = copies(alloc, after(items.as_slice(), count))?;
     Ok(array_of(copies))
 }
 
@@ -131,8 +131,8 @@ fn without_front(alloc: Global, value: &Value, count: &Value) -> Result<Option<V
     ensures { IfOk result (λ part. option_map json part ≡ without_front (json value.now) (json count.now)) }
 {
     match (value, count) {
-        (Value::Array(items), Value::Int(count)) => items_behind(alloc, items, amount(*count)),
-        (Value::Text(text), Value::Int(count)) => Ok(Some(Value::Text(text_behind(
+        (Value::Array(items), Value::Int(count)) => items_after(alloc, items, amount(*count)),
+        (Value::Text(text), Value::Int(count)) => Ok(Some(Value::Text(text_after(
             alloc,
             text,
             amount(*count),

@@ -124,12 +124,12 @@ fn paired(alloc: Global, args: &[Value]) -> Result<Option<Vec<Field>>, OutOfMemo
 {
     let mut fields = Vec::new(alloc);
     let mut rest = args;
-    while let [name, value, behind @ ..] = rest {
+    while let [name, value, following @ ..] = rest {
         match named(alloc, name, value)? {
             Some(field) => fields.push(field)?,
             None => return Ok(None),
         }
-        rest = behind;
+        rest = following;
     }
     if rest.is_empty() {
         Ok(Some(fields))

@@ -5,7 +5,7 @@ ghost use Rattle.arm_value.specs.View.{json, member, entry};
 ghost use Rattle.function_lists.specs.Values.{array_of, capped, object_of, or_null};
 
 use crate::merge::in_object;
-use arm_value::{Field, Items, OutOfMemory, Text, Value, deepest_item, deepest_member};
+use arm_value::{Field, Items, OutOfMemory, Text, Value, deepest_item, deepest_member, sorted};
 use std::alloc::Global;
 use std::collections::BTreeMap;
 
@@ -18,17 +18,6 @@ pub fn array_of(values: Vec<Value>) -> Option<Value>
         return None;
     }
     Some(Value::Array(Items::from_vec(values)))
-}
-
-// The values by their names, of equal names the last.
-fn sorted(alloc: Global, members: Vec<Field>) -> Result<BTreeMap<String, Value>, OutOfMemory>
-    ensures { IfOk result (λ m. map entry m.entries ≡ put_each [] (map member members.items)) }
-{
-    let mut sorted = BTreeMap::new(alloc);
-    for field in members {
-        drop(sorted.insert(field.name.into_string(), field.value)?);
-    }
-    Ok(sorted)
 }
 
 // The members of values that are listed by their names.

@@ -12,7 +12,7 @@ use Rattle.arm_value.specs.View.{json}
 use Rattle.arm_value.specs.declared.value.Value.{Value}
 use Rattle.function_numbers.specs.Kinds.{number_of, numbers_in}
 use Rattle.function_numbers.specs.Numbers.{has_64_bits, within, best, counted, is_range}
-use Rattle.function_numbers.proofs.RowLemmas.{next_in, none_left, behind_first}
+use Rattle.function_numbers.proofs.RowLemmas.{next_in, none_left, after_first}
 
 fits : (z : ℤ) → FitsSigned w64 z → has_64_bits z ≡ true
 fits (pos n) h = grind (arith, nat_tests)
@@ -85,7 +85,7 @@ pub best_first : (f : ℤ → ℤ → ℤ) (y : ℤ) (vs : List Value) (v : Valu
     → Some y ≡ number_of (json v) → option_map (fold f y) (numbers_in (map json (take (length vs - 1) (drop 1 vs))))
     ≡ option_and_then (best f) (numbers_in (map json vs))
 best_first f y [] v h e n = absurd (omega arith)
-best_first f y (w ∷ vs) v h e n = ap (λ us. option_map (fold f y) (numbers_in (map json us))) (behind_first w vs)
+best_first f y (w ∷ vs) v h e n = ap (λ us. option_map (fold f y) (numbers_in (map json us))) (after_first w vs)
     ∙ best_cons f y (json w) (map json vs) (n ∙ ap (λ (x : Value). number_of (json x)) e)
 
 pub no_first : (f : ℤ → ℤ → ℤ) (vs : List Value) (v : Value) → 1 ≤ length vs → v ≡ get_or vs 0 v

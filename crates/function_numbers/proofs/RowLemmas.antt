@@ -24,7 +24,7 @@ pub none_left : (vs : List Value) (i : ℕ) → length vs ≤ i → map json (dr
 none_left vs i h = ap (map json) (drop_all i vs h)
 
 -- what a pattern finds after the first of a list
-pub behind_first : {A : Type 0} (x : A) (xs : List A) → take (length (x ∷ xs) - 1) (drop 1 (x ∷ xs)) ≡ xs
-behind_first x xs = let n : length xs ≤ length (x ∷ xs) - 1 = omega arith in take_all (length (x ∷ xs) - 1) xs n
+pub after_first : {A : Type 0} (x : A) (xs : List A) → take (length (x ∷ xs) - 1) (drop 1 (x ∷ xs)) ≡ xs
+after_first x xs = let n : length xs ≤ length (x ∷ xs) - 1 = omega arith in take_all (length (x ∷ xs) - 1) xs n
 
 pub ruleset rows_and_pairs = (items_of_row, members_of_pairs)

@@ -9,7 +9,8 @@ use Rattle.std.proofs.lemmas.List.{drop_all, length_push}
 use Rattle.std.proofs.lemmas.Bool.Decides.{nat_tests}
 use Rattle.std.proofs.lemmas.Str.{encodes-chars, chars-nil}
 use lib.Utf8.{encodes}
-use Rattle.function_numbers.specs.Numbers.{is_digit, with_digit, read_on, small, numeral, behind_minus}
+use Rattle.function_numbers.specs.Numbers.{is_digit, with_digit, read_on, small, numeral, after_minus}
+use Rattle.foundation.proofs.Lists.{next_character}
 
 some_characters : (b : ℕ) (bs cs : List ℕ) → encodes cs ≡ b ∷ bs → false ≡ (length cs == 0)
 some_characters b bs [] e = absurd (cc)
@@ -78,9 +79,6 @@ no_digit_by : (o : Option ℕ) (cs : List ℕ) → None ≡ option_and_then smal
 no_digit_by None cs e = refl
 no_digit_by (Some k) cs e = too_big k cs (not_small k e)
 
-next_character : (cs : List ℕ) (i c : ℕ) → i < length cs → c ≡ get_or cs i c → drop i cs ≡ c ∷ drop (i + 1) cs
-next_character cs i c h e = rw (add-one, drop-cons cs i c h) (ap (λ x. x ∷ drop (suc i) cs) (sym e))
-
 -- one more digit
 pub read_more : (n m c : ℕ) (cs ys : List ℕ) (all : Option ℕ) → (length ys < length cs)
     × (c ≡ get_or cs (length ys) c) → Some m ≡ option_and_then small (with_digit n c)
@@ -110,5 +108,5 @@ read_ends n cs ys some l before =
     sym (ap (option_and_then small) (is_numeral cs some ∙ sym before.0
     ∙ ap (read_on n) (drop_all (length ys) cs (omega arith)) ∙ read_on-nil n) ∙ before.1)
 
-pub is_behind_minus : (cs rest : List ℕ) (c : ℕ) → cs ≡ c ∷ rest → c ≡ 45 → Some rest ≡ behind_minus cs
-is_behind_minus cs rest c e m = let t : (c == 45) ≡ true = grind (arith, nat_tests) in rw (e, t) refl
+pub is_after_minus : (cs rest : List ℕ) (c : ℕ) → cs ≡ c ∷ rest → c ≡ 45 → Some rest ≡ after_minus cs
+is_after_minus cs rest c e m = let t : (c == 45) ≡ true = grind (arith, nat_tests) in rw (e, t) refl

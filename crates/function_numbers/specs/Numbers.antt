@@ -102,9 +102,9 @@ abbrev pub numeral : List ℕ → Option ℕ
 numeral s = if length s == 0 then None else read_on 0 s
 
 -- the characters after a `-` at the front
-abbrev pub behind_minus : List ℕ → Option (List ℕ)
-behind_minus [] = None
-behind_minus (c ∷ cs) = if c == 45 then Some cs else None
+abbrev pub after_minus : List ℕ → Option (List ℕ)
+after_minus [] = None
+after_minus (c ∷ cs) = if c == 45 then Some cs else None
 
 abbrev pub below_zero : ℕ → Option ℤ
 below_zero n = within (neg_ℤ (pos n))
@@ -114,7 +114,7 @@ from_zero n = within (pos n)
 
 -- the number that the characters spell, within 64 bits: digits, with at most one `-` before them
 abbrev pub spelled : List ℕ → Option ℤ
-spelled s = spelled_by s (behind_minus s)
+spelled s = spelled_by s (after_minus s)
   where
     spelled_by : List ℕ → Option (List ℕ) → Option ℤ
     spelled_by s None = option_and_then from_zero (numeral s)

@@ -42,7 +42,7 @@ fn compared(args: &[Value]) -> &[Value]
 }
 
 // The best of a number and these; none where one is no number.
-fn best_behind(extreme: Extreme, first: i64, rest: &[Value]) -> Option<i64>
+fn best_from(extreme: Extreme, first: i64, rest: &[Value]) -> Option<i64>
     ensures { result ≡ option_map (fold (better extreme) first) (numbers_in (map json rest.now)) }
 {
     let mut best = first;
@@ -59,7 +59,7 @@ fn best(extreme: Extreme, values: &[Value]) -> Option<i64>
     ensures { result ≡ option_and_then (best (better extreme)) (numbers_in (map json values.now)) }
 {
     match values {
-        [first, rest @ ..] => best_behind(extreme, number_of(first)?, rest),
+        [first, rest @ ..] => best_from(extreme, number_of(first)?, rest),
         [] => None,
     }
 }

@@ -3,7 +3,7 @@ ghost use Rattle.std.specs.Prelude.{◌≡◌, ◌∷◌, [], ◌+◌, ◌*◌, 
 ghost use Rattle.std.specs.Prelude.{if◌then◌else◌};
 ghost use Rattle.arm_value.specs.View.{json};
 ghost use Rattle.function_numbers.specs.Numbers as row;
-ghost use Rattle.function_numbers.specs.Numbers.{is_digit, with_digit, small, numeral, behind_minus, below_zero};
+ghost use Rattle.function_numbers.specs.Numbers.{is_digit, with_digit, small, numeral, after_minus, below_zero};
 ghost use Rattle.function_numbers.specs.Numbers.{from_zero, spelled, whole};
 
 use arm_value::Value;
@@ -37,8 +37,8 @@ fn numeral(text: &str) -> Option<u64>
 }
 
 // The characters after a `-` at the front.
-fn behind_minus(text: &str) -> Option<&str>
-    ensures { option_map (λ s. chars s.now) result ≡ behind_minus (chars text.now) }
+fn after_minus(text: &str) -> Option<&str>
+    ensures { option_map (λ s. chars s.now) result ≡ after_minus (chars text.now) }
 {
     let mut characters = text.chars();
     match characters.next() {
@@ -66,7 +66,7 @@ fn below_zero(number: u64) -> Option<i64>
 fn spelled(text: &str) -> Option<i64>
     ensures { result ≡ spelled (chars text.now) }
 {
-    match behind_minus(text) {
+    match after_minus(text) {
         Some(digits) => below_zero(numeral(digits)?),
         None => from_zero(numeral(text)?),
     }

@@ -15,8 +15,8 @@ use Rattle.arm_value.specs.View.{json}
 use Rattle.arm_value.specs.declared.value.Value.{Value}
 use Rattle.function_prints.specs.Printed.{printed}
 use Rattle.function_prints.specs.Format.{Field, before_closing, argument, argument_field, is_brace, field}
-use Rattle.function_prints.specs.Format.{filled_behind, filled}
-use Rattle.function_prints.specs.Filling.{below, number_before_closing, put_behind, ending, filled_after, filled_on}
+use Rattle.function_prints.specs.Format.{filled_rest, filled}
+use Rattle.function_prints.specs.Filling.{below, number_before_closing, put_after, ending, filled_after, filled_on}
 
 -- ---- the number of a field
 
@@ -245,7 +245,7 @@ field_is js cs n k (Some digits) e = field_by js digits n k (numeral digits) e
 pub puts_argument : (vs : List Value) (cs old new s : List ℕ) (n k : ℕ) (v : Value)
     → Some (n, k) ≡ number_before_closing (length vs) cs → n < length vs → v ≡ get_or vs n v → s ≡ printed (json v)
     → new ≡ old ++ s
-    → ending new (Some (k + 1)) ≡ put_behind old (argument_field (map json vs) cs)
+    → ending new (Some (k + 1)) ≡ put_after old (argument_field (map json vs) cs)
 puts_argument vs cs old new s n k v e h at is grown =
     let count : length (map json vs) ≡ length vs = length-map vs json in
     let read : Some (n, k) ≡ number_before_closing (length (map json vs)) cs = rw count e in
@@ -277,7 +277,7 @@ none_is js (Some digits) e = none_by js digits (numeral digits) e
 
 pub no_argument : (vs : List Value) (cs old new : List ℕ)
     → ◌≡◌ {A = Option (ℕ × ℕ)} None (number_before_closing (length vs) cs)
-    → ending new None ≡ put_behind old (argument_field (map json vs) cs)
+    → ending new None ≡ put_after old (argument_field (map json vs) cs)
 no_argument vs cs old new e =
     let count : length (map json vs) ≡ length vs = length-map vs json in
     let read : ◌≡◌ {A = Option (ℕ × ℕ)} None (number_before_closing (length (map json vs)) cs) = rw count e in
@@ -286,19 +286,19 @@ no_argument vs cs old new e =
 
 -- ---- the text with its fields filled
 
-pub filled-nil : (js : List Json) (n : ℕ) → filled_behind js n [] ≡ Some []
-unfolding filled_behind
+pub filled-nil : (js : List Json) (n : ℕ) → filled_rest js n [] ≡ Some []
+unfolding filled_rest
 filled-nil js n = refl
 
-pub filled-taken : (js : List Json) (n c : ℕ) (cs : List ℕ) → filled_behind js (suc n) (c ∷ cs) ≡ filled_behind js n cs
-unfolding filled_behind
+pub filled-taken : (js : List Json) (n c : ℕ) (cs : List ℕ) → filled_rest js (suc n) (c ∷ cs) ≡ filled_rest js n cs
+unfolding filled_rest
 filled-taken js n c cs = refl
 
 pub filled-here : (js : List Json) (c : ℕ) (cs : List ℕ)
-    → filled_behind js 0 (c ∷ cs)
-    ≡ (if is_brace c then option_and_then (λ f. option_map (λ rest. f.0 ++ rest) (filled_behind js f.1 cs))
-    (field js c cs) else option_map (λ rest. c ∷ rest) (filled_behind js 0 cs))
-unfolding filled_behind
+    → filled_rest js 0 (c ∷ cs)
+    ≡ (if is_brace c then option_and_then (λ f. option_map (λ rest. f.0 ++ rest) (filled_rest js f.1 cs))
+    (field js c cs) else option_map (λ rest. c ∷ rest) (filled_rest js 0 cs))
+unfolding filled_rest
 filled-here js c cs = refl
 
 pub fill_takes : (js : List Json) (out rest : List ℕ) (k : ℕ) → 0 < length rest → 0 < k
@@ -328,13 +328,13 @@ pub fill_keeps : (js : List Json) (out more rest : List ℕ) (c k : ℕ) → 0 <
 fill_keeps js out more [] c k h z e is grown = absurd (omega arith)
 fill_keeps js out more (d ∷ cs) c k h z e is grown =
     let none_taken : k ≡ 0 = omega arith in
-    rw (grown, none_taken, ← e) (character_front out c (filled_behind js 0 cs)
+    rw (grown, none_taken, ← e) (character_front out c (filled_rest js 0 cs)
     ∙ ap (option_map (λ s. out ++ s)) (sym (filled-here js c cs ∙ rw (sym is) refl)))
 
 by_field : (js : List Json) (out more cs : List ℕ) (next : Option ℕ) (o : Option Field)
-    → ending more next ≡ put_behind out o
+    → ending more next ≡ put_after out o
     → option_and_then (λ n. filled_after more js n cs) next ≡ option_map (λ s. out ++ s)
-    (option_and_then (λ f. option_map (λ rest. f.0 ++ rest) (filled_behind js f.1 cs)) o)
+    (option_and_then (λ f. option_map (λ rest. f.0 ++ rest) (filled_rest js f.1 cs)) o)
 by_field js out more cs None None e = refl
 by_field js out more cs (Some n) None e = absurd (cc)
 by_field js out more cs None (Some f) e = absurd (cc)
@@ -342,16 +342,16 @@ by_field js out more cs (Some n) (Some f) e =
     let same : (more, n) ≡ (out ++ f.0, f.1) = cc in
     let grown : more ≡ out ++ f.0 = ap (λ (p : Field). p.0) same in
     let count : n ≡ f.1 = ap (λ (p : Field). p.1) same in
-    rw (grown, count) (two_fronts out f.0 (filled_behind js f.1 cs))
+    rw (grown, count) (two_fronts out f.0 (filled_rest js f.1 cs))
 
-pub fill_puts : (js : List Json) (out more rest behind : List ℕ) (c k : ℕ) (next : Option ℕ) → 0 < length rest → k ≤ 0
-    → c ≡ get_or rest 0 c → true ≡ is_brace c → behind ≡ drop 1 rest
-    → ending more next ≡ put_behind out (field js c behind)
+pub fill_puts : (js : List Json) (out more rest following : List ℕ) (c k : ℕ) (next : Option ℕ) → 0 < length rest
+    → k ≤ 0 → c ≡ get_or rest 0 c → true ≡ is_brace c → following ≡ drop 1 rest
+    → ending more next ≡ put_after out (field js c following)
     → option_and_then (λ n. filled_after more js n (drop 1 rest)) next ≡ filled_after out js k rest
-fill_puts js out more [] behind c k next h z e is r f = absurd (omega arith)
-fill_puts js out more (d ∷ cs) behind c k next h z e is r f =
+fill_puts js out more [] following c k next h z e is r f = absurd (omega arith)
+fill_puts js out more (d ∷ cs) following c k next h z e is r f =
     let none_taken : k ≡ 0 = omega arith in
-    let read : ending more next ≡ put_behind out (field js c cs) = rw r at f in
+    let read : ending more next ≡ put_after out (field js c cs) = rw r at f in
     rw (none_taken, ← e) (by_field js out more cs next (field js c cs) read
     ∙ ap (option_map (λ s. out ++ s)) (sym (filled-here js c cs ∙ rw (sym is) refl)))
 
@@ -385,7 +385,7 @@ some_rest cs i h = omega (arith, ap length (whole_rest cs i ∙ drop-cons cs i 0
 pub filled_ends : (js : List Json) (out cs : List ℕ) (i k : ℕ) (all : Option (List ℕ)) → length cs ≤ i
     → filled_after out js k (drop i cs) ≡ all → Some out ≡ all
 filled_ends js out cs i k all h before = ap Some (sym (append-nil out))
-    ∙ sym (ap (option_map (λ s. out ++ s)) (ap (filled_behind js k) (drop_all i cs h) ∙ filled-nil js k)) ∙ before
+    ∙ sym (ap (option_map (λ s. out ++ s)) (ap (filled_rest js k) (drop_all i cs h) ∙ filled-nil js k)) ∙ before
 
 pub filled_begins : (js : List Json) (out cs : List ℕ) → out ≡ [] → filled_after out js 0 cs ≡ filled js cs
 filled_begins js out cs e = rw e (by_rest (filled js cs))

@@ -9,7 +9,7 @@ use Rattle.arm_value.specs.Json.{Json}
 use Rattle.function_numbers.specs.Numbers.{with_digit, read_on, numeral, is_digit}
 use Rattle.function_prints.specs.Printed.{printed}
 use Rattle.function_prints.specs.Format.{Field, before_closing, argument, argument_field, is_brace, field}
-use Rattle.function_prints.specs.Format.{filled_behind, filled}
+use Rattle.function_prints.specs.Format.{filled_rest, filled}
 use Rattle.function_prints.specs.Pieces.{Piece, character, place, spelled_piece, spelled, piece_value, pieces_value}
 use Rattle.function_prints.proofs.FormatLemmas.{closing-nil, closing-here, closing-more, read-more, filled-nil}
 use Rattle.function_prints.proofs.FormatLemmas.{filled-taken, filled-here}
@@ -27,7 +27,7 @@ values-cons args p ps = refl
 -- ---- what pieces spell is filled
 
 -- what belongs to a field is left out
-takes_all : (args : List Json) (s rest : List ℕ) → filled_behind args (length s) (s ++ rest) ≡ filled args rest
+takes_all : (args : List Json) (s rest : List ℕ) → filled_rest args (length s) (s ++ rest) ≡ filled args rest
 takes_all args [] rest = refl
 takes_all args (c ∷ cs) rest = filled-taken args (length cs) c (cs ++ rest) ∙ takes_all args cs rest
 
@@ -97,8 +97,8 @@ place_filled : (args : List Json) (digits rest : List ℕ) (j : Json) → argume
 place_filled args digits rest j e =
     let shape : (digits ++ 125 ∷ []) ++ rest ≡ digits ++ 125 ∷ rest = append_assoc digits (125 ∷ []) rest in
     let count : length (digits ++ 125 ∷ []) ≡ suc (length digits) = omega (arith, length-append digits (125 ∷ [])) in
-    let left : filled_behind args (suc (length digits)) (digits ++ 125 ∷ rest) ≡ filled args rest =
-    ap₂ (filled_behind args) (sym count) (sym shape) ∙ takes_all args (digits ++ 125 ∷ []) rest in
+    let left : filled_rest args (suc (length digits)) (digits ++ 125 ∷ rest) ≡ filled args rest =
+    ap₂ (filled_rest args) (sym count) (sym shape) ∙ takes_all args (digits ++ 125 ∷ []) rest in
     ap (λ s. filled args (123 ∷ s)) shape ∙ filled-here args 123 (digits ++ 125 ∷ rest)
     ∙ rw (field_place args digits rest j e) (ap (option_map (λ r. printed j ++ r)) left)
 
@@ -207,7 +207,7 @@ field_piece args c (d ∷ ds) f is e = by_second (d == c) refl e
 abbrev IsSpelled : List Json → List ℕ → List ℕ → Type 0
 IsSpelled args s t = (ps : List Piece) × (spelled ps ≡ s) × (pieces_value args ps ≡ Some t)
 
-spelled_on : (args : List Json) (n : ℕ) (s t : List ℕ) → filled_behind args n s ≡ Some t → IsSpelled args (drop n s) t
+spelled_on : (args : List Json) (n : ℕ) (s t : List ℕ) → filled_rest args n s ≡ Some t → IsSpelled args (drop n s) t
 spelled_on args n [] t e = ([], sym (drop_all n [] (omega arith)), values-nil args ∙ sym (filled-nil args n) ∙ e)
 spelled_on args (suc n) (c ∷ cs) t e = spelled_on args n cs t (sym (filled-taken args n c cs) ∙ e)
 spelled_on args zero (c ∷ cs) t e =
@@ -222,32 +222,32 @@ spelled_on args zero (c ∷ cs) t e =
           ∙ rw (value, rest.2, all) refl,
     )
 
-    by_plain : (o : Option (List ℕ)) → is_brace c ≡ false → filled_behind args 0 cs ≡ o
-        → ((n : ℕ) (r : List ℕ) → filled_behind args n cs ≡ Some r → IsSpelled args (drop n cs) r)
+    by_plain : (o : Option (List ℕ)) → is_brace c ≡ false → filled_rest args 0 cs ≡ o
+        → ((n : ℕ) (r : List ℕ) → filled_rest args n cs ≡ Some r → IsSpelled args (drop n cs) r)
         → option_map (λ rest. c ∷ rest) o ≡ Some t → IsSpelled args (c ∷ cs) t
     by_plain None is o h f = absurd (cc)
     by_plain (Some r) is o h f = before (character c) 0 (c ∷ []) r (rw is refl) refl (h 0 r o) (cc)
 
-    by_rest : (g : Field) (o : Option (List ℕ)) → FieldPiece args c cs g → filled_behind args g.1 cs ≡ o
-        → ((n : ℕ) (r : List ℕ) → filled_behind args n cs ≡ Some r → IsSpelled args (drop n cs) r)
+    by_rest : (g : Field) (o : Option (List ℕ)) → FieldPiece args c cs g → filled_rest args g.1 cs ≡ o
+        → ((n : ℕ) (r : List ℕ) → filled_rest args n cs ≡ Some r → IsSpelled args (drop n cs) r)
         → option_map (λ rest. g.0 ++ rest) o ≡ Some t → IsSpelled args (c ∷ cs) t
     by_rest g None p o h f = absurd (cc)
     by_rest g (Some r) p o h f = before p.0 g.1 g.0 r p.1 p.2 (h g.1 r o) (cc)
 
     by_field : (o : Option Field) → is_brace c ≡ true → field args c cs ≡ o
-        → ((n : ℕ) (r : List ℕ) → filled_behind args n cs ≡ Some r → IsSpelled args (drop n cs) r)
-        → option_and_then (λ g. option_map (λ rest. g.0 ++ rest) (filled_behind args g.1 cs)) o ≡ Some t
+        → ((n : ℕ) (r : List ℕ) → filled_rest args n cs ≡ Some r → IsSpelled args (drop n cs) r)
+        → option_and_then (λ g. option_map (λ rest. g.0 ++ rest) (filled_rest args g.1 cs)) o ≡ Some t
         → IsSpelled args (c ∷ cs) t
     by_field None is o h f = absurd (cc)
-    by_field (Some g) is o h f = by_rest g (filled_behind args g.1 cs) (field_piece args c cs g is o) refl h f
+    by_field (Some g) is o h f = by_rest g (filled_rest args g.1 cs) (field_piece args c cs g is o) refl h f
 
     by_brace : (b : Bool) → is_brace c ≡ b
-        → ((n : ℕ) (r : List ℕ) → filled_behind args n cs ≡ Some r → IsSpelled args (drop n cs) r)
-        → (if b then option_and_then (λ g. option_map (λ rest. g.0 ++ rest) (filled_behind args g.1 cs))
-        (field args c cs) else option_map (λ rest. c ∷ rest) (filled_behind args 0 cs)) ≡ Some t
+        → ((n : ℕ) (r : List ℕ) → filled_rest args n cs ≡ Some r → IsSpelled args (drop n cs) r)
+        → (if b then option_and_then (λ g. option_map (λ rest. g.0 ++ rest) (filled_rest args g.1 cs))
+        (field args c cs) else option_map (λ rest. c ∷ rest) (filled_rest args 0 cs)) ≡ Some t
         → IsSpelled args (c ∷ cs) t
     by_brace true is h f = by_field (field args c cs) is refl h f
-    by_brace false is h f = by_plain (filled_behind args 0 cs) is refl h f
+    by_brace false is h f = by_plain (filled_rest args 0 cs) is refl h f
 
 pub is_spelled : (args : List Json) (s t : List ℕ) → filled args s ≡ Some t → IsSpelled args s t
 is_spelled args s t e = spelled_on args 0 s t e

@@ -15,6 +15,7 @@ use Rattle.arm_value.specs.Fault.{Gives}
 use Rattle.arm_value.specs.Reading.{data_of, row_data, pairs_data, or_else, not_whole, items_not_whole}
 use Rattle.arm_value.specs.Reading.{members_not_whole}
 use Rattle.function_prints.specs.Stated.{tree_of, row_of, pairs_of, shallow_tree}
+use Rattle.arm_value.proofs.DataLemmas.{mapped_none, or_else_first, or_else_none}
 
 -- ---- data of a tree
 
@@ -76,18 +77,6 @@ pub chars-encodes_all : (s : List ℕ) → chars (encode_utf8_all s) ≡ s
 chars-encodes_all [] = chars-nil
 chars-encodes_all (c ∷ cs) = from_encode c (encode_utf8_all cs) ∙ ap (λ r. c ∷ r) (chars-encodes_all cs)
 
-first_none : (a b : Option (List ℕ)) → or_else a b ≡ None → a ≡ None
-first_none None b e = refl
-first_none (Some p) b e = e
-
-rest_none : (a b : Option (List ℕ)) → or_else a b ≡ None → b ≡ None
-rest_none None b e = e
-rest_none (Some p) b e = absurd (cc)
-
-mapped_none : (f : List ℕ → List ℕ) (o : Option (List ℕ)) → option_map f o ≡ None → o ≡ None
-mapped_none f None e = refl
-mapped_none f (Some p) e = absurd (cc)
-
 number_tree : (z : ℤ) → not_whole (d.number (of_integer z)) ≡ None → as_i64 (of_integer z) ≡ Some z
 number_tree (pos n) e = whole_unsigned (nat_lt n (2 ^ 63)) n e
   where
@@ -110,16 +99,16 @@ mutual
   row_of-row_data : (i : ℕ) (js : Row) → items_not_whole i (row_data js) ≡ None → row_of (row_data js) ≡ Some js
   row_of-row_data i no_items e = refl
   row_of-row_data i (item j js) e =
-      let here : tree_of (data_of j) ≡ Some j = tree_of-data_of j (mapped_none _ _ (first_none _ _ e)) in
-      let behind : row_of (row_data js) ≡ Some js = row_of-row_data (suc i) js (rest_none _ _ e) in
-      rw (here, behind) refl
+      let here : tree_of (data_of j) ≡ Some j = tree_of-data_of j (mapped_none _ _ (or_else_first _ _ e)) in
+      let after : row_of (row_data js) ≡ Some js = row_of-row_data (suc i) js (or_else_none _ _ e) in
+      rw (here, after) refl
 
   pairs_of-pairs_data : (ms : Pairs) → members_not_whole (pairs_data ms) ≡ None → pairs_of (pairs_data ms) ≡ Some ms
   pairs_of-pairs_data no_pairs e = refl
   pairs_of-pairs_data (pair k j ms) e =
-      let here : tree_of (data_of j) ≡ Some j = tree_of-data_of j (mapped_none _ _ (first_none _ _ e)) in
-      let behind : pairs_of (pairs_data ms) ≡ Some ms = pairs_of-pairs_data ms (rest_none _ _ e) in
-      rw (here, behind, chars-encodes_all k) refl
+      let here : tree_of (data_of j) ≡ Some j = tree_of-data_of j (mapped_none _ _ (or_else_first _ _ e)) in
+      let after : pairs_of (pairs_data ms) ≡ Some ms = pairs_of-pairs_data ms (or_else_none _ _ e) in
+      rw (here, after, chars-encodes_all k) refl
 
 -- ---- data that is no tree
 
@@ -129,9 +118,9 @@ both_none : {A B C : Type 0} (f : A → B → C) (a : Option A) (b : Option B) (
     → ((r : List ℕ) → x ≡ Some r → a ≡ None) → ((r : List ℕ) → y ≡ Some r → b ≡ None)
     → or_else (option_map front x) y ≡ Some q
     → option_and_then (λ j. option_map (f j) b) a ≡ None
-both_none f a b front (Some r) y q here behind e = rw (here r refl) refl
-both_none f None b front None y q here behind e = refl
-both_none f (Some j) b front None y q here behind e = rw (behind q e) refl
+both_none f a b front (Some r) y q here after e = rw (here r refl) refl
+both_none f None b front None y q here after e = refl
+both_none f (Some j) b front None y q here after e = rw (after q e) refl
 
 number_none : (n : d.Num) (p : List ℕ) → not_whole (d.number n) ≡ Some p → option_map int (as_i64 n) ≡ None
 number_none n p e = by_number (as_i64 n) e

@@ -18,13 +18,13 @@ use Rattle.function_prints.specs.Printed.{printed, printed_scalar, printed_scala
 
 pub ruleset characters = (chars-nil, append-nil, append_assoc)
 
-ascii_behind : (b : ℕ) (bs : List ℕ) → b < 128 → IsAscii bs → IsAscii (b ∷ bs)
-ascii_behind b bs h f zero = h
-ascii_behind b bs h f (suc i) = f i
+ascii_cons : (b : ℕ) (bs : List ℕ) → b < 128 → IsAscii bs → IsAscii (b ∷ bs)
+ascii_cons b bs h f zero = h
+ascii_cons b bs h f (suc i) = f i
 
 ascii_number : (z : ℤ) → FitsSigned w64 z → IsAscii (signed_decimal z)
 ascii_number (pos n) f = IsAscii-decimal n (omega arith)
-ascii_number (negsuc n) f = ascii_behind 45 (decimal (suc n)) (omega arith) (IsAscii-decimal (suc n) (omega arith))
+ascii_number (negsuc n) f = ascii_cons 45 (decimal (suc n)) (omega arith) (IsAscii-decimal (suc n) (omega arith))
 
 -- a number's digits are their own characters
 pub number_characters : (z : ℤ) → FitsSigned w64 z → chars (signed_decimal z) ≡ signed_decimal z

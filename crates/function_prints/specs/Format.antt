@@ -35,17 +35,17 @@ abbrev pub is_brace : ℕ → Bool
 is_brace c = c == 123 || c == 125
 
 -- the text with its fields filled, after so many characters that belong to a field
-unfoldable pub filled_behind : List Json → ℕ → List ℕ → Option (List ℕ)
-filled_behind args taken [] = Some []
-filled_behind args (suc n) (c ∷ cs) = filled_behind args n cs
-filled_behind args zero (c ∷ cs) =
-    if is_brace c then option_and_then (λ f. option_map (λ rest. f.0 ++ rest) (filled_behind args f.1 cs))
+unfoldable pub filled_rest : List Json → ℕ → List ℕ → Option (List ℕ)
+filled_rest args taken [] = Some []
+filled_rest args (suc n) (c ∷ cs) = filled_rest args n cs
+filled_rest args zero (c ∷ cs) =
+    if is_brace c then option_and_then (λ f. option_map (λ rest. f.0 ++ rest) (filled_rest args f.1 cs))
     (field args c cs)
-    else option_map (λ rest. c ∷ rest) (filled_behind args 0 cs)
+    else option_map (λ rest. c ∷ rest) (filled_rest args 0 cs)
 
 -- the text with its fields filled; none where a brace begins no field
 abbrev pub filled : List Json → List ℕ → Option (List ℕ)
-filled args s = filled_behind args 0 s
+filled args s = filled_rest args 0 s
 
 -- `format`: the first argument, a text, with its fields filled by the others
 abbrev pub format_by : Json → List Json → Option Json

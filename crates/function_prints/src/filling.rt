@@ -7,7 +7,7 @@ ghost use Rattle.function_numbers.specs.Numbers.{with_digit};
 ghost use Rattle.function_prints.specs.Format as row;
 ghost use Rattle.function_prints.specs.Format.{argument_field, field, filled, format_by, is_brace};
 ghost use Rattle.function_prints.specs.Filling.{below, ending, filled_after, filled_on, number_before_closing};
-ghost use Rattle.function_prints.specs.Filling.{put_behind};
+ghost use Rattle.function_prints.specs.Filling.{put_after};
 
 use crate::joining::add;
 use crate::printed::printed;
@@ -63,13 +63,13 @@ fn put_argument(
     alloc: Global,
     out: &mut String,
     args: &[Value],
-    behind: &[char],
+    following: &[char],
 ) -> Result<Option<usize>, OutOfMemory>
     ensures { IfOk result (λ taken. ending (chars (string_bytes out.new)) taken
-        ≡ put_behind (chars (string_bytes out.old))
-        (argument_field (map json args.now) behind.now)) }
+        ≡ put_after (chars (string_bytes out.old))
+        (argument_field (map json args.now) following.now)) }
 {
-    let Some((number, digits)) = number_before_closing(args.len(), behind) else {
+    let Some((number, digits)) = number_before_closing(args.len(), following) else {
         return Ok(None);
     };
     let text = printed(alloc, &args[number])?;
@@ -83,18 +83,18 @@ fn put_field(
     out: &mut String,
     args: &[Value],
     brace: char,
-    behind: &[char],
+    following: &[char],
 ) -> Result<Option<usize>, OutOfMemory>
     ensures { IfOk result (λ taken. ending (chars (string_bytes out.new)) taken
-        ≡ put_behind (chars (string_bytes out.old))
-        (field (map json args.now) brace behind.now)) }
+        ≡ put_after (chars (string_bytes out.old))
+        (field (map json args.now) brace following.now)) }
 {
-    match behind {
+    match following {
         [second, ..] => if *second == brace {
             put_character(out, brace)?;
             Ok(Some(1))
         } else if brace == '{' {
-            put_argument(alloc, out, args, behind)
+            put_argument(alloc, out, args, following)
         } else {
             Ok(None)
         },

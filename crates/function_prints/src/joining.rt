@@ -94,7 +94,7 @@ fn add_all(
 }
 
 #[tactic(auto, using(crate::proofs::TextLemmas::characters))]
-fn joined_behind(
+fn joined_from(
     alloc: Global,
     between: &Text,
     first: &Value,
@@ -119,7 +119,7 @@ fn joined_by(alloc: Global, between: &Text, values: &[Value]) -> Result<Text, Ou
     ensures { IfOk result (λ text. text ≡ joined_by between.now (map json values.now)) }
 {
     match values {
-        [first, rest @ ..] => joined_behind(alloc, between, first, rest),
+        [first, rest @ ..] => joined_from(alloc, between, first, rest),
         [] => Ok(nothing(alloc)),
     }
 }

@@ -5,9 +5,7 @@ use Rattle.std.specs.Prelude.{if◌then◌else◌}
 use Rattle.std.proofs.Math.Seq.{drop-cons}
 use Rattle.std.proofs.lemmas.List.{drop_all, take_all, take_more, length-drop}
 use Rattle.function_texts.specs.Letters.{is_blank, without_blanks, before_blanks, up_to_blanks}
-
-pub next_character : (cs : List ℕ) (i c : ℕ) → i < length cs → c ≡ get_or cs i c → drop i cs ≡ c ∷ drop (i + 1) cs
-next_character cs i c h e = rw (add-one, drop-cons cs i c h) (ap (λ d. d ∷ drop (suc i) cs) (sym e))
+use Rattle.foundation.proofs.Lists.{next_character}
 
 without-cons : (c : ℕ) (cs : List ℕ) → without_blanks (c ∷ cs) ≡ (if is_blank c then without_blanks cs else c ∷ cs)
 unfolding without_blanks

@@ -5,7 +5,7 @@ use Rattle.std.specs.Prelude.{◌==◌, ◌&&◌}
 use Rattle.std.proofs.lemmas.List.{drop_all, take_all, length-drop}
 use Rattle.std.proofs.lemmas.Bool.Decides.{nat_tests}
 use Rattle.function_texts.specs.Places.{begins}
-use Rattle.function_texts.proofs.LetterLemmas.{next_character}
+use Rattle.foundation.proofs.Lists.{next_character}
 
 begins-cons : (c d : ℕ) (cs ds : List ℕ) → begins (c ∷ cs) (d ∷ ds) ≡ ((c == d) && begins cs ds)
 unfolding begins

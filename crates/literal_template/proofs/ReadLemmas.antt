@@ -13,7 +13,8 @@ use Rattle.arm_value.specs.declared.value.Field.{Field}
 use Rattle.arm_value.proofs.SetLemmas.{drop_from}
 use Rattle.literal_template.specs.Brackets.{stated_text}
 use Rattle.literal_template.specs.Literals.{is_special, pair_before, stated, pairs_stated}
-use Rattle.literal_template.specs.Resources.{is_head, is_directive, is_deployment}
+use Rattle.arm_ids.specs.Members.{is_deployment_type}
+use Rattle.literal_template.specs.Resources.{is_head, is_directive}
 use Rattle.literal_template.specs.Template.{text_of, count, body_members, with_parts, with_heads, resource_with}
 use Rattle.literal_template.specs.Template.{resource_of, resource_before, resources_of, resources_in, names_schema}
 use Rattle.literal_template.specs.Template.{has_three, template_with}
@@ -147,8 +148,8 @@ pub all_heads : (r o : Option Resource) (kind api name : Option (List ℕ)) (bod
 all_heads r o kind api name body s t n e k a m p = p ∙ sym (e ∙ (λ i. with_heads (k i) (a i) (m i) body))
 
 pub parts_made : (kind api k a : List ℕ) (o : Option (List ℕ)) (name : List ℕ) (p : Option Pairs)
-    (b : Option (List Member)) (body : List Member) → is_deployment kind ≡ false → k ≡ kind → a ≡ api → o ≡ Some name
-    → option_map pairs b ≡ p → b ≡ Some body
+    (b : Option (List Member)) (body : List Member) → is_deployment_type kind ≡ false → k ≡ kind → a ≡ api
+    → o ≡ Some name → option_map pairs b ≡ p → b ≡ Some body
     → Some (record { kind = k; api = a; name = name; body = body }) ≡ with_parts kind api o p
 parts_made kind api k a o name p b body deploys e f n made there =
     let all : p ≡ Some (pairs body) = sym made ∙ ap (option_map pairs) there in

@@ -17,17 +17,9 @@ use Rattle.literal_template.specs.Template.{template_of, StatedBy, StateOneList}
 use Rattle.literal_template.specs.declared.resource.Resource.{Resource}
 use Rattle.literal_template.specs.declared.reader.TemplateFault.{TemplateFault}
 use Rattle.literal_template.specs.declared.reader.TemplateFault.TheVariants as fault
+use Rattle.arm_value.proofs.TreeLemmas.{integer_in, integer_back}
 
 -- ---- a tree is determined by its data
-
-abbrev integer_in : d.Num → ℤ
-integer_in (d.unsigned n) = pos n
-integer_in (d.negative z) = z
-integer_in (d.float x) = pos 0
-
-integer_back : (z : ℤ) → integer_in (of_integer z) ≡ z
-integer_back (pos n) = refl
-integer_back (negsuc n) = refl
 
 abbrev bool_in : Data → Bool
 bool_in (d.boolean b) = b

@@ -14,6 +14,7 @@ use Rattle.arm_value.proofs.SetLemmas.{equal_keys}
 use Rattle.arm_value.proofs.DataLemmas.{depth-data_of}
 use Rattle.arm_expr.specs.Brackets.{escaped}
 use Rattle.literal_template.specs.Literals.{pairs_written, pairs_stated}
+use Rattle.arm_ids.specs.Members.{is_declaration_member, is_refused_member}
 use Rattle.literal_template.specs.Resources.{is_head, is_directive, IsLiteral}
 use Rattle.literal_template.specs.Template.{schema, resource_value, template_value, text_of, count, body_members}
 use Rattle.literal_template.specs.Template.{with_heads, resource_with, resource_of, resource_before, resources_of}
@@ -26,11 +27,10 @@ use Rattle.literal_template.proofs.WriteLemmas.{resources_nest}
 use Rattle.arm_value.proofs.TreeLemmas.{pairs-members}
 use Rattle.literal_template.proofs.WholeLemmas.{not_whole-data_of}
 use Rattle.literal_template.proofs.ReadLemmas.{three_heads, parts_made, accepted}
+use Rattle.foundation.proofs.TruthValues.{or_left, or_right}
+use Rattle.foundation.proofs.Words.{itself}
 
 -- ---- keys
-
-itself : (k : List ℕ) → bytes_eq k k ≡ true
-itself k = (bytes_eq-Decides k k).1 refl
 
 not_above : (o : Ordering) → o ≡ ordering_reverse o → o ≡ Greater → ⊥
 not_above Less e f = cc
@@ -43,14 +43,6 @@ differ k l true e g =
     absurd (not_above (key_cmp k k) (nat_list_cmp_total.antisymm (encode_utf8_all k) (encode_utf8_all k))
     (ap (key_cmp k) same ∙ g))
 differ k l false e g = refl
-
-or_left : (a b : Bool) → (a || b) ≡ false → a ≡ false
-or_left true b e = e
-or_left false b e = refl
-
-or_right : (a b : Bool) → (a || b) ≡ false → b ≡ false
-or_right true b e = absurd (true≢false e)
-or_right false b e = e
 
 rest_none : (b : Bool) (j : Json) (o : Option Json) → (if b then Some j else o) ≡ None → o ≡ None
 rest_none true j o e = absurd (cc)
@@ -177,15 +169,15 @@ unfolding is_head
 head_name = refl
 
 plain_kind : is_directive (codes "type") ≡ false
-unfolding is_directive
+unfolding is_directive is_head is_declaration_member is_refused_member
 plain_kind = refl
 
 plain_api : is_directive (codes "apiVersion") ≡ false
-unfolding is_directive
+unfolding is_directive is_head is_declaration_member is_refused_member
 plain_api = refl
 
 plain_name : is_directive (codes "name") ≡ false
-unfolding is_directive
+unfolding is_directive is_head is_declaration_member is_refused_member
 plain_name = refl
 
 -- what the members of a written resource have

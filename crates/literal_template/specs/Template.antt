@@ -11,7 +11,8 @@ use Rattle.arm_value.specs.Fault.{Gives}
 use Rattle.arm_expr.specs.Brackets.{escaped}
 use Rattle.literal_template.specs.Brackets.{stated_text}
 use Rattle.literal_template.specs.Literals.{pairs_written, pairs_stated}
-use Rattle.literal_template.specs.Resources.{is_head, is_directive, is_deployment, IsLiteral}
+use Rattle.arm_ids.specs.Members.{is_deployment_type}
+use Rattle.literal_template.specs.Resources.{is_head, is_directive, IsLiteral}
 use Rattle.literal_template.specs.declared.resource.Resource.{Resource}
 
 -- the schema that a template names
@@ -56,7 +57,7 @@ body_members (pair k j ms) = if is_head k then body_members ms else pair k j (bo
 -- a resource of these parts, where all are there; a nested deployment is none
 abbrev pub with_parts : List ℕ → List ℕ → Option (List ℕ) → Option Pairs → Option Resource
 with_parts kind api (Some name) (Some body) =
-    if is_deployment kind then None else Some (record { kind = kind; api = api; name = name; body = members body })
+    if is_deployment_type kind then None else Some (record { kind = kind; api = api; name = name; body = members body })
 with_parts kind api _ _ = None
 
 -- type, version and name are there, and the name is no expression

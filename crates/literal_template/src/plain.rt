@@ -9,7 +9,8 @@ ghost use Rattle.literal_template.specs.Resources.{IsLiteral};
 
 use crate::literals::is_special;
 use crate::resource::Resource;
-use crate::resources::{has_directive, has_head, is_deployment};
+use crate::resources::{has_directive, has_head};
+use arm_ids::is_deployment_type;
 use arm_value::{Fields, Items, Value};
 use foundation::limits::MAX_LITERAL_NESTING;
 
@@ -61,7 +62,7 @@ fn fields_are_plain(fields: &Fields) -> bool
 fn is_literal(resource: &Resource) -> bool
     ensures { IsTrue result ↔ IsLiteral resource.now }
 {
-    if is_deployment(&resource.kind) {
+    if is_deployment_type(&resource.kind) {
         return false;
     }
     if has_head(&resource.body) {

@@ -8,7 +8,7 @@ ghost use Rattle.arm_value.specs.Json.{row, pairs};
 ghost use Rattle.arm_value.specs.Look.{look_in};
 ghost use Rattle.literal_template.specs.Brackets.{stated_text};
 ghost use Rattle.literal_template.specs.Literals.{pairs_stated};
-ghost use Rattle.literal_template.specs.Resources.{is_deployment};
+ghost use Rattle.arm_ids.specs.Members.{is_deployment_type};
 ghost use Rattle.literal_template.specs.Template.{text_of, body_members, with_parts, resource_with, resource_of};
 ghost use Rattle.literal_template.specs.Template.{resources_of, resources_in, names_schema, has_three};
 ghost use Rattle.literal_template.specs.Template.{template_with, template_of, StatedBy};
@@ -19,8 +19,9 @@ use crate::brackets::stated_text;
 use crate::literals::{is_special, stated};
 use crate::parts::{nothing, run_out, with_member};
 use crate::resource::Resource;
-use crate::resources::{has_directive, heads, is_deployment, is_head};
+use crate::resources::{has_directive, heads, is_head};
 use crate::schema::is_schema;
+use arm_ids::is_deployment_type;
 use arm_value::{Fields, Items, JsonFault, OutOfMemory, Text, Value};
 use std::alloc::{AllocError, Global};
 use thiserror::Error;
@@ -125,7 +126,7 @@ fn with_name(
     name: Text,
     fields: &Fields,
 ) -> Result<Option<Resource>, OutOfMemory>
-    requires { is_deployment kind.now ≡ false }
+    requires { is_deployment_type kind.now ≡ false }
     ensures { IfOk result (λ o. o ≡ with_parts kind.now api.now (Some name)
         (pairs_stated (body_members (pairs fields.now)))) }
 {
@@ -148,7 +149,7 @@ fn with_parts(
     ensures { IfOk result (λ o. o ≡ with_parts kind.now api.now (stated_text name.now)
         (pairs_stated (body_members (pairs fields.now)))) }
 {
-    if is_deployment(kind) {
+    if is_deployment_type(kind) {
         return Ok(None);
     }
     match stated_text(alloc, name)? {

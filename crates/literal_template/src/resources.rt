@@ -1,40 +1,16 @@
-// Which members of a resource are no part of its body, and which types are no resources.
+// Which members of a resource are no part of its body.
 
-ghost use Rattle.std.specs.Prelude.{◌≡◌, map, chars};
+ghost use Rattle.std.specs.Prelude.{◌≡◌};
 ghost use Rattle.std.specs.List.{list_any};
 ghost use Rattle.arm_value.specs.Json.{pairs, pair_keys};
-ghost use Rattle.literal_template.specs.Resources.{is_among, is_head, is_directive, is_deployment};
+ghost use Rattle.literal_template.specs.Resources.{is_head, is_directive};
 ghost use Rattle.literal_template.specs.Template.{count};
 
+use arm_ids::{is_among, is_declaration_member, is_refused_member};
 use arm_value::{Fields, Text};
 
-// The members of a resource that are no part of its body.
+// The members that declare a resource of a literal template. The others are its body.
 const HEADS: [&str; 3] = ["type", "apiVersion", "name"];
-
-// The members that a resource of a literal template does not have.
-const DIRECTIVES: [&str; 9] = [
-    "condition",
-    "dependsOn",
-    "copy",
-    "resources",
-    "comments",
-    "metadata",
-    "scope",
-    "subscriptionId",
-    "resourceGroup",
-];
-
-// Whether the name is one of these, in letters of any case.
-fn is_among(names: &[&str], name: &Text) -> bool
-    ensures { result ≡ is_among (map (λ n. chars n.now) names.now) name.now }
-{
-    for other in names {
-        if name.equals_ignore_case(other) {
-            return true;
-        }
-    }
-    false
-}
 
 /// Whether a member of this name is no part of a resource's body: its type, version or name.
 pub fn is_head(name: &Text) -> bool
@@ -43,18 +19,13 @@ pub fn is_head(name: &Text) -> bool
     is_among(&HEADS, name)
 }
 
-/// Whether a resource of a literal template has no member of this name.
+/// Whether a resource of a literal template has no member of this name: no resource has it, or it
+/// declares more than type, version and name.
+#[tactic(auto, unfolding(crate::specs::Resources::is_directive))]
 pub fn is_directive(name: &Text) -> bool
     ensures { result ≡ is_directive name.now }
 {
-    is_among(&DIRECTIVES, name)
-}
-
-/// Whether the type is that of nested deployments, which are no resources.
-pub fn is_deployment(kind: &Text) -> bool
-    ensures { result ≡ is_deployment kind.now }
-{
-    kind.equals_ignore_case("Microsoft.Resources/deployments")
+    is_refused_member(name) || (is_declaration_member(name) && !is_head(name))
 }
 
 /// Whether one of the members is no part of a body.

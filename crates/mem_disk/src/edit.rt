@@ -31,7 +31,7 @@ pub(crate) fn read_in(file: &[u8], at: u64, limit: usize, buf: &mut [u8]) -> usi
     requires { 0 < limit }
     ensures bound { result ≤ length buf.old }
     ensures count { result ≡ min limit (min (length buf.old) (length file.now - at)) }
-    ensures told { ReadsAt at result file.now buf.new }
+    ensures read { ReadsAt at result file.now buf.new }
 {
     if at >= file.len() as u64 {
         return 0;

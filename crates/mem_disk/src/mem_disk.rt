@@ -156,7 +156,7 @@ impl Disk for MemDisk {
         (steps_of d.log.bytes.items d.log.entries.items) (contents_of d.held) d.reads_are };
 
     fn length(&mut self, part: Part) -> Result<u64, Failed>
-        ensures told { IfOk result (λ n. true ≡ true → n ≡ length (on part (reads_in self.old))) }
+        ensures size { IfOk result (λ n. true ≡ true → n ≡ length (on part (reads_in self.old))) }
         ensures reads { reads_in self.new ≡ reads_in self.old }
         ensures images { true ≡ true → GoesOn moment_in left_in (Unchanged) self.old self.new }
         ensures cause { HasCause self.old.calls.faults self.new.calls.faults result }
@@ -174,7 +174,7 @@ impl Disk for MemDisk {
 
     fn read_at(&mut self, part: Part, at: u64, buf: &mut [u8]) -> Result<usize, Failed>
         ensures bound { IfOk result (λ n. n ≤ length buf.old) }
-        ensures told { IfOk result (λ n. true ≡ true
+        ensures read { IfOk result (λ n. true ≡ true
             → ReadsAt at n (on part (reads_in self.old)) buf.new) }
         ensures piece { IfOk result (λ n.
             n ≡ min (limit_at self.old.calls.cuts.items self.old.calls.made)
@@ -196,7 +196,7 @@ impl Disk for MemDisk {
 
     fn write_at(&mut self, part: Part, at: u64, bytes: &[u8]) -> Result<(), Failed>
         requires { at + length bytes.now ≤ reach_in self.old }
-        ensures told { OnOk result (true ≡ true
+        ensures written { OnOk result (true ≡ true
             → At part (λ old new. new ≡ overwritten at bytes.now old)
             (reads_in self.old) (reads_in self.new)) }
         ensures other_part { true ≡ true
@@ -245,7 +245,7 @@ impl Disk for MemDisk {
 
     fn cut(&mut self, part: Part, length: u64) -> Result<(), Failed>
         requires { length ≤ reach_in self.old }
-        ensures told { OnOk result (true ≡ true
+        ensures cut { OnOk result (true ≡ true
             → At part (λ old new. new ≡ resized length old)
             (reads_in self.old) (reads_in self.new)) }
         ensures other_part { true ≡ true

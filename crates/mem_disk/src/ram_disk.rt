@@ -54,7 +54,7 @@ impl Disk for RamDisk {
 
     ghost reads_fit = { λ d _. (d.a_within, d.b_within) };
 
-    ghost reads_an_image = { λ _ told. Prim.cc };
+    ghost reads_an_image = { λ _ reported. Prim.cc };
 
     fn length(&mut self, part: Part) -> Result<u64, Failed> {
         match part {

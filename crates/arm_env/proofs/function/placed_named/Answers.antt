@@ -5,70 +5,70 @@ use Rattle.arm_env.proofs.Words.{word_resourceId, word_subscriptionResourceId, w
 use Rattle.arm_env.proofs.Words.{word_subscription, word_deployment}
 use Rattle.arm_env.proofs.function.placed_named.Goals as goal
 
-pub returns-then-is_word-2 : goal.returns-then-is_word-2
+pub returns-then-equals_ignore_case-2 : goal.returns-then-equals_ignore_case-2
 unfolding placed_named
-returns-then-is_word-2 c =
+returns-then-equals_ignore_case-2 c =
     let n = c.args.name.now in
-    let one : is_same_folded n (codes "resourceId") ≡ false =
-    ap (is_same_folded n) (sym word_resourceId) ∙ sym c.is_word.ensures ∙ c.if-is_word.false in
-    let two : is_same_folded n (codes "subscriptionResourceId") ≡ true =
-    ap (is_same_folded n) (sym word_subscriptionResourceId) ∙ sym c.is_word-else-is_word.ensures
-    ∙ c.if-is_word-2.true in
+    let one : is_same_folded (codes "resourceId") n ≡ false =
+    ap (λ w. is_same_folded w n) (sym word_resourceId) ∙ sym c.equals_ignore_case.ensures ∙ c.if-equals_ignore_case.false in
+    let two : is_same_folded (codes "subscriptionResourceId") n ≡ true =
+    ap (λ w. is_same_folded w n) (sym word_subscriptionResourceId) ∙ sym c.equals_ignore_case-else-equals_ignore_case.ensures
+    ∙ c.if-equals_ignore_case-2.true in
     rw (one, two) refl
 
-pub returns-then-is_word-4 : goal.returns-then-is_word-4
+pub returns-then-equals_ignore_case-4 : goal.returns-then-equals_ignore_case-4
 unfolding placed_named
-returns-then-is_word-4 c =
+returns-then-equals_ignore_case-4 c =
     let n = c.args.name.now in
-    let one : is_same_folded n (codes "resourceId") ≡ false =
-    ap (is_same_folded n) (sym word_resourceId) ∙ sym c.is_word.ensures ∙ c.if-is_word.false in
-    let two : is_same_folded n (codes "subscriptionResourceId") ≡ false =
-    ap (is_same_folded n) (sym word_subscriptionResourceId) ∙ sym c.is_word-else-is_word.ensures
-    ∙ c.if-is_word-2.false in
-    let three : is_same_folded n (codes "resourceGroup") ≡ false =
-    ap (is_same_folded n) (sym word_resourceGroup) ∙ sym c.is_word-else-is_word-2.ensures
-    ∙ c.if-is_word-3.false in
-    let four : is_same_folded n (codes "subscription") ≡ true =
-    ap (is_same_folded n) (sym word_subscription) ∙ sym c.is_word-else-is_word-3.ensures
-    ∙ c.if-is_word-4.true in
+    let one : is_same_folded (codes "resourceId") n ≡ false =
+    ap (λ w. is_same_folded w n) (sym word_resourceId) ∙ sym c.equals_ignore_case.ensures ∙ c.if-equals_ignore_case.false in
+    let two : is_same_folded (codes "subscriptionResourceId") n ≡ false =
+    ap (λ w. is_same_folded w n) (sym word_subscriptionResourceId) ∙ sym c.equals_ignore_case-else-equals_ignore_case.ensures
+    ∙ c.if-equals_ignore_case-2.false in
+    let three : is_same_folded (codes "resourceGroup") n ≡ false =
+    ap (λ w. is_same_folded w n) (sym word_resourceGroup) ∙ sym c.equals_ignore_case-else-equals_ignore_case-2.ensures
+    ∙ c.if-equals_ignore_case-3.false in
+    let four : is_same_folded (codes "subscription") n ≡ true =
+    ap (λ w. is_same_folded w n) (sym word_subscription) ∙ sym c.equals_ignore_case-else-equals_ignore_case-3.ensures
+    ∙ c.if-equals_ignore_case-4.true in
     rw (one, two, three, four) refl
 
-pub returns-then-is_word-5 : goal.returns-then-is_word-5
+pub returns-then-equals_ignore_case-5 : goal.returns-then-equals_ignore_case-5
 unfolding placed_named
-returns-then-is_word-5 c =
+returns-then-equals_ignore_case-5 c =
     let n = c.args.name.now in
-    let one : is_same_folded n (codes "resourceId") ≡ false =
-    ap (is_same_folded n) (sym word_resourceId) ∙ sym c.is_word.ensures ∙ c.if-is_word.false in
-    let two : is_same_folded n (codes "subscriptionResourceId") ≡ false =
-    ap (is_same_folded n) (sym word_subscriptionResourceId) ∙ sym c.is_word-else-is_word.ensures
-    ∙ c.if-is_word-2.false in
-    let three : is_same_folded n (codes "resourceGroup") ≡ false =
-    ap (is_same_folded n) (sym word_resourceGroup) ∙ sym c.is_word-else-is_word-2.ensures
-    ∙ c.if-is_word-3.false in
-    let four : is_same_folded n (codes "subscription") ≡ false =
-    ap (is_same_folded n) (sym word_subscription) ∙ sym c.is_word-else-is_word-3.ensures
-    ∙ c.if-is_word-4.false in
-    let five : is_same_folded n (codes "deployment") ≡ true =
-    ap (is_same_folded n) (sym word_deployment) ∙ sym c.is_word-else-is_word-4.ensures
-    ∙ c.if-is_word-5.true in
+    let one : is_same_folded (codes "resourceId") n ≡ false =
+    ap (λ w. is_same_folded w n) (sym word_resourceId) ∙ sym c.equals_ignore_case.ensures ∙ c.if-equals_ignore_case.false in
+    let two : is_same_folded (codes "subscriptionResourceId") n ≡ false =
+    ap (λ w. is_same_folded w n) (sym word_subscriptionResourceId) ∙ sym c.equals_ignore_case-else-equals_ignore_case.ensures
+    ∙ c.if-equals_ignore_case-2.false in
+    let three : is_same_folded (codes "resourceGroup") n ≡ false =
+    ap (λ w. is_same_folded w n) (sym word_resourceGroup) ∙ sym c.equals_ignore_case-else-equals_ignore_case-2.ensures
+    ∙ c.if-equals_ignore_case-3.false in
+    let four : is_same_folded (codes "subscription") n ≡ false =
+    ap (λ w. is_same_folded w n) (sym word_subscription) ∙ sym c.equals_ignore_case-else-equals_ignore_case-3.ensures
+    ∙ c.if-equals_ignore_case-4.false in
+    let five : is_same_folded (codes "deployment") n ≡ true =
+    ap (λ w. is_same_folded w n) (sym word_deployment) ∙ sym c.equals_ignore_case-else-equals_ignore_case-4.ensures
+    ∙ c.if-equals_ignore_case-5.true in
     rw (one, two, three, four, five) refl
 
-pub returns-else-is_word-5 : goal.returns-else-is_word-5
+pub returns-else-equals_ignore_case-5 : goal.returns-else-equals_ignore_case-5
 unfolding placed_named
-returns-else-is_word-5 c =
+returns-else-equals_ignore_case-5 c =
     let n = c.args.name.now in
-    let one : is_same_folded n (codes "resourceId") ≡ false =
-    ap (is_same_folded n) (sym word_resourceId) ∙ sym c.is_word.ensures ∙ c.if-is_word.false in
-    let two : is_same_folded n (codes "subscriptionResourceId") ≡ false =
-    ap (is_same_folded n) (sym word_subscriptionResourceId) ∙ sym c.is_word-else-is_word.ensures
-    ∙ c.if-is_word-2.false in
-    let three : is_same_folded n (codes "resourceGroup") ≡ false =
-    ap (is_same_folded n) (sym word_resourceGroup) ∙ sym c.is_word-else-is_word-2.ensures
-    ∙ c.if-is_word-3.false in
-    let four : is_same_folded n (codes "subscription") ≡ false =
-    ap (is_same_folded n) (sym word_subscription) ∙ sym c.is_word-else-is_word-3.ensures
-    ∙ c.if-is_word-4.false in
-    let five : is_same_folded n (codes "deployment") ≡ false =
-    ap (is_same_folded n) (sym word_deployment) ∙ sym c.is_word-else-is_word-4.ensures
-    ∙ c.if-is_word-5.false in
+    let one : is_same_folded (codes "resourceId") n ≡ false =
+    ap (λ w. is_same_folded w n) (sym word_resourceId) ∙ sym c.equals_ignore_case.ensures ∙ c.if-equals_ignore_case.false in
+    let two : is_same_folded (codes "subscriptionResourceId") n ≡ false =
+    ap (λ w. is_same_folded w n) (sym word_subscriptionResourceId) ∙ sym c.equals_ignore_case-else-equals_ignore_case.ensures
+    ∙ c.if-equals_ignore_case-2.false in
+    let three : is_same_folded (codes "resourceGroup") n ≡ false =
+    ap (λ w. is_same_folded w n) (sym word_resourceGroup) ∙ sym c.equals_ignore_case-else-equals_ignore_case-2.ensures
+    ∙ c.if-equals_ignore_case-3.false in
+    let four : is_same_folded (codes "subscription") n ≡ false =
+    ap (λ w. is_same_folded w n) (sym word_subscription) ∙ sym c.equals_ignore_case-else-equals_ignore_case-3.ensures
+    ∙ c.if-equals_ignore_case-4.false in
+    let five : is_same_folded (codes "deployment") n ≡ false =
+    ap (λ w. is_same_folded w n) (sym word_deployment) ∙ sym c.equals_ignore_case-else-equals_ignore_case-4.ensures
+    ∙ c.if-equals_ignore_case-5.false in
     rw (one, two, three, four, five) refl

@@ -3,10 +3,10 @@ use Rattle.arm_value.specs.View.{json, member}
 use Rattle.bicep_tree.specs.View as view
 use Rattle.bicep_tree.specs.View.{tree_of}
 use Rattle.bicep_literal.specs.Values.{value_of, member_of}
-use Rattle.bicep_literal.proofs.ValueLemmas.{map-push}
 use Rattle.foundation.proofs.OptionLoops.{rest_begins, rest_more, rest_stops, rest_ends}
 use Rattle.bicep_literal.proofs.PartLemmas.{values_are, members_are}
 use Rattle.bicep_literal.proofs.value.+values.Goals as goal
+use Rattle.foundation.proofs.Lists.{map-push}
 
 pub fields-loop-member-init : goal.fields-loop-member-init
 fields-loop-member-init t c =

@@ -45,7 +45,7 @@ returns-clause-holds g c = on_ok c.sync.result
     let is = body_is ∙ form.1 in
     let long : c.args.gate ≤ length (g.D.Disk.reads c.write_body.new.disk).a =
     omega (arith, ap length body_is, length_patched (c.args.gate + 1) (body r (0 ∷ [])) old within) in
-    let gate_is = (c.in_ok-write_at.ensures.told t).here
+    let gate_is = (c.in_ok-write_at.ensures.written t).here
     ∙ overwritten_within c.args.gate (1 ∷ []) (g.D.Disk.reads c.write_body.new.disk).a long in
     let done =
     written_gate records c.args.gate (c.args.gate + (18 + length c.args.first.now + length c.args.second.now))

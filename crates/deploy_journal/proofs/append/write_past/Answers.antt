@@ -5,8 +5,9 @@ use Rattle.deploy_journal.proofs.append.write_past.Goals as goal
 
 pub returns-clause-written : goal.returns-clause-written
 returns-clause-written g c =
-    on_ok c.write_at.result (λ told tells within. (told tells).here
-    ∙ overwritten_within c.args.at c.args.bytes.now (g.D.Disk.reads c.args.disk.now).a within) c.write_at.ensures.told
+    let file = (g.D.Disk.reads c.args.disk.now).a in
+    on_ok c.write_at.result (λ written tells within. (written tells).here
+    ∙ overwritten_within c.args.at c.args.bytes.now file within) c.write_at.ensures.written
 
 pub returns-clause-images : goal.returns-clause-images
 returns-clause-images g c = λ tells.

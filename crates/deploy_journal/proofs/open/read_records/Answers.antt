@@ -23,10 +23,10 @@ loop-at-preserved g c =
           ∙ ap (λ (rs : List Record). 16 + length (spelled rs [])) (sym items);
       split = λ t is front.
           let same = was.still.reads_same in
-          let told =
-          c.in_ok-read_next.ensures.told t
+          let meaning =
+          c.in_ok-read_next.ensures.means t
           (omega (arith, is, ap (λ (f : Parts). length f.a) same, was.within, c.loop-at-test.true)) in
-          let there = rw c.in-Entry.is at told in
+          let there = rw c.in-Entry.is at meaning in
           let here : drop at file ≡ 1 ∷ body r (drop (18 + length r.first + length r.second) (drop at file)) =
           ap (λ (f : Parts). drop at f.a) (sym same) ∙ there
           ∙ ap (λ (f : Parts). 1 ∷ body r (drop (18 + length r.first + length r.second) (drop at f.a))) same in

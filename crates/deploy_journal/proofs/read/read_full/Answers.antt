@@ -23,10 +23,10 @@ loop-done-preserved g c =
     let same = length_put done k buf part all size in
     record {
       bound = omega (arith, same, c.in_ok-count.ensures.bound);
-      told = λ t within.
-          let got = c.in_ok-count.ensures.told t in
+      filled = λ t within.
+          let got = c.in_ok-count.ensures.read t in
           read_more done k c.in_ok-count.count buf part (drop c.args.at file) all size
-          (omega (arith, c.in_ok-count.ensures.bound)) (was.told t (omega (arith, same, within)))
+          (omega (arith, c.in_ok-count.ensures.bound)) (was.filled t (omega (arith, same, within)))
           (got.bytes ∙ ap (λ (f : Parts). take c.in_ok-count.count (drop (c.args.at + done) f.a)) was.still.reads_same
           ∙ ap (λ (l : List ℕ). take c.in_ok-count.count l) (sym (drop-drop done c.args.at file)));
       still = still_then g.D.Disk.tells_images g.D.Disk.reads g.D.Disk.moment g.D.Disk.left g.D.Disk.reach _ _ _

@@ -1,10 +1,10 @@
 use Rattle.std.proofs.Common.{◌∙◌, ap, sym, map, option_map, arith}
 use Rattle.std.proofs.lemmas.List.{length-take, length-drop}
 use Rattle.arm_value.specs.View.{member}
-use Rattle.arm_value.proofs.JsonLemmas.{map-push}
 use Rattle.arm_value.specs.declared.value.Value.{Value}
 use Rattle.function_lists.proofs.MemberLemmas.{paired_more, paired_fails, paired_ends, paired_odd}
 use Rattle.function_lists.proofs.members.paired.Goals as goal
+use Rattle.foundation.proofs.Lists.{map-push}
 
 pub loop-rest-preserved : goal.loop-rest-preserved
 loop-rest-preserved c =

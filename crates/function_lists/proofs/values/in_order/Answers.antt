@@ -1,8 +1,8 @@
 use Rattle.std.proofs.Common.{◌∙◌, ◌++◌, ◌∷◌, [], ℕ, List, ap, sym, map}
 use Rattle.arm_value.specs.View.{json, entry, member}
 use Rattle.arm_value.proofs.GatherLemmas.{append_one}
-use Rattle.arm_value.proofs.JsonLemmas.{map-push}
 use Rattle.function_lists.proofs.values.in_order.Goals as goal
+use Rattle.foundation.proofs.Lists.{map-push}
 
 pub loop-name-preserved : goal.loop-name-preserved
 loop-name-preserved c =

@@ -16,6 +16,6 @@ returns-in-empty c = no_best (better c.args.extreme) c.args.values.now c.in-empt
 pub returns-in_ok-number_of-in-len1-up : goal.returns-in_ok-number_of-in-len1-up
 returns-in_ok-number_of-in-len1-up c =
     let first : FitsSigned w64 c.in_ok-number_of-in-len1-up.field-0 = search rules in
-    (simp to_z-of_z at c.best_behind.ensures)
+    (simp to_z-of_z at c.best_from.ensures)
     ∙ best_first (better c.args.extreme) _ c.args.values.now c.first-item.result c.in-len1-up.len_at_least
     c.first-item.is c.in_ok-number_of-in-len1-up.ensures

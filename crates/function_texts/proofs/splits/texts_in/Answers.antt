@@ -1,7 +1,7 @@
 use Rattle.std.proofs.Common.{ℕ, List, [], ◌∷◌, ◌++◌, Vec, Global, ap, ◌∙◌}
-use Rattle.arm_value.proofs.JsonLemmas.{map-push}
 use Rattle.function_texts.proofs.SplitLemmas.{spelled, texts_more, texts_fail, texts_end}
 use Rattle.function_texts.proofs.splits.texts_in.Goals as goal
+use Rattle.foundation.proofs.Lists.{map-push}
 
 pub returns-in-None : goal.returns-in-None
 returns-in-None c = texts_fail (spelled c.loop-value.all.items) c.args.values.now c.loop-value.value-index

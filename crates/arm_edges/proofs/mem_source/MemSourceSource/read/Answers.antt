@@ -3,8 +3,8 @@ use Rattle.std.proofs.lemmas.List.{take_rest, drop_all, length-take-le}
 use Rattle.arm_edges.proofs.Pieces.{moved, also_received}
 use Rattle.arm_edges.proofs.mem_source.MemSourceSource.read.Goals as goal
 
-pub returns-clause-told : goal.returns-clause-told
-returns-clause-told c = λ _.
+pub returns-clause-moved : goal.returns-clause-moved
+returns-clause-moved c = λ _.
     let bytes : List ℕ = c.args.self.now.bytes.items in
     let at : ℕ = c.args.self.now.taken in
     let n : ℕ = c.min-count.result in

@@ -2,8 +2,9 @@ use Rattle.std.proofs.Common.{arith, map, length, refl, ◌≤◌}
 use Rattle.std.specs.List.{insert}
 use Rattle.arm_value.specs.Json.{IsInOrder}
 use Rattle.arm_value.specs.View.{json, member, held}
-use Rattle.arm_value.proofs.SetLemmas.{inserted, map-insert}
+use Rattle.arm_value.proofs.SetLemmas.{inserted}
 use Rattle.arm_value.proofs.value.Fields.insert.Goals as goal
+use Rattle.foundation.proofs.Lists.{map-insert}
 
 pub invariant_of-self-2 : goal.invariant_of-self-2
 invariant_of-self-2 c =

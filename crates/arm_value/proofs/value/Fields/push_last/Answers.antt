@@ -1,8 +1,9 @@
 use Rattle.std.proofs.Common.{arith, ◌++◌, ◌∷◌, [], map}
 use Rattle.arm_value.specs.Json.{IsInOrder, Member}
 use Rattle.arm_value.specs.View.{json, member, held}
-use Rattle.arm_value.proofs.JsonLemmas.{map-push, members_nesting-push, PairsAreOrderly-push}
+use Rattle.arm_value.proofs.JsonLemmas.{members_nesting-push, PairsAreOrderly-push}
 use Rattle.arm_value.proofs.value.Fields.push_last.Goals as goal
+use Rattle.foundation.proofs.Lists.{map-push}
 
 pub invariant_of-self-2 : goal.invariant_of-self-2
 invariant_of-self-2 c =

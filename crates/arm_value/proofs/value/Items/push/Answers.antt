@@ -1,7 +1,8 @@
 use Rattle.std.proofs.Common.{arith, map}
 use Rattle.arm_value.specs.View.{json, held}
-use Rattle.arm_value.proofs.JsonLemmas.{map-push, items_nesting-push, RowIsOrderly-push}
+use Rattle.arm_value.proofs.JsonLemmas.{items_nesting-push, RowIsOrderly-push}
 use Rattle.arm_value.proofs.value.Items.push.Goals as goal
+use Rattle.foundation.proofs.Lists.{map-push}
 
 pub invariant_of-self-2 : goal.invariant_of-self-2
 invariant_of-self-2 c =

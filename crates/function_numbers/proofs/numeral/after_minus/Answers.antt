@@ -2,8 +2,8 @@ use Rattle.std.proofs.Common.{◌≡◌, ◌++◌, ◌∙◌, ap, sym, Some}
 use Rattle.std.specs.Str.{chars}
 use lib.Utf8.{encode}
 use Rattle.std.proofs.lemmas.Str.{chars_past_char}
-use Rattle.function_numbers.proofs.TextLemmas.{is_behind_minus}
-use Rattle.function_numbers.proofs.numeral.behind_minus.Goals as goal
+use Rattle.function_numbers.proofs.TextLemmas.{is_after_minus}
+use Rattle.function_numbers.proofs.numeral.after_minus.Goals as goal
 
 pub returns-in-Some-eq45 : goal.returns-in-Some-eq45
 returns-in-Some-eq45 c =
@@ -11,5 +11,5 @@ returns-in-Some-eq45 c =
     sym c.chars-characters.ensures.rest ∙ c.in-Some-eq45.ensures.steps.0 in
     let e = chars_past_char c.args.text.now c.next.new.self.rest.now c.in-Some-eq45.field-0 c.utf8.text front in
     ap (λ bs. Some (chars bs)) c.as_str.ensures
-    ∙ is_behind_minus (chars c.args.text.now) (chars c.next.new.self.rest.now) c.in-Some-eq45.field-0 e
+    ∙ is_after_minus (chars c.args.text.now) (chars c.next.new.self.rest.now) c.in-Some-eq45.field-0 e
     c.in-Some-eq45.field-0-test

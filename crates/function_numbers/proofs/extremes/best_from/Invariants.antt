@@ -3,7 +3,7 @@ use Rattle.std.specs.List.{fold}
 use Rattle.arm_value.specs.View.{json}
 use Rattle.function_numbers.specs.Kinds.{numbers_in}
 use Rattle.function_numbers.specs.Numbers.{better}
-use Rattle.function_numbers.proofs.extremes.best_behind.Given as goal
+use Rattle.function_numbers.proofs.extremes.best_from.Given as goal
 
 -- the best so far and of what is left is the best of all
 abbrev pub invariant-loop-value : goal.invariant-loop-value

@@ -3,7 +3,7 @@ use Rattle.std.specs.Prelude.{FitsSigned}
 use Rattle.std.proofs.lemmas.Int.{to_z-of_z}
 use Rattle.function_numbers.specs.Numbers.{better}
 use Rattle.function_numbers.proofs.NumberLemmas.{best_more, best_fails, best_ends}
-use Rattle.function_numbers.proofs.extremes.best_behind.Goals as goal
+use Rattle.function_numbers.proofs.extremes.best_from.Goals as goal
 
 pub loop-value-preserved : goal.loop-value-preserved
 loop-value-preserved c =

@@ -1,0 +1,2 @@
+pub mod SeatedLemmas
+pub mod PostLemmas

@@ -1,0 +1,70 @@
+use Rattle.std.proofs.Common.{rules, arith, ◌≡◌, ℕ, ◌+◌, ◌<◌, suc, zero, List, [], ◌∷◌, refl, length, get_or, vec_items}
+use Rattle.std.proofs.Common.{vec_len, below_more, sym, ap, ◌∙◌, subst}
+use Rattle.std.proofs.lemmas.List.{get_or_default}
+use Rattle.crossbeam_channel.specs.Ends.{sends_on}
+use Rattle.crew_workers.specs.Posts.{IsPosted, IsStationed, IsStartOf}
+use Rattle.crew_workers.specs.declared.channel.SeatChannel.{SeatChannel}
+use Rattle.crew_workers.specs.declared.post.Post.{Post}
+use Rattle.crew_workers.specs.declared.post.Station.{Station}
+use Rattle.crew_workers.proofs.mustering.muster.Goals as goal
+use Rattle.crew_workers.proofs.mustering.muster.Goals.{After-index-channels-at}
+use Rattle.seat_calls.specs.Dones.{Made}
+
+its_channel : (g : _) (c : After-index-channels-at g) (e : SeatChannel)
+    → get_or c.args.channels.now (vec_len c.loop-station.posts) e ≡ c.index-channels-at.result
+its_channel g c e =
+    let h = c.loop-station.invariant.0 in
+    let s = c.in-Some.ensures.steps in
+    ap (λ n. get_or c.args.channels.now n e) (sym c.len-at.ensures)
+    ∙ get_or_default c.args.channels.now c.len-at.result e c.index-channels-at.result (search rules)
+    ∙ sym c.index-channels-at.is
+
+its_station : (g : _) (c : After-index-channels-at g) (d : Station g.row.P.Denot)
+    → get_or (vec_items c.args.stations) (vec_len c.loop-station.posts) d ≡ c.in-Some.station
+its_station g c d = let h = c.loop-station.invariant.2 0 d in grind rules
+
+pub start-post-requires-clause-ready : goal.start-post-requires-clause-ready
+start-post-requires-clause-ready g c κs within =
+    subst (λ (y : SeatChannel × Station g.row.P.Denot).
+    IsStationed (Made g.P.Provider.may g.P.Provider.tells g.P.Provider.calls g.P.Provider.faults) y.0
+    (sends_on c.args.to.now) y.1)
+    (λ i. (its_channel g c c.index-channels-at.result i, its_station g c c.in-Some.station i))
+    (c.requires.ready.each (vec_len c.loop-station.posts) c.in-Some.station c.index-channels-at.result
+    (let h = c.loop-station.invariant.0 in grind rules))
+
+pub loop-station-preserved : goal.loop-station-preserved
+loop-station-preserved g c =
+    let made = Made g.P.Provider.may g.P.Provider.tells g.P.Provider.calls g.P.Provider.faults in
+    let was = c.loop-station.invariant in let done = vec_len c.loop-station.posts in
+    let pushed = c.push in let all = vec_items pushed.new.self in
+    let steps = c.in-Some.ensures.steps.0 in let less = c.in-Some.ensures.steps.1 in
+    let grown : vec_len pushed.new.self ≡ done + 1 = search rules in
+    let here = (goal.at.loop-station-preserved g c).After-index-channels-at in
+    let So : SeatChannel → Station g.row.P.Denot → Post g.row.P.Denot → Type 0
+    = λ x y z. IsPosted made x (sends_on c.args.to.now) z × IsStartOf y z in (
+      search rules,
+      search rules,
+      (λ k d below.
+          sym (ap (λ l. get_or l (suc k) d) steps) ∙ was.2 (suc k) d (let e = less in omega arith)
+          ∙ ap (λ n. get_or (vec_items c.args.stations) n d) (omega arith)),
+      λ i d e f below.
+          below_more (λ j. So (get_or c.args.channels.now j e) (get_or (vec_items c.args.stations) j d) (get_or all j f)) done
+          (λ j low.
+          subst (λ p. So (get_or c.args.channels.now j e) (get_or (vec_items c.args.stations) j d) p)
+          (sym (pushed.ensures.by_index.0 j f low)) (was.3 j d e f low))
+          (subst (λ (y : SeatChannel × Station g.row.P.Denot × Post g.row.P.Denot). So y.0 y.1 y.2)
+          (λ i. (
+            sym (its_channel g here e) i,
+            sym (its_station g here d) i,
+            sym (pushed.ensures.by_index.1 f (search rules)) i,
+          )) (c.start-post.ensures.posted, c.start-post.ensures.start))
+          i (omega arith),
+    )
+
+pub returns : goal.returns
+returns g c =
+    let i = c.loop-station.invariant.0 in
+    let e = c.in-None.ensures in record {
+      len = grind rules;
+      each = λ k d e f low. c.loop-station.invariant.3 k d e f (grind rules);
+    }

@@ -1,0 +1,4 @@
+pub mod Kinds
+pub mod Notes
+pub mod Steps
+pub mod Books

@@ -1,0 +1,4 @@
+pub mod KeptLemmas
+pub mod StageLemmas
+pub mod DealingLemmas
+pub mod PairLemmas

@@ -1,0 +1,9 @@
+pub mod EachLemmas
+pub mod CourseLemmas
+pub mod TieLemmas
+pub mod SettleLemmas
+pub mod RunLemmas
+pub mod EndLemmas
+pub mod DealLemmas
+pub mod TurnLemmas
+pub mod StrictLemmas

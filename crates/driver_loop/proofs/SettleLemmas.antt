@@ -1,0 +1,96 @@
+-- A result of an open job is settled.
+use Rattle.std.proofs.Common.{Bool, true, cond, eqb, ◌≡◌, ℕ, List, [], ◌∷◌, ◌++◌, refl, sym, ap, ◌∙◌, subst, append-nil}
+use Rattle.std.proofs.Common.{set, Option, None, Some, Ok, Err}
+use Rattle.std.specs.Prelude.{IfOk}
+use Rattle.dealer_trait.specs.Books.{Notes, Refuses, first_after}
+use Rattle.dealer_trait.specs.Steps.{begun, begun_after, IsBegun, MayAnswer}
+use Rattle.dealer_trait.specs.declared.book_fault.BookFault.{BookFault}
+use Rattle.dealer_trait.specs.declared.dealer_step.DealerStep.{DealerStep}
+use Rattle.driver_loop.specs.Actions.{taken, note_by, noted, refusals_of, refusal_by, refused_by, or_else}
+use Rattle.driver_loop.specs.Moments.{Pages}
+use Rattle.driver_loop.specs.OpenJobs.{IsOfOpenJob}
+use Rattle.driver_loop.specs.Runs.{Tied, Wrote, Rises, first_in}
+use Rattle.driver_loop.specs.declared.open_job.OpenJob.{OpenJob}
+use Rattle.driver_loop.proofs.EachLemmas.{each_one}
+use Rattle.driver_loop.proofs.TieLemmas.{tied_end}
+use Rattle.provider_trait.specs.Answer.{Suits}
+use Rattle.provider_trait.specs.Work.{Work}
+use Rattle.provider_trait.specs.declared.answer.Answer.{Answer}
+use Rattle.provider_trait.specs.declared.answer.ProviderFault.{ProviderFault}
+use Rattle.seat_calls.specs.declared.done.Done.{Done}
+
+module _ (steps : List DealerStep) (opens : List (Option OpenJob)) (d : Done) (tied : Tied steps opens)
+    (own : IsOfOpenJob opens d) where
+  its_begun : begun d.job.task steps ≡ Some own.1.job.value
+  its_begun = ap (λ t. begun t steps) (sym own.3) ∙ (tied.right d.worker own.1 own.2).open_there
+
+  pub is_begun : IsBegun d.job.task steps
+  is_begun = (own.1.job.value, its_begun)
+
+  pub may_answer : (a : Answer) → d.got ≡ Ok a → MayAnswer d.job.task a steps
+  may_answer a is = (
+    own.1.job.value,
+    its_begun,
+    subst (λ act. Suits act a) (sym own.4 ∙ (tied.right d.worker own.1 own.2).act)
+        (subst (λ g. IfOk g (Suits d.job.act)) is d.suits),
+  )
+
+  pub tied_settled : (s : DealerStep)
+      → ((t : ℕ) (b : Option Work) → begun_after t b s ≡ cond (eqb d.job.task t) None b)
+      → Tied (steps ++ s ∷ []) (set opens d.worker None)
+  tied_settled s ends =
+      tied_end steps opens tied d.worker own.1 s own.0 own.2
+      (λ t b. ends t b ∙ ap (λ n. cond (eqb n t) None b) (sym own.3))
+
+module _ (tells : Bool) (p q : Pages) (d : Done) where
+  pub wrote_ok : (a : Answer) → d.got ≡ Ok a → (tells ≡ true → Notes p.notes q.notes d.job a (Ok tt))
+      → Refuses p.refusals q.refusals (Ok tt) → q.first ≡ first_after p.first (Ok tt)
+      → Wrote tells p q (taken d None ∷ [])
+  wrote_ok a is report count first =
+      let none : refusals_of (taken d None ∷ []) ≡ []
+      = each_one refusal_by (taken d None) ∙ ap (λ g. refused_by g None) is in record {
+        report = λ t.
+            report t
+            ∙ ap (λ x. p.notes ++ x) (sym (each_one note_by (taken d None) ∙ ap (λ g. noted d.job g None) is));
+        count = subst (λ x. Rises p.refusals q.refusals x) (sym none) count;
+        first = first ∙ kept p.first ∙ ap (λ x. or_else p.first (first_in x)) (sym none);
+      }
+    where
+      kept : (f : Option BookFault) → first_after f (Ok tt) ≡ or_else f None
+      kept None = refl
+      kept (Some g) = refl
+
+  pub wrote_err : (a : Answer) (x : BookFault) → d.got ≡ Ok a
+      → (tells ≡ true → Notes p.notes q.notes d.job a (Err x)) → Refuses p.refusals q.refusals (Err x)
+      → q.first ≡ first_after p.first (Err x) → Wrote tells p q (taken d (Some x) ∷ [])
+  wrote_err a x is report count first =
+      let one : refusals_of (taken d (Some x) ∷ []) ≡ x ∷ []
+      = each_one refusal_by (taken d (Some x)) ∙ ap (λ g. refused_by g (Some x)) is in record {
+        report = λ t.
+            report t ∙ sym (append-nil p.notes)
+            ∙ ap (λ y. p.notes ++ y)
+            (sym (each_one note_by (taken d (Some x)) ∙ ap (λ g. noted d.job g (Some x)) is));
+        count = subst (λ y. Rises p.refusals q.refusals y) (sym one) count;
+        first = first ∙ kept p.first ∙ ap (λ y. or_else p.first (first_in y)) (sym one);
+      }
+    where
+      kept : (f : Option BookFault) → first_after f (Err x) ≡ or_else f (Some x)
+      kept None = refl
+      kept (Some g) = refl
+
+-- a call that gave no answer is not noted
+pub wrote_none : (tells : Bool) (p : Pages) (d : Done) (e : ProviderFault) → d.got ≡ Err e
+    → Wrote tells p p (taken d None ∷ [])
+wrote_none tells p d e is =
+    let none : refusals_of (taken d None ∷ []) ≡ []
+    = each_one refusal_by (taken d None) ∙ ap (λ g. refused_by g None) is in record {
+      report = λ t.
+          sym (append-nil p.notes)
+          ∙ ap (λ x. p.notes ++ x) (sym (each_one note_by (taken d None) ∙ ap (λ g. noted d.job g None) is));
+      count = subst (λ x. Rises p.refusals p.refusals x) (sym none) refl;
+      first = kept p.first ∙ ap (λ x. or_else p.first (first_in x)) (sym none);
+    }
+  where
+    kept : (f : Option BookFault) → f ≡ or_else f None
+    kept None = refl
+    kept (Some g) = refl

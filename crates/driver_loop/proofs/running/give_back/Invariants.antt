@@ -1,0 +1,5 @@
+use Rattle.driver_loop.specs.Runs.{Tied}
+use Rattle.driver_loop.proofs.running.give_back.Given as goal
+
+abbrev pub invariant-loop-k : goal.invariant-loop-k
+invariant-loop-k g l = Tied (g.G.Dealer.steps l.board) l.opens

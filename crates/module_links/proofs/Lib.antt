@@ -1,0 +1,3 @@
+pub mod LinkLemmas
+pub mod PathLemmas
+pub mod StepLemmas

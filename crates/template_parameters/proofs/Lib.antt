@@ -1,0 +1,5 @@
+pub mod Words
+pub mod LiteralLemmas
+pub mod LoopLemmas
+pub mod RowLemmas
+pub mod GivenLemmas

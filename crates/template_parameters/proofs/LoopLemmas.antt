@@ -1,0 +1,84 @@
+-- What the loops over items and members of literal values have come to.
+use Rattle.std.proofs.Common.{◌≡◌, ◌≤◌, ◌<◌, ◌+◌, ℕ, length, get_or, drop, false, List, [], ◌∷◌, ◌++◌, map, Option}
+use Rattle.std.proofs.Common.{Some, None, if◌then◌else◌, sym, ap, ap₂, ◌∙◌, arith, subst}
+use Rattle.std.proofs.lemmas.List.{drop_all}
+use Rattle.arm_value.specs.Json.{Json, Row, item, Pairs, pair, Member, row, pairs, nesting, items_nesting}
+use Rattle.arm_value.specs.Json.{members_nesting, IsInOrder}
+use Rattle.arm_value.specs.View.{json, member}
+use Rattle.arm_value.specs.declared.value.Value.{Value}
+use Rattle.arm_value.specs.declared.value.Field.{Field}
+use Rattle.arm_value.proofs.SetLemmas.{drop_from}
+use Rattle.arm_value.proofs.JsonLemmas as parts
+use Rattle.template_parameters.specs.Literal.{is_copy, item_before, pair_before, literal, row_literal, pairs_literal}
+use Rattle.template_parameters.proofs.LiteralLemmas.{literal_nests, then_row-push, then_row-none, then_pairs-push}
+use Rattle.template_parameters.proofs.LiteralLemmas.{then_pairs-none, with_row, with_row-push, with_pairs}
+use Rattle.template_parameters.proofs.LiteralLemmas.{with_pairs-push, with_value, next_last}
+
+pub item_within : (vs : List Value) (js : List Json) (i : ℕ) (v : Value) → map json vs ≡ js → i < length vs
+    → v ≡ get_or vs i v → nesting (json v) ≤ items_nesting js
+item_within vs js i v e h is = omega (arith, parts.item_nests vs i v h is, ap items_nesting e)
+
+pub member_within : (fs : List Field) (ms : List Member) (i : ℕ) (f : Field) → map member fs ≡ ms → i < length fs
+    → f ≡ get_or fs i f → nesting (json f.value) ≤ members_nesting ms
+member_within fs ms i f e h is = omega (arith, parts.member_nests fs i f h is, ap members_nesting e)
+
+pub literal_within : (j k : Json) (o : Option Json) (n : ℕ) → o ≡ literal j → o ≡ Some k → nesting j ≤ n → nesting k ≤ n
+literal_within j k o n e f h = omega (arith, literal_nests j k o e f)
+
+pub literal_item : (all : Option Row) (found new : List Json) (vs : List Value) (i : ℕ) (v : Value) (k : Json)
+    (o : Option Json) → all ≡ with_row found (row_literal (row (map json (drop i vs)))) → i < length vs
+    → v ≡ get_or vs i v → o ≡ literal (json v) → o ≡ Some k
+    → new ≡ found ++ k ∷ [] → all ≡ with_row new (row_literal (row (map json (drop (i + 1) vs))))
+literal_item all found new vs i v k o a h is e f n =
+    let rest = row_literal (row (map json (drop (i + 1) vs))) in
+    a ∙ ap (λ ds. with_row found (row_literal (row (map json ds)))) (drop_from vs i v h is)
+    ∙ ap (λ s. with_row found (item_before s rest)) (sym e ∙ f) ∙ with_row-push found k rest
+    ∙ ap (λ g. with_row g rest) (sym n)
+
+pub literal_items : (found : List Json) (vs : List Value) (js : List Json) (i : ℕ) → map json vs ≡ js → length vs ≤ i
+    → row_literal (row (map json vs)) ≡ with_row found (row_literal (row (map json (drop i vs))))
+    → Some (row found) ≡ row_literal (row js)
+literal_items found vs js i e h a =
+    sym (ap (λ ks. row_literal (row ks)) (sym e) ∙ a
+    ∙ ap (λ ds. with_row found (row_literal (row (map json ds)))) (drop_all i vs h)
+    ∙ ap Some (then_row-none found))
+
+-- the next member with another value, after what was found
+pub member_last : (found : List Member) (fs : List Field) (i : ℕ) (f : Field) (name : List ℕ) (k : Json)
+    → IsInOrder (found ++ map member (drop i fs)) → i < length fs → f ≡ get_or fs i f → name ≡ f.name
+    → IsInOrder (found ++ (name, k) ∷ [])
+member_last found fs i f name k o h is e =
+    subst (λ (n : List ℕ). IsInOrder (found ++ (n, k) ∷ [])) (sym e)
+    (next_last found f.name (json f.value) k (map member (drop (i + 1) fs))
+    (subst (λ ds. IsInOrder (found ++ map member ds)) (drop_from fs i f h is) o))
+
+pub members_ordered : (found new : List Member) (fs : List Field) (i : ℕ) (f : Field) (name : List ℕ) (k : Json)
+    → IsInOrder (found ++ map member (drop i fs)) → i < length fs → f ≡ get_or fs i f → name ≡ f.name
+    → new ≡ found ++ (name, k) ∷ []
+    → IsInOrder (new ++ map member (drop (i + 1) fs))
+members_ordered found new fs i f name k o h is e n =
+    let last = with_value found f.name (json f.value) k (map member (drop (i + 1) fs))
+    (subst (λ ds. IsInOrder (found ++ map member ds)) (drop_from fs i f h is) o) in
+    subst (λ ms. IsInOrder (ms ++ map member (drop (i + 1) fs))) (ap (λ (l : List ℕ). found ++ (l, k) ∷ []) (sym e)
+    ∙ sym n) last
+
+pub literal_member : (all : Option Pairs) (found new : List Member) (fs : List Field) (i : ℕ) (f : Field)
+    (name : List ℕ) (k : Json) (o : Option Json)
+    → all ≡ with_pairs found (pairs_literal (pairs (map member (drop i fs)))) → i < length fs → f ≡ get_or fs i f
+    → is_copy f.name ≡ false → name ≡ f.name → o ≡ literal (json f.value) → o ≡ Some k
+    → new ≡ found ++ (name, k) ∷ [] → all ≡ with_pairs new (pairs_literal (pairs (map member (drop (i + 1) fs))))
+literal_member all found new fs i f name k o a h is plain e s t n =
+    let rest = pairs_literal (pairs (map member (drop (i + 1) fs))) in
+    a ∙ ap (λ ds. with_pairs found (pairs_literal (pairs (map member ds)))) (drop_from fs i f h is)
+    ∙ ap (λ b. with_pairs found (if b then None else pair_before f.name (literal (json f.value)) rest)) plain
+    ∙ ap₂ (λ (l : List ℕ) j. with_pairs found (pair_before l j rest)) (sym e) (sym s ∙ t)
+    ∙ with_pairs-push found (name, k) rest ∙ ap (λ g. with_pairs g rest) (sym n)
+
+pub literal_members : (found : List Member) (fs : List Field) (ms : List Member) (i : ℕ) → map member fs ≡ ms
+    → length fs ≤ i
+    → pairs_literal (pairs (map member fs)) ≡ with_pairs found (pairs_literal (pairs (map member (drop i fs))))
+    → Some (pairs found) ≡ pairs_literal (pairs ms)
+literal_members found fs ms i e h a =
+    sym (ap (λ ns. pairs_literal (pairs ns)) (sym e) ∙ a
+    ∙ ap (λ ds. with_pairs found (pairs_literal (pairs (map member ds)))) (drop_all i fs h)
+    ∙ ap Some (then_pairs-none found))

@@ -1,0 +1,4 @@
+pub mod Rule
+pub mod Literal
+pub mod Binding
+pub mod Given

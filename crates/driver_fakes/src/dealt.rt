@@ -8,25 +8,42 @@ ghost use Rattle.driver_fakes.specs.Stages.{is_refused};
 ghost use Rattle.driver_fakes.specs.declared.stage.Stage.TheVariants.{Waiting};
 
 use crate::stage::Stage;
-use arm_value::OutOfMemory;
+use arm_value::{OutOfMemory, Text};
 use dealer_trait::DealerStep;
 use provider_trait::{Answer, Job, JobParts};
 use std::alloc::{AllocError, Global};
+
+// Copies of the id and of the version of a job.
+fn copy_names(alloc: Global, job: &Job) -> Result<(Text, Text), OutOfMemory>
+    ensures { IfOk result (λ p. (p.0 ≡ job.now.id) × (p.1 ≡ job.now.api)) }
+{
+    let id = job.id().copy(alloc)?;
+    match job.api().copy(alloc) {
+        Ok(api) => Ok((id, api)),
+        Err(_) => run_out(id),
+    }
+}
 
 // The job as that of this task and this worker.
 pub(crate) fn dealt(alloc: Global, job: &Job, task: u32, worker: u32) -> Result<Job, OutOfMemory>
     ensures { IfOk result (λ j. j ≡ dealt job.now task worker) }
 {
     let act = job.act();
-    let parts = JobParts {
-        task,
-        worker,
-        act,
-        id: job.id().copy(alloc)?,
-        api: job.api().copy(alloc)?,
-        body: job.body().copy(alloc)?,
-    };
-    Job::new(alloc, parts)
+    let body = job.body().copy(alloc)?;
+    match copy_names(alloc, job) {
+        Ok((id, api)) => Job::new(
+            alloc,
+            JobParts {
+                task,
+                worker,
+                act,
+                id,
+                api,
+                body,
+            },
+        ),
+        Err(_) => run_out(body),
+    }
 }
 
 // Whether something was refused, after this answer.

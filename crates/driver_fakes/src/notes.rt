@@ -1,6 +1,6 @@
 // The notes of a book in memory: their parts one after another, in room taken before.
 
-ghost use Rattle.std.specs.Prelude.{◌≡◌, ◌≤◌, ◌+◌, ◌*◌, ◌++◌, ◌∷◌, [], length, IfOk};
+ghost use Rattle.std.specs.Prelude.{◌≡◌, ◌≤◌, ◌+◌, ◌*◌, ◌++◌, ◌∷◌, [], length, IfOk, OnOk};
 ghost use Rattle.std.specs.Vec.{vec_capacity};
 ghost use Rattle.dealer_trait.specs.declared.note.Note.{Note};
 ghost use Rattle.driver_fakes.specs.Kept.{notes_in, size_of, note};
@@ -71,12 +71,28 @@ pub(crate) fn copies(
     for entry in entries {
         let (first, after) = rest.split_at(entry.first);
         let (second, after) = after.split_at(entry.second);
-        notes.push(copy(alloc, entry.kind, first, second)?)?;
+        push_copy(alloc, &mut notes, entry.kind, first, second)?;
         rest = after;
     }
     Ok(notes)
 }
 
+// Adds a note with copies of its parts.
+fn push_copy(
+    alloc: Global,
+    notes: &mut Vec<Note>,
+    kind: u8,
+    first: &[u8],
+    second: &[u8],
+) -> Result<(), OutOfMemory>
+    ensures { OnOk result (notes.new.items
+        ≡ notes.old.items ++ note kind first.now second.now ∷ []) }
+{
+    notes.push(copy(alloc, kind, first, second)?)?;
+    Ok(())
+}
+
+// A note with copies of its parts.
 fn copy(alloc: Global, kind: u8, first: &[u8], second: &[u8]) -> Result<Note, OutOfMemory>
     ensures { IfOk result (λ n. n ≡ note kind first.now second.now) }
 {

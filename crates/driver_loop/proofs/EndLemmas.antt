@@ -8,17 +8,13 @@ use Rattle.driver_loop.specs.Actions.{refusals_of, AreHands, AreTakes}
 use Rattle.driver_loop.specs.Ends.{BeginsNoMore, Blames, IsNoneOrMemory, Asks}
 use Rattle.driver_loop.specs.Moments.{Pages}
 use Rattle.driver_loop.specs.Runs.{Wrote, Rises, first_in}
+use Rattle.driver_loop.specs.Turns.{KnowsFault}
 use Rattle.driver_loop.specs.declared.action.Action.{Action}
 use Rattle.driver_loop.specs.declared.action.Action.TheVariants.{Hand, Take}
 use Rattle.driver_loop.specs.declared.fault.DriveFault.{DriveFault}
 use Rattle.driver_loop.specs.declared.fault.DriveFault.TheVariants.{Provider, Book, OutOfMemory}
 use Rattle.driver_loop.proofs.EachLemmas.{each_append, each_chain, fault_append, takes_append}
 use Rattle.seat_calls.specs.declared.done.Done.{Done}
-
--- what the loop knows of the fault
-abbrev pub KnowsFault : Option DriveFault → List Action → Type 0
-KnowsFault fault course = (a : List Action) × (b : List Action) × (course ≡ a ++ b) × (first_fault a ≡ None) × AreTakes b
-    × (fault ≡ None → b ≡ []) × Blames fault course
 
 hands_fault : (l : List Action) → AreHands l → first_fault l ≡ None
 unfolding AreHands first_fault

@@ -1,14 +1,14 @@
 -- A result of an open job is settled.
 use Rattle.std.proofs.Common.{Bool, true, cond, eqb, ◌≡◌, ℕ, List, [], ◌∷◌, ◌++◌, refl, sym, ap, ◌∙◌, subst, append-nil}
-use Rattle.std.proofs.Common.{set, Option, None, Some, Ok, Err}
+use Rattle.std.proofs.Common.{set, Option, None, Some, Result, Ok, Err}
 use Rattle.std.specs.Prelude.{IfOk}
 use Rattle.dealer_trait.specs.Books.{Notes, Refuses, first_after}
 use Rattle.dealer_trait.specs.Steps.{begun, begun_after, IsBegun, MayAnswer}
 use Rattle.dealer_trait.specs.declared.book_fault.BookFault.{BookFault}
 use Rattle.dealer_trait.specs.declared.dealer_step.DealerStep.{DealerStep}
-use Rattle.driver_loop.specs.Actions.{taken, note_by, noted, refusals_of, refusal_by, refused_by, or_else}
+use Rattle.driver_loop.specs.Actions.{taken, end_of, note_by, noted, refusals_of, refusal_by, refused_by, or_else}
 use Rattle.driver_loop.specs.Moments.{Pages}
-use Rattle.driver_loop.specs.OpenJobs.{IsOfOpenJob}
+use Rattle.driver_loop.specs.OpenJobs.{IsOfOpenJob, IsOpenFor}
 use Rattle.driver_loop.specs.Runs.{Tied, Wrote, Rises, first_in}
 use Rattle.driver_loop.specs.declared.open_job.OpenJob.{OpenJob}
 use Rattle.driver_loop.proofs.EachLemmas.{each_one}
@@ -21,18 +21,11 @@ use Rattle.seat_calls.specs.declared.done.Done.{Done}
 
 module _ (steps : List DealerStep) (opens : List (Option OpenJob)) (d : Done) (tied : Tied steps opens)
     (own : IsOfOpenJob opens d) where
-  its_begun : begun d.job.task steps ≡ Some own.1.job.value
-  its_begun = ap (λ t. begun t steps) (sym own.3) ∙ (tied.right d.worker own.1 own.2).open_there
-
-  pub is_begun : IsBegun d.job.task steps
-  is_begun = (own.1.job.value, its_begun)
-
-  pub may_answer : (a : Answer) → d.got ≡ Ok a → MayAnswer d.job.task a steps
-  may_answer a is = (
+  pub open_for : IsOpenFor steps d
+  open_for = (
     own.1.job.value,
-    its_begun,
-    subst (λ act. Suits act a) (sym own.4 ∙ (tied.right d.worker own.1 own.2).act)
-        (subst (λ g. IfOk g (Suits d.job.act)) is d.suits),
+    ap (λ t. begun t steps) (sym own.3) ∙ (tied.right d.worker own.1 own.2).open_there,
+    sym (tied.right d.worker own.1 own.2).act ∙ own.4,
   )
 
   pub tied_settled : (s : DealerStep)
@@ -41,6 +34,21 @@ module _ (steps : List DealerStep) (opens : List (Option OpenJob)) (d : Done) (t
   tied_settled s ends =
       tied_end steps opens tied d.worker own.1 s own.0 own.2
       (λ t b. ends t b ∙ ap (λ n. cond (eqb n t) None b) (sym own.3))
+
+-- each end of a Begin closes it
+pub end_closes : (task : ℕ) (got : Result Answer ProviderFault) (refused : Option BookFault) (t : ℕ) (b : Option Work)
+    → begun_after t b (end_of task got refused) ≡ cond (eqb task t) None b
+end_closes task (Ok a) None t b = refl
+end_closes task (Ok a) (Some r) t b = refl
+end_closes task (Err e) r t b = refl
+
+pub is_begun : (steps : List DealerStep) (d : Done) → IsOpenFor steps d → IsBegun d.job.task steps
+is_begun steps d o = (o.0, o.1)
+
+pub may_answer : (steps : List DealerStep) (d : Done) → IsOpenFor steps d → (a : Answer) → d.got ≡ Ok a
+    → MayAnswer d.job.task a steps
+may_answer steps d o a is =
+    (o.0, o.1, subst (λ act. Suits act a) (sym o.2) (subst (λ g. IfOk g (Suits d.job.act)) is d.suits))
 
 module _ (tells : Bool) (p q : Pages) (d : Done) where
   pub wrote_ok : (a : Answer) → d.got ≡ Ok a → (tells ≡ true → Notes p.notes q.notes d.job a (Ok tt))

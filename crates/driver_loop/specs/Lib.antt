@@ -4,3 +4,4 @@ pub mod Courses
 pub mod Moments
 pub mod Runs
 pub mod Ends
+pub mod Turns

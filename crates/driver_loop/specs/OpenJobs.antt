@@ -1,5 +1,7 @@
 -- The open jobs of the seats.
 use Rattle.std.specs.Prelude.{◌≡◌, ℕ, ◌<◌, List, length, Option, None, Some, slice_index_or}
+use Rattle.dealer_trait.specs.Steps.{begun}
+use Rattle.dealer_trait.specs.declared.dealer_step.DealerStep.{DealerStep}
 use Rattle.driver_loop.specs.declared.open_job.OpenJob.{OpenJob}
 use Rattle.provider_trait.specs.Work.{Work}
 use Rattle.seat_calls.specs.declared.done.Done.{Done}
@@ -25,3 +27,7 @@ IsOfOpenJob opens done = (done.worker < length opens) × (o : OpenJob) × (open_
 abbrev pub IsStray : List (Option OpenJob) → Done → Type 0
 IsStray opens done = (o : OpenJob) → open_at opens done.worker ≡ Some o → o.task ≡ done.job.task
     → o.act ≡ done.job.act → ⊥
+
+-- a Begin of the result's task is open, of a job with its act
+abbrev pub IsOpenFor : List DealerStep → Done → Type 0
+IsOpenFor steps done = (job : Work) × (begun done.job.task steps ≡ Some job) × (job.act ≡ done.job.act)

@@ -4,14 +4,14 @@ use Rattle.std.proofs.Common.{refl, ap, ap₂, sym, ◌∙◌}
 use Rattle.std.specs.Prelude.{cond}
 use Rattle.std.specs.Cmp.{both_ways}
 use Rattle.std.specs.List.{list_any}
-use Rattle.std.specs.BTreeSet.{BTreeSet, contains, IsEmpty, Updates}
+use Rattle.std.specs.BTreeSet.{BTreeSet, contains, Updates}
 use Rattle.std.specs.declared.vec.Vec.{Vec}
 use Rattle.std.specs.declared.alloc.Global.{Global}
 use Rattle.std.proofs.lemmas.List.Folds.{list_any-append}
 use Rattle.std.proofs.lemmas.Map.Text.{is_eq-slice_cmp}
 use Rattle.std.proofs.lemmas.Slice.Eq.{bytes_eq-Decides}
 use Rattle.std.proofs.lemmas.Str.{encodes_same}
-use Rattle.arm_value.specs.Look.{fold, is_same_folded}
+use Rattle.arm_value.specs.Look.{fold}
 use Rattle.name_set.specs.Names.{is_named, bytes_cmp, IsIndexOf, is_listed, IsTextIndexOf}
 
 -- texts are equal where their bytes are
@@ -33,9 +33,6 @@ pub is_indexed : (index : BTreeSet (Vec ℕ Global)) (names : List (List ℕ)) (
     → contains bytes_cmp index key ≡ is_named names name
 is_indexed index names key name h e =
     h key ∙ ap (λ s. list_any (λ n. bytes_eq s (encode_utf8_all (fold n))) names) e ∙ among_names name names
-
-pub index_empty : (index : BTreeSet (Vec ℕ Global)) → IsEmpty index → IsIndexOf index []
-index_empty index e = λ s. ap (list_any _) e
 
 swapped : (s t : List ℕ) → bytes_eq s t ≡ bytes_eq t s
 swapped s t =
@@ -71,9 +68,6 @@ pub is_text_indexed : (index : BTreeSet (Vec ℕ Global)) (texts : List (List �
     → IsTextIndexOf index texts → key.items ≡ encode_utf8_all text → contains bytes_cmp index key ≡ is_listed texts text
 is_text_indexed index texts key text h e =
     h key ∙ ap (λ s. list_any (λ t. bytes_eq s (encode_utf8_all t)) texts) e ∙ among_texts text texts
-
-pub text_index_empty : (index : BTreeSet (Vec ℕ Global)) → IsEmpty index → IsTextIndexOf index []
-text_index_empty index e = λ s. ap (list_any _) e
 
 -- one more text
 pub text_index_more : (old new : BTreeSet (Vec ℕ Global)) (texts : List (List ℕ)) (key : Vec ℕ Global) (text : List ℕ)

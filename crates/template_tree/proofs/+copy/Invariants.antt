@@ -13,4 +13,5 @@ abbrev pub decreases-copy::copy_body : goal.decreases-copy::copy_body
 decreases-copy::copy_body l = 3 * body_depth (body_tree l.body.now) + 3
 
 abbrev pub invariant-resource::Resources::copy-loop-resource : goal.invariant-resource::Resources::copy-loop-resource
-invariant-resource::Resources::copy-loop-resource l = l.copies ≡ map resource_tree (take l.resource-index l.resource-items)
+invariant-resource::Resources::copy-loop-resource l =
+    l.copies ≡ map resource_tree (take l.resource-index l.resource-items)

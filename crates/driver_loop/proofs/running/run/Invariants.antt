@@ -1,14 +1,16 @@
 use Rattle.std.proofs.Common.{◌≡◌, length}
 use Rattle.driver_loop.specs.Moments.{moment, pages}
-use Rattle.driver_loop.proofs.TurnLemmas.{Going}
+use Rattle.driver_loop.specs.Runs.{Tied}
+use Rattle.driver_loop.specs.Turns.{GoesOn}
 use Rattle.driver_loop.proofs.running.run.Given as goal
 
 abbrev pub invariant-loop : goal.invariant-loop
-invariant-loop g l =
-    Going g.B.Book.tells
+invariant-loop g l = (length l.opens ≡ length l.fn.opens)
+    × ((g.C.Crew.seats l.crew ≡ length l.fn.opens) × g.C.Crew.is_ready l.crew
+    × (g.C.Crew.fixed l.crew ≡ g.C.Crew.fixed l.fn.crew))
+    × Tied (g.G.Dealer.steps l.board) l.opens
+    × GoesOn g.B.Book.tells
     (moment (g.G.Dealer.steps l.fn.board) (g.C.Crew.received l.fn.crew) (g.C.Crew.sent l.fn.crew) l.fn.opens)
-    (pages (g.B.Book.notes l.fn.book) (g.B.Book.refusals l.fn.book) (g.B.Book.first l.fn.book))
     (moment (g.G.Dealer.steps l.board) (g.C.Crew.received l.crew) (g.C.Crew.sent l.crew) l.opens)
-    (pages (g.B.Book.notes l.book) (g.B.Book.refusals l.book) (g.B.Book.first l.book))
-    ((g.C.Crew.seats l.crew ≡ length l.fn.opens) × g.C.Crew.is_ready l.crew
-    × (g.C.Crew.fixed l.crew ≡ g.C.Crew.fixed l.fn.crew)) l.fault
+    (pages (g.B.Book.notes l.fn.book) (g.B.Book.refusals l.fn.book) (g.B.Book.first l.fn.book))
+    (pages (g.B.Book.notes l.book) (g.B.Book.refusals l.book) (g.B.Book.first l.book)) l.fault

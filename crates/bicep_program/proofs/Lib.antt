@@ -1,0 +1,5 @@
+pub mod EndLemmas
+pub mod FileLemmas
+pub mod GraphLemmas
+pub mod LoadLemmas
+pub mod SourceLemmas

@@ -1,0 +1,9 @@
+pub mod Levels
+pub mod LockIds
+pub mod Rules
+pub mod Texts
+pub mod Places
+pub mod Searches
+pub mod BindFaults
+pub mod Spaced
+pub mod Causes

@@ -6,7 +6,7 @@ use Rattle.arm_ids.specs.Segments.{joined}
 use Rattle.arm_ids.specs.Id.{reading, folded}
 use Rattle.arm_ids.specs.declared.id.ResourceId.{ResourceId}
 use Rattle.arm_env.specs.declared.env.Spelled.{Spelled}
-use Rattle.arm_env.specs.Look.{Declared, Deployment, Surroundings}
+use Rattle.arm_env.specs.Look.{Declared}
 
 -- whether both lists have the same texts
 abbrev pub are_same : List (List ℕ) → List (List ℕ) → Bool
@@ -19,11 +19,6 @@ abbrev pub is_same_key : ResourceId → ResourceId → Bool
 is_same_key i j =
     bytes_eq i.subscription j.subscription
     && (bytes_eq i.group j.group && (are_same i.types j.types && are_same i.names j.names))
-
--- the outputs of the first of the deployments with the key
-abbrev pub outputs_of : ResourceId → List Deployment → Option (List Declared)
-outputs_of k [] = None
-outputs_of k (d ∷ ds) = if is_same_key k d.key then Some d.outputs else outputs_of k ds
 
 -- the first output of the name
 abbrev pub output_named : List ℕ → List Declared → Option Declared
@@ -53,20 +48,16 @@ abbrev pub names_key : List ℕ → ResourceId → Bool
 names_key t k =
     is_same_folded t (joined k.types ++ 47 ∷ joined k.names) || is_same_folded t (joined k.names)
 
--- the key of the first deployment that the text names
-abbrev pub deployment_named : List ℕ → List Deployment → Option ResourceId
-deployment_named t [] = None
-deployment_named t (d ∷ ds) = if names_key t d.key then Some d.key else deployment_named t ds
+-- the key of the first of the keys that the text names
+abbrev pub first_key : List ℕ → List ResourceId → Option ResourceId
+first_key t [] = None
+first_key t (k ∷ ks) = if names_key t k then Some k else first_key t ks
 
 -- the one key of the template that the text names, or else that of a deployment around
-abbrev pub by_name : List ℕ → Surroundings → Option ResourceId → Option ResourceId
-by_name t here None = deployment_named t here.deployments
-by_name t here (Some k) = if names_only t k here.names then Some k else None
+abbrev pub by_name : List ℕ → List Spelled → List ResourceId → Option ResourceId → Option ResourceId
+by_name t names around None = first_key t around
+by_name t names around (Some k) = if names_only t k names then Some k else None
 
-abbrev pub by_id : List ℕ → Surroundings → Option ResourceId → Option ResourceId
-by_id t here None = by_name t here (first_named t here.names)
-by_id t here (Some k) = Some k
-
--- the key that the text names: it is an id, or else a type and name, or a full name
-abbrev pub key_named : List ℕ → Surroundings → Option ResourceId
-key_named t here = by_id t here (id_key t)
+-- the key that the text names as a type and name, or as a full name
+abbrev pub key_named : List ℕ → List Spelled → List ResourceId → Option ResourceId
+key_named t names around = by_name t names around (first_named t names)

@@ -1,20 +1,17 @@
--- What an environment of the code knows of each entry, and the surroundings that it has.
-use Rattle.std.specs.Prelude.{ℕ, List, [], ◌∷◌, map, bytes_eq, Option, Some, None, option_map}
-use Rattle.std.specs.Prelude.{if◌then◌else◌}
-use Rattle.arm_value.specs.Json.{Json}
+-- What an environment of the code knows of each cell, and the surroundings that it has.
+use Rattle.std.specs.Prelude.{ℕ, Bool, true, false, List, [], ◌∷◌, map, bytes_eq, Option, Some, None}
+use Rattle.std.specs.Prelude.{option_map, is_some, if◌then◌else◌}
 use Rattle.arm_value.specs.View.{json}
 use Rattle.arm_value.specs.Look.{fold}
 use Rattle.arm_ids.specs.declared.id.ResourceId.{ResourceId}
 use Rattle.reading.specs.Knowledge.{Known, known, absent, missing}
-use Rattle.arm_env.specs.Look.{Look, parameter, variable, output, state, Declared, Deployment}
-use Rattle.arm_env.specs.Look.{Surroundings}
-use Rattle.arm_env.specs.Find.{is_same_key}
+use Rattle.arm_env.specs.Look.{Look, parameter, variable, output, state, named, deployment, outputs}
+use Rattle.arm_env.specs.Look.{Fact, a_value, a_key, a_truth, a_list, Declared, Surroundings}
+use Rattle.arm_env.specs.Find.{is_same_key, key_named}
 use Rattle.arm_env.specs.declared.env.Slot.{Slot}
 use Rattle.arm_env.specs.declared.env.Slot.TheVariants as slot
 use Rattle.arm_env.specs.declared.env.Seen.{Seen}
 use Rattle.arm_env.specs.declared.env.Seen.TheVariants as seen
-use Rattle.arm_env.specs.declared.env.Unlisted.{Unlisted}
-use Rattle.arm_env.specs.declared.env.Unlisted.TheVariants as unlisted
 use Rattle.arm_env.specs.declared.env.Named.{Named}
 use Rattle.arm_env.specs.declared.env.StateAt.{StateAt}
 use Rattle.arm_env.specs.declared.env.OutputAt.{OutputAt}
@@ -22,9 +19,9 @@ use Rattle.arm_env.specs.declared.env.ModuleAt.{ModuleAt}
 use Rattle.arm_env.specs.declared.env.Env.{Env}
 
 -- an entry that may be listed; one that is not has no value
-abbrev pub slot_known : Option Slot → Known Json
+abbrev pub slot_known : Option Slot → Known Fact
 slot_known None = absent
-slot_known (Some (slot.Known v)) = known (json v)
+slot_known (Some (slot.Known v)) = known (a_value (json v))
 slot_known (Some slot.Absent) = absent
 slot_known (Some slot.Late) = missing
 
@@ -55,34 +52,39 @@ abbrev pub seen_at : ResourceId → List StateAt → Option Seen
 seen_at k [] = None
 seen_at k (s ∷ ss) = if is_same_key k s.key then Some s.seen else seen_at k ss
 
--- what is known of a key that is not listed
-abbrev pub unlisted_known : Unlisted → Known Json
-unlisted_known unlisted.Never = absent
-unlisted_known unlisted.Later = missing
+-- the state at a key, which may be listed; where it is not there is none
+abbrev pub seen_known : Option Seen → Known Fact
+seen_known None = absent
+seen_known (Some (seen.Now v)) = known (a_value (json v))
+seen_known (Some seen.Never) = absent
+seen_known (Some seen.Later) = missing
 
-abbrev pub seen_known : Unlisted → Option Seen → Known Json
-seen_known u None = unlisted_known u
-seen_known u (Some (seen.Now v)) = known (json v)
-seen_known u (Some seen.Never) = absent
-seen_known u (Some seen.Later) = missing
-
-abbrev pub known_in : Unlisted → Env → Look → Known Json
-known_in u env (parameter name) = slot_known (slot_named name env.parameters.items)
-known_in u env (variable name) = slot_known (slot_named name env.variables.items)
-known_in u env (output k name) = slot_known (slot_in name (module_with k env.modules.items))
-known_in u env (state k) = seen_known u (seen_at k env.states.items)
+-- what a text stands for: a key or nothing
+abbrev pub key_known : Option ResourceId → Known Fact
+key_known None = absent
+key_known (Some k) = known (a_key k)
 
 abbrev pub declared : OutputAt → Declared
 declared x = record { name = x.name; kind = x.kind }
 
-abbrev pub deployment_of : ModuleAt → Deployment
-deployment_of m = record { key = m.key; outputs = map declared m.outputs.items }
+-- the outputs of a nested deployment that may be listed
+abbrev pub outputs_in : Option ModuleAt → List Declared
+outputs_in None = []
+outputs_in (Some m) = map declared m.outputs.items
+
+abbrev pub key_of : ModuleAt → ResourceId
+key_of m = m.key
+
+abbrev pub known_in : Env → Look → Known Fact
+known_in env (parameter name) = slot_known (slot_named name env.parameters.items)
+known_in env (variable name) = slot_known (slot_named name env.variables.items)
+known_in env (output k name) = slot_known (slot_in name (module_with k env.modules.items))
+known_in env (state k) = seen_known (seen_at k env.states.items)
+known_in env (named t) =
+    if env.inside_name then absent
+    else key_known (key_named t env.names.items (map key_of env.modules.items))
+known_in env (deployment k) = known (a_truth (is_some (module_with k env.modules.items)))
+known_in env (outputs k) = known (a_list (outputs_in (module_with k env.modules.items)))
 
 abbrev pub around : Env → Surroundings
-around env =
-    record {
-      loops = env.loops.items;
-      place = env.place.now;
-      names = env.names.items;
-      deployments = map deployment_of env.modules.items;
-    }
+around env = record { loops = env.loops.items; place = env.place.now }

@@ -1,4 +1,5 @@
 pub mod Look
+pub mod Cell
 pub mod Part
 pub mod Loop
 pub mod Id

@@ -83,6 +83,19 @@ pub struct OutputAt {
     pub slot: Slot,
 }
 
+/// A resource of a template of the second form, by its symbolic name.
+#[derive(Drop)]
+pub struct Symbol {
+    /// The symbolic name. Symbolic names are compared exactly.
+    pub name: Text,
+    /// The type of the resource.
+    pub kind: Text,
+    /// The text of its name, which may be an expression.
+    pub title: Text,
+    /// Whether it has a loop.
+    pub looped: bool,
+}
+
 /// The environment of an expression.
 ///
 /// Of entries of one name, or of one key, the first counts. A parameter, variable or output that is
@@ -97,7 +110,7 @@ pub struct Env<'a> {
     pub loops: Vec<Looping>,
     /// Where the template is deployed.
     pub place: &'a Place,
-    /// The states of resources; what a key means that is not listed, `Unlisted` says.
+    /// The states of resources; a key that is not listed has no state.
     pub states: Vec<StateAt>,
     /// The resources of the template instance that has the expression. The nested
     /// deployments of that instance are among them, so that a text which two of them match has no
@@ -106,13 +119,8 @@ pub struct Env<'a> {
     /// The nested deployments of that instance, and after them those of the instances around that
     /// an expression in an `outer` scope can see (not those around an `inner` scope).
     pub modules: Vec<ModuleAt>,
-}
-
-/// What a key means that is not listed among the states.
-#[derive(Clone, Copy, PartialEq, Eq, Debug)]
-pub enum Unlisted {
-    /// There is no such state.
-    Never,
-    /// It is not known yet.
-    Later,
+    /// The resources of a template of the second form; none where it is of the first form.
+    pub symbols: Vec<Symbol>,
+    /// Whether a text of `reference` is an id and nothing else, as inside the name of a resource.
+    pub inside_name: bool,
 }

@@ -3,18 +3,25 @@ ghost use Rattle.std.specs.Prelude.{◌≡◌, ◌∷◌, ◌++◌, chars, strin
 ghost use Rattle.arm_ids.specs.declared.id.ResourceId.{ResourceId};
 ghost use Rattle.arm_ids.specs.Segments.{joined};
 ghost use Rattle.arm_env.specs.Find.{id_key, names_resource, first_named, names_only, names_key};
-ghost use Rattle.arm_env.specs.Find.{deployment_named, by_name, key_named};
-ghost use Rattle.arm_env.specs.Known.{deployment_of};
-ghost use Rattle.arm_env.specs.Sight.{here};
+ghost use Rattle.arm_env.specs.Find.{is_same_key, first_key, key_named};
+ghost use Rattle.arm_env.specs.Known.{key_of};
 
 use crate::env::{ModuleAt, Spelled};
 use crate::ids::push_segment;
-use crate::sight::{Sight, is_key};
 use arm_ids::{IdFault, Key, ResourceId};
 use arm_value::{OutOfMemory, Text};
 use std::alloc::{AllocError, Global};
 
-fn id_key(alloc: Global, text: &Text) -> Result<Option<Key>, OutOfMemory>
+/// Whether both are one key.
+#[tactic(auto, using(crate::proofs::KeyLemmas::same_key))]
+pub(crate) fn is_key(key: &Key, other: &Key) -> bool
+    ensures { result ≡ is_same_key key.now other.now }
+{
+    key.same(other)
+}
+
+/// The key of which the text is an id.
+pub fn id_key(alloc: Global, text: &Text) -> Result<Option<Key>, OutOfMemory>
     ensures { IfOk result (λ k. k ≡ id_key text.now) }
 {
     match ResourceId::read(alloc, text.as_str()) {
@@ -85,12 +92,8 @@ fn names_key(alloc: Global, key: &Key, text: &Text) -> Result<bool, OutOfMemory>
 }
 
 // The key of the first nested deployment that the text names.
-fn deployment_named(
-    alloc: Global,
-    modules: &[ModuleAt],
-    text: &Text,
-) -> Result<Option<Key>, OutOfMemory>
-    ensures { IfOk result (λ k. k ≡ deployment_named text.now (map deployment_of modules.now)) }
+fn first_key(alloc: Global, modules: &[ModuleAt], text: &Text) -> Result<Option<Key>, OutOfMemory>
+    ensures { IfOk result (λ k. k ≡ first_key text.now (map key_of modules.now)) }
 {
     for nested in modules {
         if names_key(alloc, &nested.key, text)? {
@@ -100,27 +103,22 @@ fn deployment_named(
     Ok(None)
 }
 
-// The one key of the template that the text names, or else that of a deployment around.
-fn by_name(alloc: Global, sight: &Sight, text: &Text) -> Result<Option<Key>, OutOfMemory>
-    ensures { IfOk result (λ k. k
-        ≡ by_name text.now (here sight.now) (first_named text.now (here sight.now).names)) }
+/// The key that the text names as a type and name, or as a full name: the one key of the template
+/// instance, or else that of a nested deployment around.
+pub(crate) fn key_named(
+    alloc: Global,
+    names: &[Spelled],
+    modules: &[ModuleAt],
+    text: &Text,
+) -> Result<Option<Key>, OutOfMemory>
+    ensures { IfOk result (λ k. k ≡ key_named text.now names.now (map key_of modules.now)) }
 {
-    match first_named(alloc, &sight.env.names, text)? {
-        Some(key) => if names_only(alloc, &sight.env.names, text, key)? {
+    match first_named(alloc, names, text)? {
+        Some(key) => if names_only(alloc, names, text, key)? {
             Ok(Some(key.copy(alloc)?))
         } else {
             Ok(None)
         },
-        None => deployment_named(alloc, &sight.env.modules, text),
-    }
-}
-
-/// The key that the text names: it is an id, or else a type and name, or a full name.
-pub fn key_named(alloc: Global, sight: &Sight, text: &Text) -> Result<Option<Key>, OutOfMemory>
-    ensures { IfOk result (λ k. k ≡ key_named text.now (here sight.now)) }
-{
-    match id_key(alloc, text)? {
-        Some(key) => Ok(Some(key)),
-        None => by_name(alloc, sight, text),
+        None => first_key(alloc, modules, text),
     }
 }

@@ -6,12 +6,12 @@ ghost use Rattle.arm_value.specs.Json.{pairs};
 ghost use Rattle.arm_value.specs.Look.{fold};
 ghost use Rattle.arm_value.specs.View.{json, member};
 ghost use Rattle.reading.specs.Reading.{Reading, continued, pure, done};
+ghost use Rattle.reading.specs.Knowledge.{finished};
 ghost use Rattle.arm_env.specs.Part.{item_at, part_of, kept};
 ghost use Rattle.arm_env.specs.Object.{object_of};
-ghost use Rattle.arm_env.specs.Answer.{given, plain_answer, Gives};
+ghost use Rattle.arm_env.specs.Answer.{plain_told, Gives};
 ghost use Rattle.arm_env.specs.Sight.{held_of};
 
-use crate::env::OutputAt;
 use crate::stop::{Stop, let_go, stopped};
 use arm_ids::Key;
 use arm_value::{Fields, Items, Text, Value};
@@ -31,15 +31,8 @@ pub enum Held<'a> {
     Deployment(Key),
     /// The outputs of the nested deployment at a key.
     Outputs(Key),
-    /// An output of a nested deployment.
+    /// The output of a name of a nested deployment.
     Output {
-        /// The key of the deployment.
-        key: Key,
-        /// The output.
-        output: &'a OutputAt,
-    },
-    /// An output of a nested deployment that is not listed.
-    Unlisted {
         /// The key of the deployment.
         key: Key,
         /// The name of the output, as it is spelled.
@@ -49,7 +42,7 @@ pub enum Held<'a> {
 
 /// The value; no value where it nests deeper than 100.
 pub fn keep(value: Value) -> Result<Value, Stop>
-    ensures { Gives json result (given (kept (json value))) }
+    ensures { Gives json result (finished (kept (json value))) }
 {
     if value.nesting() <= MAX_VALUE_NESTING {
         Ok(value)
@@ -60,7 +53,7 @@ pub fn keep(value: Value) -> Result<Value, Stop>
 
 /// A copy of the value; no value where it nests deeper than 100.
 pub fn keep_copy(alloc: Global, value: &Value) -> Result<Value, Stop>
-    ensures { Gives json result (given (kept (json value.now))) }
+    ensures { Gives json result (finished (kept (json value.now))) }
 {
     if value.nesting() <= MAX_VALUE_NESTING {
         Ok(value.copy(alloc)?)
@@ -71,7 +64,7 @@ pub fn keep_copy(alloc: Global, value: &Value) -> Result<Value, Stop>
 
 // The value, for an access to a part of it; no value where it nests deeper than 100.
 fn own_value<'a>(value: Value) -> Result<Held<'a>, Stop>
-    ensures { Gives held_of result (plain_answer (Some (json value))) }
+    ensures { Gives held_of result (plain_told (Some (json value))) }
 {
     if value.nesting() <= MAX_VALUE_NESTING {
         Ok(Held::Owned(value))
@@ -83,7 +76,7 @@ fn own_value<'a>(value: Value) -> Result<Held<'a>, Stop>
 /// A value that was made, for an access to a part of it; no value where there is none, or where it
 /// nests deeper than 100.
 pub fn own<'a>(value: Option<Value>) -> Result<Held<'a>, Stop>
-    ensures { Gives held_of result (plain_answer (option_map json value)) }
+    ensures { Gives held_of result (plain_told (option_map json value)) }
 {
     match value {
         Some(value) => own_value(value),
@@ -94,7 +87,7 @@ pub fn own<'a>(value: Option<Value>) -> Result<Held<'a>, Stop>
 /// A value of the environment, for an access to a part of it; no value where there is none, or where
 /// it nests deeper than 100.
 pub fn lend<'a>(value: Option<&'a Value>) -> Result<Held<'a>, Stop>
-    ensures { Gives held_of result (plain_answer (option_map (λ v. json v.now) value.entry)) }
+    ensures { Gives held_of result (plain_told (option_map (λ v. json v.now) value.entry)) }
 {
     match value {
         Some(value) => if value.nesting() <= MAX_VALUE_NESTING {
@@ -150,7 +143,7 @@ pub fn part_of<'a>(value: &'a Value, index: &Value) -> Option<&'a Value>
 // A copy of a value, for an access to a part of it; no value where there is none, or where it nests
 // deeper than 100.
 fn own_copy<'a>(alloc: Global, value: Option<&Value>) -> Result<Held<'a>, Stop>
-    ensures { Gives held_of result (plain_answer (option_map (λ v. json v.now) value.entry)) }
+    ensures { Gives held_of result (plain_told (option_map (λ v. json v.now) value.entry)) }
 {
     match value {
         Some(value) => own_value(value.copy(alloc)?),
@@ -161,7 +154,7 @@ fn own_copy<'a>(alloc: Global, value: Option<&Value>) -> Result<Held<'a>, Stop>
 /// A copy of a part of a value that was made; no value where it has no such part, or where the part
 /// nests deeper than 100.
 pub fn own_part<'a>(alloc: Global, value: Value, index: &Value) -> Result<Held<'a>, Stop>
-    ensures { Gives held_of result (plain_answer (part_of (json value) (json index.now))) }
+    ensures { Gives held_of result (plain_told (part_of (json value) (json index.now))) }
 {
     let part = own_copy(alloc, part_of(&value, index));
     let_go(value);

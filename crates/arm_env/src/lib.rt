@@ -1,22 +1,24 @@
 //! What a template expression can look at, and how much of it is known.
 //!
-//! `env` has the environment of an expression, in which some entries are not known yet.
-//! `specs/Look` names the entries that can be looked at, and the surroundings of an expression,
-//! which are always known; `specs/Known` says what an environment knows of each entry. A look
-//! returns a value or a `Stop`: there is none, or an entry is needed first (`specs/Answer`).
-//! From the surroundings alone follow the indices of loops, ids, the objects of the place, and the
-//! key that a text names. The crate also has accesses to parts (`specs/Held`, `specs/Part`), and the
-//! tables of the functions that need an environment (`specs/Names`). The meaning of expressions is
-//! in the crate above, `expression_values`.
+//! `specs/Look` names the cells that an expression can look at. The trait `Entries` is what is known
+//! of them: a look returns what the cell has or a `Stop`, which says that it has none, or which cell
+//! is not known yet (`specs/Answer`). An environment, `Env`, lists what is known (`specs/Known`);
+//! other implementers keep it in their own way. The surroundings of an expression, its loops and its
+//! place, are always known: from them follow the indices of loops, ids and the objects of the place.
+//! The crate also has accesses to parts (`specs/Held`, `specs/Part`), and the tables of the functions
+//! that need more than their arguments (`specs/Names`). The meaning of expressions is in the crate
+//! above, `expression_values`.
 #![tactic(auto)]
 
+pub mod cell;
+pub mod entries;
 pub mod env;
 pub mod find;
 pub mod function;
 pub mod held;
 pub mod ids;
+mod listed;
 pub mod loops;
 pub mod objects;
 pub mod outputs;
-pub mod sight;
 pub mod stop;

@@ -1,67 +1,86 @@
 // The outputs of nested deployments.
-ghost use Rattle.std.specs.Prelude.{◌≡◌, ◌≤◌, [], true, map, option_map, is_some, IfOk};
+ghost use Rattle.std.specs.Prelude.{◌≡◌, ◌≤◌, [], true, map, option_map, IfOk};
 ghost use Rattle.std.specs.Prelude.{MatchOption, is_ok, if◌then◌else◌};
 ghost use Rattle.arm_value.specs.Json.{Json, nesting, object, pairs, put, put_each};
-ghost use Rattle.arm_value.specs.Look.{fold};
 ghost use Rattle.arm_value.specs.View.{json, member};
-ghost use Rattle.arm_env.specs.Find.{outputs_of, output_named};
-ghost use Rattle.arm_env.specs.Held.{output_value, output_member, outputs_at, all_outputs, typed};
-ghost use Rattle.arm_env.specs.Known.{declared, module_with, output_in};
-ghost use Rattle.arm_env.specs.Answer.{answered, outcome_answer, is, next, gathered, Gives, Sees};
-ghost use Rattle.arm_env.specs.Sight.{known_by, here};
+ghost use Rattle.reading.specs.Knowledge.{told, value, and_then};
+ghost use Rattle.arm_env.specs.Find.{output_named};
+ghost use Rattle.arm_env.specs.Held.{value_named, output_value, output_member, all_outputs, output_declared};
+ghost use Rattle.arm_env.specs.Held.{typed, among};
+ghost use Rattle.arm_env.specs.Answer.{outcome_told, gathered, Gives, Sees};
+ghost use Rattle.arm_env.specs.Sight.{declared_of};
 
-use crate::env::OutputAt;
+use crate::entries::{Declared, Entries};
 use crate::objects::{with_copy, with_value};
-use crate::sight::{Sight, find_module, find_output, output_value};
-use crate::stop::{Stop, lacks_memory, outcome, stopped};
+use crate::stop::{Stop, lacks_memory, let_go, outcome, stopped};
 use arm_ids::Key;
 use arm_value::{Field, Fields, OutOfMemory, Text, Value};
+use foundation::limits::MAX_VALUE_NESTING;
 use std::alloc::Global;
 
-/// Whether there is a nested deployment at the key.
-pub fn is_deployment(sight: &Sight, key: &Key) -> bool
-    ensures { result ≡ is_some (outputs_of key.now (here sight.now).deployments) }
+/// The value of the output of that name of the nested deployment at a key, whichever other outputs
+/// there are: no value where it has none, does not have it, or nests deeper than 100.
+#[tactic(auto, using(crate::proofs::Answers::answers))]
+pub fn value_named<'a, K: Entries>(
+    alloc: Global,
+    entries: &'a K,
+    key: &Key,
+    name: &Text,
+) -> Result<&'a Value, Stop>
+    ensures value { Gives (λ v. json v.now) result
+        (told (K.known entries.now) (value_named key.now name.now)) }
+    ensures nests { IfOk result (λ v. nesting (json v.now) ≤ 100) }
 {
-    match find_module(&sight.env.modules, key) {
-        Some(_nested) => true,
-        None => false,
+    let value = entries.output(alloc, key, name)?;
+    if value.nesting() <= MAX_VALUE_NESTING {
+        Ok(value)
+    } else {
+        Err(Stop::NoValue)
     }
 }
 
-/// The first output of that name of the first nested deployment at the key.
-pub fn output_named<'a>(sight: &Sight<'a>, key: &Key, name: &Text) -> Option<&'a OutputAt>
-    ensures entry { option_map (λ x. x.now) result
-        ≡ output_in (fold name.now) (module_with key.now sight.now.env.now.modules.items) }
-    ensures seen { option_map (λ x. declared x.now) result
-        ≡ output_named name.now (outputs_at (here sight.now) key.now) }
+/// The value of an output of the nested deployment at a key: no value where it has none, or nests
+/// deeper than 100.
+pub fn output_value<'a, K: Entries>(
+    alloc: Global,
+    entries: &'a K,
+    key: &Key,
+    output: &Declared,
+) -> Result<&'a Value, Stop>
+    ensures value { Gives (λ v. json v.now) result
+        (told (K.known entries.now) (output_value key.now (declared_of output.now))) }
+    ensures nests { IfOk result (λ v. nesting (json v.now) ≤ 100) }
 {
-    match find_module(&sight.env.modules, key) {
-        Some(nested) => find_output(&nested.outputs, name),
-        None => None,
-    }
+    value_named(alloc, entries, key, output.name)
 }
 
 // The value of an output, or that it has none.
-fn output_outcome<'a>(
-    sight: &Sight<'a>,
+fn output_outcome<'a, K: Entries>(
+    alloc: Global,
+    entries: &'a K,
     key: &Key,
-    output: &OutputAt,
+    output: &Declared,
 ) -> Result<Option<&'a Value>, Stop>
     ensures { Gives (option_map (λ v. json v.now)) result
-        (outcome_answer (answered (known_by sight.now)
-        (output_value key.now (declared output.now)))) }
+        (outcome_told (told (K.known entries.now)
+        (output_value key.now (declared_of output.now)))) }
 {
-    outcome(output_value(sight, key, output))
+    outcome(output_value(alloc, entries, key, output))
 }
 
 // Whether each of these outputs has a value.
-fn look_at_each(sight: &Sight, key: &Key, outputs: &[OutputAt]) -> Result<(), Stop>
-    ensures { Gives (λ _. true) result (gathered (λ _. true) (known_by sight.now)
-        (map (λ x. output_member key.now (declared x)) outputs.now)) }
+fn look_at_each<K: Entries>(
+    alloc: Global,
+    entries: &K,
+    key: &Key,
+    outputs: &[Declared],
+) -> Result<(), Stop>
+    ensures { Gives (λ _. true) result (gathered (λ _. true) (K.known entries.now)
+        (map (λ x. output_member key.now (declared_of x)) outputs.now)) }
 {
     let mut complete = true;
     for output in outputs {
-        match output_outcome(sight, key, output)? {
+        match output_outcome(alloc, entries, key, output)? {
             Some(_value) => {}
             None => complete = false,
         }
@@ -70,20 +89,20 @@ fn look_at_each(sight: &Sight, key: &Key, outputs: &[OutputAt]) -> Result<(), St
 }
 
 // The type of an output and a value.
-fn typed_fields(alloc: Global, output: &OutputAt, value: Value) -> Result<Fields, OutOfMemory>
+fn typed_fields(alloc: Global, output: &Declared, value: Value) -> Result<Fields, OutOfMemory>
     requires { nesting (json value) ≤ 119 }
-    ensures { IfOk result (λ f. object (pairs f) ≡ typed (declared output.now) (json value)) }
+    ensures { IfOk result (λ f. object (pairs f) ≡ typed (declared_of output.now) (json value)) }
 {
-    match with_copy(alloc, Fields::new(), "type", &output.kind) {
+    match with_copy(alloc, Fields::new(), "type", output.kind) {
         Ok(fields) => with_value(alloc, fields, "value", value),
         Err(_) => lacks_memory(value),
     }
 }
 
 /// An output as `reference` shows it: its type and the value, which nests at most 119.
-pub fn typed(alloc: Global, output: &OutputAt, value: &Value) -> Result<Value, OutOfMemory>
+pub fn typed(alloc: Global, output: &Declared, value: &Value) -> Result<Value, OutOfMemory>
     requires { nesting (json value.now) ≤ 119 }
-    ensures { IfOk result (λ v. json v ≡ typed (declared output.now) (json value.now)) }
+    ensures { IfOk result (λ v. json v ≡ typed (declared_of output.now) (json value.now)) }
 {
     let value = value.copy(alloc)?;
     let fields = typed_fields(alloc, output, value)?;
@@ -101,19 +120,19 @@ fn put_field(alloc: Global, fields: &mut Fields, field: Field) -> Result<(), Out
 }
 
 // The outputs as `reference` shows them.
-fn output_fields(
+fn output_fields<K: Entries>(
     alloc: Global,
-    sight: &Sight,
+    entries: &K,
     key: &Key,
-    outputs: &[OutputAt],
+    outputs: &[Declared],
 ) -> Result<Fields, Stop>
-    ensures { Gives (λ f. f) result (gathered (put_each []) (known_by sight.now)
-        (map (λ x. output_member key.now (declared x)) outputs.now)) }
+    ensures { Gives (λ f. f) result (gathered (put_each []) (K.known entries.now)
+        (map (λ x. output_member key.now (declared_of x)) outputs.now)) }
 {
     let mut complete = true;
     let mut fields = Fields::new();
     for output in outputs {
-        match member_outcome(alloc, sight, key, output)? {
+        match member_outcome(alloc, entries, key, output)? {
             Some(member) => put_field(alloc, &mut fields, member)?,
             None => complete = false,
         }
@@ -127,52 +146,103 @@ fn output_fields(
 
 // The name and the value of an output, or that it has none.
 #[tactic(auto, using(crate::proofs::Answers::answers))]
-fn member_outcome(
+fn member_outcome<K: Entries>(
     alloc: Global,
-    sight: &Sight,
+    entries: &K,
     key: &Key,
-    output: &OutputAt,
+    output: &Declared,
 ) -> Result<Option<Field>, Stop>
     ensures value { Gives (option_map member) result
-        (outcome_answer (answered (known_by sight.now)
-        (output_member key.now (declared output.now)))) }
+        (outcome_told (told (K.known entries.now)
+        (output_member key.now (declared_of output.now)))) }
     ensures nests { IfOk result
         (λ o. MatchOption o (Unit {0}) (λ f. nesting (json f.value) ≤ 119)) }
 {
-    match output_value(sight, key, output) {
+    match output_value(alloc, entries, key, output) {
         Ok(value) => Ok(Some(Field {
             name: output.name.copy(alloc)?,
             value: typed(alloc, output, value)?,
         })),
         Err(Stop::NoValue) => Ok(None),
-        Err(Stop::Needs(key)) => Err(Stop::Needs(key)),
-        Err(Stop::Late) => Err(Stop::Late),
+        Err(Stop::Waits(cell)) => Err(Stop::Waits(cell)),
         Err(Stop::OutOfMemory) => Err(Stop::OutOfMemory),
     }
 }
 
-/// Looks at each output of the nested deployment at a key: `Late` where one of them is not known
-/// yet, else no value where one of them has none or nests deeper than 100. There is nothing to look
-/// at where there is no such deployment.
-pub fn look_at_outputs(sight: &Sight, key: &Key) -> Result<(), Stop>
-    ensures { Sees result (answered (known_by sight.now) (all_outputs (here sight.now) key.now)) }
+/// Looks at each output of the nested deployment at a key: waits for the first that is not known
+/// yet, else no value where one of them has none or nests deeper than 100.
+#[tactic(auto, using(crate::proofs::Answers::answers))]
+pub fn look_at_outputs<K: Entries>(alloc: Global, entries: &K, key: &Key) -> Result<(), Stop>
+    ensures { Sees result (told (K.known entries.now) (all_outputs key.now)) }
 {
-    match find_module(&sight.env.modules, key) {
-        Some(module) => look_at_each(sight, key, &module.outputs),
-        None => Ok(()),
+    let outputs = entries.outputs(alloc, key)?;
+    let looked = look_at_each(alloc, entries, key, outputs.as_slice());
+    let_go(outputs);
+    looked
+}
+
+/// The outputs of the nested deployment at a key as `reference` shows them, by their names: waits
+/// for the first that is not known yet, else no value where one of them has none or nests deeper
+/// than 100.
+#[tactic(auto, using(crate::proofs::Answers::answers))]
+pub fn fields_at<K: Entries>(alloc: Global, entries: &K, key: &Key) -> Result<Fields, Stop>
+    ensures { Gives (λ f. f) result
+        (and_then (told (K.known entries.now) (all_outputs key.now))
+        (λ ms. value (put_each [] ms))) }
+{
+    let outputs = entries.outputs(alloc, key)?;
+    let fields = output_fields(alloc, entries, key, outputs.as_slice());
+    let_go(outputs);
+    fields
+}
+
+// The first output of the name.
+fn find_declared<'a>(outputs: &[Declared<'a>], name: &Text) -> Option<Declared<'a>>
+    ensures { option_map declared_of result ≡ output_named name.now (map declared_of outputs.now) }
+{
+    for output in outputs {
+        if output.name.equals_ignore_case(name.as_str()) {
+            return Some(Declared {
+                name: output.name,
+                kind: output.kind,
+            });
+        }
+    }
+    None
+}
+
+// The first output of the name, where all have values.
+fn declared_among<'a, K: Entries>(
+    alloc: Global,
+    entries: &'a K,
+    key: &Key,
+    name: &Text,
+    outputs: &[Declared<'a>],
+) -> Result<Declared<'a>, Stop>
+    ensures { Gives declared_of result (told (K.known entries.now)
+        (among (record { key = key.now; name = name.now }) (map declared_of outputs.now))) }
+{
+    look_at_each(alloc, entries, key, outputs)?;
+    match find_declared(outputs, name) {
+        Some(output) => Ok(output),
+        None => Err(Stop::NoValue),
     }
 }
 
-/// The outputs of the nested deployment at a key as `reference` shows them, by their names: `Late`
-/// where one of them is not known yet, else no value where one of them has none or nests deeper
-/// than 100. Where there is no such deployment they are none.
-pub fn fields_at(alloc: Global, sight: &Sight, key: &Key) -> Result<Fields, Stop>
-    ensures { Gives (λ f. f) result
-        (next (answered (known_by sight.now) (all_outputs (here sight.now) key.now))
-        (λ ms. is (put_each [] ms))) }
+/// The output of that name of the nested deployment at a key as it is declared, after a look at all
+/// its outputs.
+#[tactic(auto, using(crate::proofs::Answers::answers))]
+pub fn output_declared<'a, K: Entries>(
+    alloc: Global,
+    entries: &'a K,
+    key: &Key,
+    name: &Text,
+) -> Result<Declared<'a>, Stop>
+    ensures { Gives declared_of result (told (K.known entries.now)
+        (output_declared (record { key = key.now; name = name.now }))) }
 {
-    match find_module(&sight.env.modules, key) {
-        Some(module) => output_fields(alloc, sight, key, &module.outputs),
-        None => Ok(Fields::new()),
-    }
+    let outputs = entries.outputs(alloc, key)?;
+    let output = declared_among(alloc, entries, key, name, outputs.as_slice());
+    let_go(outputs);
+    output
 }

@@ -3,7 +3,7 @@ ghost use Rattle.std.specs.Prelude.{◌≡◌, Err, IsErr};
 ghost use Rattle.arm_env.specs.Answer.{outcome_of};
 ghost use Rattle.arm_env.specs.declared.stop.Stop.TheVariants.{OutOfMemory};
 
-use arm_ids::Key;
+use crate::cell::Cell;
 use std::alloc::AllocError;
 
 /// Why there is no value.
@@ -11,10 +11,8 @@ use std::alloc::AllocError;
 pub enum Stop {
     /// There is none.
     NoValue,
-    /// The state at the key is needed first.
-    Needs(Key),
-    /// A parameter, a variable or an output is needed first.
-    Late,
+    /// The cell is looked at first of what is not known yet.
+    Waits(Cell),
     /// A copy could not be made.
     OutOfMemory,
 }
@@ -34,8 +32,7 @@ pub fn outcome<T: Drop>(found: Result<T, Stop>) -> Result<Option<T>, Stop>
     match found {
         Ok(value) => Ok(Some(value)),
         Err(Stop::NoValue) => Ok(None),
-        Err(Stop::Needs(key)) => Err(Stop::Needs(key)),
-        Err(Stop::Late) => Err(Stop::Late),
+        Err(Stop::Waits(cell)) => Err(Stop::Waits(cell)),
         Err(Stop::OutOfMemory) => Err(Stop::OutOfMemory),
     }
 }

@@ -8,3 +8,6 @@ pub mod NestLemmas
 pub mod RoundLemmas
 pub mod NameLemmas
 pub mod PutLemmas
+mod OutputLemmas
+mod TitleLemmas
+mod CellLemmas

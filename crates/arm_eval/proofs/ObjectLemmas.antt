@@ -1,21 +1,23 @@
 -- Arrays and objects of trees, part by part.
+use Rattle.reading.specs.Knowledge as knowledge
+use Rattle.reading.specs.Knowledge.{told, finished, and_then, both_told}
 use Rattle.std.proofs.Common.{◌≡◌, ℕ, zero, suc, List, [], ◌∷◌, ◌++◌, map, Bool, true, false, Option, Some, None}
 use Rattle.std.proofs.Common.{option_map, refl, sym, ap, ◌∙◌, subst, add-one}
 use Rattle.std.proofs.lemmas.List.{append_assoc, append-nil}
 use Rattle.std.specs.Prelude.{if◌then◌else◌, ◌&&◌, option_and_then}
 use Rattle.std.specs.List.{range_with_len}
-use Rattle.arm_value.specs.Json.{Json, null, bool, int, text, array, object, Row, no_items, item, items, row, pairs}
+use Rattle.arm_value.specs.Json.{Json, null, bool, int, text, array, object, row, pairs}
 use Rattle.arm_value.specs.Json.{Member, put_each, put, pair_keys}
 use Rattle.arm_value.specs.View.{json, member}
 use Rattle.arm_value.specs.declared.value.Value.{Value}
 use Rattle.arm_value.specs.declared.value.Field.{Field}
 use Rattle.reading.specs.Reading.{done, pure, none, continued, both}
 use Rattle.reading.specs.Knowledge.{Known}
-use Rattle.arm_env.specs.Look.{Look, Looking, Surroundings}
+use Rattle.arm_env.specs.Look.{Look, Fact, Looking, Surroundings}
 use Rattle.arm_env.specs.Part.{kept}
 use Rattle.arm_env.specs.Held.{capped}
 use Rattle.arm_env.specs.Look.{all}
-use Rattle.arm_env.specs.Answer.{Answer, is, is_none, needs, is_late, answered, next, given, outcome_answer, gathered}
+use Rattle.arm_env.specs.Answer.{outcome_told, gathered}
 use Rattle.arm_env.specs.Answer.{Stops}
 use Rattle.arm_env.specs.declared.stop.Stop.{Stop}
 use Rattle.arm_env.specs.declared.stop.Stop.TheVariants as stop
@@ -24,7 +26,7 @@ use Rattle.arm_eval.specs.Trees.{copies, row_copies, copied, copy_in, turns, cou
 use Rattle.arm_eval.specs.Trees.{names_of, are_new, differ, object_by}
 use Rattle.arm_eval.specs.Words.{values_of, owns_of, copies_of, put_all, kept_array, kept_object, whole_object}
 use Rattle.arm_eval.specs.Words.{trees_in, copy_tree}
-use Rattle.arm_env.proofs.Answers.{both_answers, answered-done, answered-continued, answered-both, answered-capped}
+use Rattle.arm_env.proofs.Answers.{told-done, told-continued, told-both, told-capped}
 use Rattle.arm_env.proofs.Answers.{stops}
 use Rattle.arm_eval.proofs.TurnLemmas.{turn_at, array_given, array_stops}
 use Rattle.arm_env.proofs.Turns.{given_in}
@@ -78,50 +80,45 @@ put_all-more mss ms = ap (put_each []) (concat-more mss ms) ∙ put_each-append 
 abbrev one_member : List ℕ → Json → List Member
 one_member k v = (k, v) ∷ []
 
-module _ (p : Look → Known Json) where
+module _ (p : Look → Known Fact) where
   pub own_copy : (k : List ℕ) (o : Looking Json) → is_copy k ≡ true
-      → outcome_answer (answered p (own_member k o)) ≡ is (Some [])
+      → outcome_told (told p (own_member k o)) ≡ knowledge.value (Some [])
   own_copy k o e =
-      ap (λ b. outcome_answer (answered p (if b then pure [] else continued o (λ v. pure (one_member k v))))) e
-      ∙ ap outcome_answer (answered-done p (Some []))
+      ap (λ b. outcome_told (told p (if b then pure [] else continued o (λ v. pure (one_member k v))))) e
+      ∙ ap outcome_told (told-done p (Some []))
 
   own_is : (k : List ℕ) (o : Looking Json) → is_copy k ≡ false
-      → answered p (own_member k o) ≡ next (answered p o) (λ v. answered p (pure (one_member k v)))
-  own_is k o e = ap (λ b. answered p (if b then pure [] else continued o (λ v. pure (one_member k v)))) e
-      ∙ answered-continued p o (λ v. pure (one_member k v))
+      → told p (own_member k o) ≡ and_then (told p o) (λ v. told p (pure (one_member k v)))
+  own_is k o e = ap (λ b. told p (if b then pure [] else continued o (λ v. pure (one_member k v)))) e
+      ∙ told-continued p o (λ v. pure (one_member k v))
 
   own_next : (k : List ℕ) (a : Option Json)
-      → outcome_answer (next (given a) (λ v. answered p (pure (one_member k v)))) ≡ is (option_map (one_member k) a)
-  own_next k (Some v) = ap outcome_answer (answered-done p (Some (one_member k v)))
+      → outcome_told (and_then (finished a) (λ v. told p (pure (one_member k v))))
+      ≡ knowledge.value (option_map (one_member k) a)
+  own_next k (Some v) = ap outcome_told (told-done p (Some (one_member k v)))
   own_next k None = refl
 
   pub own_told : (k : List ℕ) (o : Looking Json) (a : Option Json) → is_copy k ≡ false
-      → outcome_answer (answered p o) ≡ is a
-      → outcome_answer (answered p (own_member k o)) ≡ is (option_map (one_member k) a)
+      → outcome_told (told p o) ≡ knowledge.value a
+      → outcome_told (told p (own_member k o)) ≡ knowledge.value (option_map (one_member k) a)
   own_told k o a e found =
-      ap outcome_answer (own_is k o e
-      ∙ ap (λ t. next t (λ v. answered p (pure (one_member k v)))) (given_in (answered p o) a found)) ∙ own_next k a
+      ap outcome_told (own_is k o e
+      ∙ ap (λ t. and_then t (λ v. told p (pure (one_member k v)))) (given_in (told p o) a found)) ∙ own_next k a
 
-  own_halts : (s : Stop) (k : List ℕ) (t : Answer Json) → Stops s (outcome_answer t)
-      → Stops s (outcome_answer (next t (λ v. answered p (pure (one_member k v)))))
-  own_halts stop.NoValue k (is x) h = absurd cc
-  own_halts stop.NoValue k is_none h = absurd cc
-  own_halts stop.NoValue k (needs l) h = absurd cc
-  own_halts stop.NoValue k is_late h = absurd cc
-  own_halts (stop.Needs l) k (is x) h = absurd cc
-  own_halts (stop.Needs l) k is_none h = absurd cc
-  own_halts (stop.Needs l) k (needs m) h = cc
-  own_halts (stop.Needs l) k is_late h = absurd cc
-  own_halts stop.Late k (is x) h = absurd cc
-  own_halts stop.Late k is_none h = absurd cc
-  own_halts stop.Late k (needs m) h = absurd cc
-  own_halts stop.Late k is_late h = refl
+  own_halts : (s : Stop) (k : List ℕ) (t : knowledge.Told Look Json) → Stops s (outcome_told t)
+      → Stops s (outcome_told (and_then t (λ v. told p (pure (one_member k v)))))
+  own_halts stop.NoValue k (knowledge.value x) h = absurd cc
+  own_halts stop.NoValue k knowledge.no_value h = absurd cc
+  own_halts stop.NoValue k (knowledge.waits l) h = absurd cc
+  own_halts (stop.Waits l) k (knowledge.value x) h = absurd cc
+  own_halts (stop.Waits l) k knowledge.no_value h = absurd cc
+  own_halts (stop.Waits l) k (knowledge.waits m) h = cc
   own_halts stop.OutOfMemory k t h = tt
 
   pub own_stops : (s : Stop) (k : List ℕ) (o : Looking Json) → is_copy k ≡ false
-      → Stops s (outcome_answer (answered p o)) → Stops s (outcome_answer (answered p (own_member k o)))
-  own_stops s k o e h = let P : Answer (List Member) → Type 0 = λ t. Stops s (outcome_answer t) in
-      subst P (sym (own_is k o e)) (own_halts s k (answered p o) h)
+      → Stops s (outcome_told (told p o)) → Stops s (outcome_told (told p (own_member k o)))
+  own_stops s k o e h = let P : knowledge.Told Look (List Member) → Type 0 = λ t. Stops s (outcome_told t) in
+      subst P (sym (own_is k o e)) (own_halts s k (told p o) h)
 
 -- ---- the members that `copy` gives
 
@@ -143,9 +140,9 @@ pub given_is : (here : Surroundings) (ms : List Member) (j : Json) → Some j �
     → given_members (pairs ms) here ≡ copies j here
 given_is here ms j e = given_by here ms ∙ ap (by_copy here) (sym e)
 
-pub nothing_given : (p : Look → Known Json) (here : Surroundings) (ms : List Member) → None ≡ copy_tree ms
-    → answered p (given_members (pairs ms) here) ≡ is []
-nothing_given p here ms e = ap (answered p) (given_by here ms ∙ ap (by_copy here) (sym e)) ∙ answered-done p (Some [])
+pub nothing_given : (p : Look → Known Fact) (here : Surroundings) (ms : List Member) → None ≡ copy_tree ms
+    → told p (given_members (pairs ms) here) ≡ knowledge.value []
+nothing_given p here ms e = ap (told p) (given_by here ms ∙ ap (by_copy here) (sym e)) ∙ told-done p (Some [])
 
 abbrev by_trees : Surroundings → Option (List Json) → Looking (List Member)
 by_trees here None = none
@@ -163,9 +160,9 @@ pub copies_are : (here : Surroundings) (j : Json) (vs : List Value) → Some (ma
     → copies j here ≡ all (copies_of here vs)
 copies_are here j vs e = copies_by here j ∙ ap (by_trees here) (sym e) ∙ ap all (copies_given here vs)
 
-pub no_copies : (p : Look → Known Json) (here : Surroundings) (j : Json) → None ≡ trees_in j
-    → answered p (copies j here) ≡ is_none
-no_copies p here j e = ap (answered p) (copies_by here j ∙ ap (by_trees here) (sym e)) ∙ answered-done p None
+pub no_copies : (p : Look → Known Fact) (here : Surroundings) (j : Json) → None ≡ trees_in j
+    → told p (copies j here) ≡ knowledge.no_value
+no_copies p here j e = ap (told p) (copies_by here j ∙ ap (by_trees here) (sym e)) ∙ told-done p None
 
 -- ---- the member that a loop gives
 
@@ -179,84 +176,73 @@ turns_are c here n = turns-from c here 0 n
 abbrev named : List ℕ → Json → Member
 named k v = (k, v)
 
-module _ (p : Look → Known Json) where
+module _ (p : Look → Known Fact) where
   named_next : (k : List ℕ) (o : Option Json)
-      → next (given o) (λ v. answered p (pure (named k v))) ≡ given (option_map (named k) o)
-  named_next k (Some v) = answered-done p (Some (named k v))
+      → and_then (finished o) (λ v. told p (pure (named k v))) ≡ finished (option_map (named k) o)
+  named_next k (Some v) = told-done p (Some (named k v))
   named_next k None = refl
 
   pub counted_given : (c : Copy) (here : Surroundings) (n : ℕ) (o : Option (List Json))
-      → outcome_answer (gathered (λ vs. vs) p (turns c here 0 n)) ≡ is o
-      → answered p (counted c here n) ≡ given (option_map (named c.name) (kept_array o))
+      → outcome_told (gathered (λ vs. vs) p (turns c here 0 n)) ≡ knowledge.value o
+      → told p (counted c here n) ≡ finished (option_map (named c.name) (kept_array o))
   counted_given c here n o e =
-      answered-continued p (array_of (turns c here 0 n)) (λ v. pure (named c.name v))
-      ∙ ap (λ t. next t (λ v. answered p (pure (named c.name v)))) (array_given p (turns c here 0 n) o e)
+      told-continued p (array_of (turns c here 0 n)) (λ v. pure (named c.name v))
+      ∙ ap (λ t. and_then t (λ v. told p (pure (named c.name v)))) (array_given p (turns c here 0 n) o e)
       ∙ named_next c.name (kept_array o)
 
   pub counted_stops : (s : Stop) (c : Copy) (here : Surroundings) (n : ℕ)
-      → Stops s (outcome_answer (gathered (λ vs. vs) p (turns c here 0 n))) → Stops s (answered p (counted c here n))
+      → Stops s (outcome_told (gathered (λ vs. vs) p (turns c here 0 n))) → Stops s (told p (counted c here n))
   counted_stops s c here n h = stops s p (array_of (turns c here 0 n)) _ (array_stops p s (turns c here 0 n) h)
 
 -- ---- an object
 
-first_stops : {A B : Type 0} (s : Stop) (t : Answer A) (u : Answer B) → Stops s (outcome_answer t)
-    → Stops s (both_answers t u)
-first_stops stop.NoValue (is x) u h = absurd cc
-first_stops stop.NoValue is_none u h = absurd cc
-first_stops stop.NoValue (needs k) u h = absurd cc
-first_stops stop.NoValue is_late u h = absurd cc
-first_stops (stop.Needs l) (is x) u h = absurd cc
-first_stops (stop.Needs l) is_none u h = absurd cc
-first_stops (stop.Needs l) (needs k) u h = cc
-first_stops (stop.Needs l) is_late u h = absurd cc
-first_stops stop.Late (is x) u h = absurd cc
-first_stops stop.Late is_none u h = absurd cc
-first_stops stop.Late (needs k) u h = absurd cc
-first_stops stop.Late is_late u h = refl
+first_stops : {A B : Type 0} (s : Stop) (t : knowledge.Told Look A) (u : knowledge.Told Look B)
+    → Stops s (outcome_told t)
+    → Stops s (both_told t u)
+first_stops stop.NoValue (knowledge.value x) u h = absurd cc
+first_stops stop.NoValue knowledge.no_value u h = absurd cc
+first_stops stop.NoValue (knowledge.waits k) u h = absurd cc
+first_stops (stop.Waits l) (knowledge.value x) u h = absurd cc
+first_stops (stop.Waits l) knowledge.no_value u h = absurd cc
+first_stops (stop.Waits l) (knowledge.waits k) u h = cc
 first_stops stop.OutOfMemory t u h = tt
 
-second_stops : {A B : Type 0} (s : Stop) (o : Option A) (u : Answer B) → Stops s u → Stops s (both_answers (given o) u)
-second_stops stop.NoValue (Some x) (is y) h = absurd cc
-second_stops stop.NoValue (Some x) is_none h = refl
-second_stops stop.NoValue (Some x) (needs k) h = absurd cc
-second_stops stop.NoValue (Some x) is_late h = absurd cc
-second_stops stop.NoValue None (is y) h = absurd cc
-second_stops stop.NoValue None is_none h = refl
-second_stops stop.NoValue None (needs k) h = absurd cc
-second_stops stop.NoValue None is_late h = absurd cc
-second_stops (stop.Needs l) o (is y) h = absurd cc
-second_stops (stop.Needs l) o is_none h = absurd cc
-second_stops (stop.Needs l) (Some x) (needs k) h = cc
-second_stops (stop.Needs l) None (needs k) h = cc
-second_stops (stop.Needs l) o is_late h = absurd cc
-second_stops stop.Late o (is y) h = absurd cc
-second_stops stop.Late o is_none h = absurd cc
-second_stops stop.Late o (needs k) h = absurd cc
-second_stops stop.Late (Some x) is_late h = refl
-second_stops stop.Late None is_late h = refl
+second_stops : {A B : Type 0} (s : Stop) (o : Option A) (u : knowledge.Told Look B) → Stops s u
+    → Stops s (both_told (finished o) u)
+second_stops stop.NoValue (Some x) (knowledge.value y) h = absurd cc
+second_stops stop.NoValue (Some x) knowledge.no_value h = refl
+second_stops stop.NoValue (Some x) (knowledge.waits k) h = absurd cc
+second_stops stop.NoValue None (knowledge.value y) h = absurd cc
+second_stops stop.NoValue None knowledge.no_value h = refl
+second_stops stop.NoValue None (knowledge.waits k) h = absurd cc
+second_stops (stop.Waits l) o (knowledge.value y) h = absurd cc
+second_stops (stop.Waits l) o knowledge.no_value h = absurd cc
+second_stops (stop.Waits l) (Some x) (knowledge.waits k) h = cc
+second_stops (stop.Waits l) None (knowledge.waits k) h = cc
 second_stops stop.OutOfMemory o u h = tt
 
-module _ (p : Look → Known Json) (names : List (List ℕ)) where
+module _ (p : Look → Known Fact) (names : List (List ℕ)) where
   -- before the members are put in their order
   abbrev whole : Option (List (List Member)) → List Member → Option Json
   whole None gs = None
   whole (Some mss) gs = option_and_then kept (joined names (concat mss) gs)
 
-  all_of : (own : Option (List Member)) (t : Answer (List (List Member)))
-      → outcome_answer (next t (λ mss. is (put_all mss))) ≡ is own
-      → (o : Option (List (List Member))) × ((t ≡ given o) × (option_map put_all o ≡ own))
-  all_of own (is mss) h = (Some mss, (refl, cc))
-  all_of own is_none h = (None, (refl, cc))
-  all_of own (needs k) h = absurd cc
-  all_of own is_late h = absurd cc
+  all_of : (own : Option (List Member)) (t : knowledge.Told Look (List (List Member)))
+      → outcome_told (and_then t (λ mss. knowledge.value (put_all mss))) ≡ knowledge.value own
+      → (o : Option (List (List Member))) × ((t ≡ finished o) × (option_map put_all o ≡ own))
+  all_of own (knowledge.value mss) h = (Some mss, (refl, cc))
+  all_of own knowledge.no_value h = (None, (refl, cc))
+  all_of own (knowledge.waits k) h = absurd cc
 
-  kept_done : (o : Option Json) → next (answered p (done o)) (λ j. given (kept j)) ≡ given (option_and_then kept o)
-  kept_done (Some j) = ap (λ t. next t (λ j. given (kept j))) (answered-done p (Some j))
-  kept_done None = ap (λ t. next t (λ j. given (kept j))) (answered-done p None)
+  kept_done : (o : Option Json) → and_then (told p (done o)) (λ j. finished (kept j))
+      ≡ finished (option_and_then kept o)
+  kept_done (Some j) = ap (λ t. and_then t (λ j. finished (kept j))) (told-done p (Some j))
+  kept_done None = ap (λ t. and_then t (λ j. finished (kept j))) (told-done p None)
 
   joined_next : (o : Option (List (List Member))) (gs : List Member)
-      → next (next (both_answers (given o) (is gs)) (λ q. answered p (done (joined names (concat q.0) q.1))))
-      (λ j. given (kept j)) ≡ given (whole o gs)
+      → and_then (and_then (both_told (finished o) (knowledge.value gs)) (λ q. told p (done (joined names
+      (concat q.0) q.1))))
+      (λ j. finished (kept j)) ≡ finished (whole o gs)
   joined_next (Some mss) gs = kept_done (joined names (concat mss) gs)
   joined_next None gs = refl
 
@@ -272,58 +258,52 @@ module _ (p : Look → Known Json) (names : List (List ℕ)) where
   whole_is None gs = refl
 
   object_answer : (os : List (Looking (List Member))) (r : Looking (List Member))
-      → answered p (object_by names os r)
-      ≡ next
-      (next (both_answers (answered p (all os)) (answered p r))
-      (λ q. answered p (done (joined names (concat q.0) q.1)))) (λ j. given (kept j))
+      → told p (object_by names os r)
+      ≡ and_then
+      (and_then (both_told (told p (all os)) (told p r))
+      (λ q. told p (done (joined names (concat q.0) q.1)))) (λ j. finished (kept j))
   object_answer os r =
-      answered-capped p _ ∙ ap (λ t. next t (λ j. given (kept j))) (answered-continued p (both (all os) r) _
-      ∙ ap (λ t. next t (λ q. answered p (done (joined names (concat q.0) q.1)))) (answered-both p (all os) r))
+      told-capped p _ ∙ ap (λ t. and_then t (λ j. finished (kept j))) (told-continued p (both (all os) r) _
+      ∙ ap (λ t. and_then t (λ q. told p (done (joined names (concat q.0) q.1)))) (told-both p (all os) r))
 
   pub object_told : (os : List (Looking (List Member))) (r : Looking (List Member)) (own : Option (List Member))
-      (gs : List Member) → outcome_answer (gathered put_all p os) ≡ is own → answered p r ≡ is gs
-      → answered p (object_by names os r) ≡ given (whole_object names own gs)
+      (gs : List Member) → outcome_told (gathered put_all p os) ≡ knowledge.value own → told p r ≡ knowledge.value gs
+      → told p (object_by names os r) ≡ finished (whole_object names own gs)
   object_told os r own gs e found =
-      let o = all_of own (answered p (all os)) e in
+      let o = all_of own (told p (all os)) e in
       object_answer os r
-      ∙ (λ i. next
-      (next (both_answers (o.1.0 i) (found i)) (λ q. answered p (done (joined names (concat q.0) q.1))))
-      (λ j. given (kept j)))
-      ∙ joined_next o.0 gs ∙ ap given (whole_is o.0 gs ∙ ap (λ own. whole_object names own gs) o.1.1)
+      ∙ (λ i. and_then
+      (and_then (both_told (o.1.0 i) (found i)) (λ q. told p (done (joined names (concat q.0) q.1))))
+      (λ j. finished (kept j)))
+      ∙ joined_next o.0 gs ∙ ap finished (whole_is o.0 gs ∙ ap (λ own. whole_object names own gs) o.1.1)
 
-  gathered_stops : (s : Stop) (t : Answer (List (List Member)))
-      → Stops s (outcome_answer (next t (λ mss. is (put_all mss)))) → Stops s (outcome_answer t)
-  gathered_stops stop.NoValue (is x) h = absurd cc
-  gathered_stops stop.NoValue is_none h = absurd cc
-  gathered_stops stop.NoValue (needs k) h = absurd cc
-  gathered_stops stop.NoValue is_late h = absurd cc
-  gathered_stops (stop.Needs l) (is x) h = absurd cc
-  gathered_stops (stop.Needs l) is_none h = absurd cc
-  gathered_stops (stop.Needs l) (needs k) h = cc
-  gathered_stops (stop.Needs l) is_late h = absurd cc
-  gathered_stops stop.Late (is x) h = absurd cc
-  gathered_stops stop.Late is_none h = absurd cc
-  gathered_stops stop.Late (needs k) h = absurd cc
-  gathered_stops stop.Late is_late h = refl
+  gathered_stops : (s : Stop) (t : knowledge.Told Look (List (List Member)))
+      → Stops s (outcome_told (and_then t (λ mss. knowledge.value (put_all mss)))) → Stops s (outcome_told t)
+  gathered_stops stop.NoValue (knowledge.value x) h = absurd cc
+  gathered_stops stop.NoValue knowledge.no_value h = absurd cc
+  gathered_stops stop.NoValue (knowledge.waits k) h = absurd cc
+  gathered_stops (stop.Waits l) (knowledge.value x) h = absurd cc
+  gathered_stops (stop.Waits l) knowledge.no_value h = absurd cc
+  gathered_stops (stop.Waits l) (knowledge.waits k) h = cc
   gathered_stops stop.OutOfMemory t h = tt
 
   both_stop : (s : Stop) (os : List (Looking (List Member))) (r : Looking (List Member))
-      → Stops s (both_answers (answered p (all os)) (answered p r)) → Stops s (answered p (object_by names os r))
+      → Stops s (both_told (told p (all os)) (told p r)) → Stops s (told p (object_by names os r))
   unfolding capped
   both_stop s os r h =
-      let P : Answer (List (List Member) × List Member) → Type 0 = Stops s in
+      let P : knowledge.Told Look (List (List Member) × List Member) → Type 0 = Stops s in
       stops s p (continued (both (all os) r) _) _
-      (stops s p (both (all os) r) _ (subst P (sym (answered-both p (all os) r)) h))
+      (stops s p (both (all os) r) _ (subst P (sym (told-both p (all os) r)) h))
 
   pub own_stops_object : (s : Stop) (os : List (Looking (List Member))) (r : Looking (List Member))
-      → Stops s (outcome_answer (gathered put_all p os)) → Stops s (answered p (object_by names os r))
+      → Stops s (outcome_told (gathered put_all p os)) → Stops s (told p (object_by names os r))
   own_stops_object s os r h =
-      both_stop s os r (first_stops s (answered p (all os)) (answered p r) (gathered_stops s (answered p (all os)) h))
+      both_stop s os r (first_stops s (told p (all os)) (told p r) (gathered_stops s (told p (all os)) h))
 
   pub given_stops_object : (s : Stop) (os : List (Looking (List Member))) (r : Looking (List Member))
-      (own : Option (List Member)) → outcome_answer (gathered put_all p os) ≡ is own → Stops s (answered p r)
-      → Stops s (answered p (object_by names os r))
+      (own : Option (List Member)) → outcome_told (gathered put_all p os) ≡ knowledge.value own → Stops s (told p r)
+      → Stops s (told p (object_by names os r))
   given_stops_object s os r own e h =
-      let o = all_of own (answered p (all os)) e in
-      let P : Answer (List (List Member)) → Type 0 = λ t. Stops s (both_answers t (answered p r)) in
-      both_stop s os r (subst P (sym o.1.0) (second_stops s o.0 (answered p r) h))
+      let o = all_of own (told p (all os)) e in
+      let P : knowledge.Told Look (List (List Member)) → Type 0 = λ t. Stops s (both_told t (told p r)) in
+      both_stop s os r (subst P (sym o.1.0) (second_stops s o.0 (told p r) h))

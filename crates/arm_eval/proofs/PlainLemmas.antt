@@ -14,7 +14,7 @@ use Rattle.arm_value.specs.Json.{nesting, row_nesting, pairs_nesting, IsInOrder,
 use Rattle.arm_value.specs.Json.{PairsAreOrderly}
 use Rattle.reading.specs.Reading.{pure, done, continued, both, beside}
 use Rattle.reading.specs.World.{value_in, reads_in}
-use Rattle.arm_env.specs.Look.{Look, Looking, Surroundings, all}
+use Rattle.arm_env.specs.Look.{Look, Fact, Looking, Surroundings, all}
 use Rattle.arm_env.specs.Held.{capped}
 use Rattle.arm_env.specs.Object.{object_of}
 use Rattle.arm_expr.specs.Brackets.{plain, is_bracketed, meaning as text_meaning, meaning_in_brackets}
@@ -146,11 +146,11 @@ mutual
       λ i. own-sure k j (tree_value j here) h.0 (itself here j h.1.0 o.0 (omega arith)) i
       ∷ members_themselves here ms h.1.1 o.1 (omega arith) i
 
-sure_in : (w : Look → Option Json) (o : Looking Json) (j : Json) → o ≡ sure j
+sure_in : (w : Look → Option Fact) (o : Looking Json) (j : Json) → o ≡ sure j
     → (value_in w o ≡ Some j) × (reads_in w o ≡ [])
 unfolding value_in reads_in
 sure_in w o j e = (ap (value_in w) e, ap (reads_in w) e)
 
 pub in_each_world : (here : Surroundings) (j : Json) → IsPlain j → IsOrderly j → nesting j ≤ 100
-    → (w : Look → Option Json) → (value_in w (tree_value j here) ≡ Some j) × (reads_in w (tree_value j here) ≡ [])
+    → (w : Look → Option Fact) → (value_in w (tree_value j here) ≡ Some j) × (reads_in w (tree_value j here) ≡ [])
 in_each_world here j h o n w = sure_in w (tree_value j here) j (itself here j h o n)

@@ -1,4 +1,6 @@
 -- The values of texts in trees.
+use Rattle.reading.specs.Knowledge as knowledge
+use Rattle.reading.specs.Knowledge.{told, finished, and_then}
 use Rattle.std.proofs.Common.{◌≡◌, ℕ, suc, List, [], ◌∷◌, length, codes, Bool, true, false, Option, Some, None}
 use Rattle.std.proofs.Common.{option_map, refl, sym, ap, ◌∙◌, arith}
 use Rattle.std.specs.Prelude.{if◌then◌else◌, ◌==◌}
@@ -10,29 +12,28 @@ use Rattle.arm_eval.specs.Words.{tree_in}
 use Rattle.arm_expr.specs.Tree.{Tree}
 use Rattle.reading.specs.Reading.{done}
 use Rattle.reading.specs.Knowledge.{Known}
-use Rattle.arm_env.specs.Look.{Look, Surroundings}
+use Rattle.arm_env.specs.Look.{Look, Fact, Surroundings}
 use Rattle.arm_expr.specs.Brackets.{plain, an_expression, meaning as text_meaning}
 use Rattle.arm_eval.specs.Text.{expression_of}
 use Rattle.arm_eval.specs.Trees.{said_value, Part, part_named, parts, tree_value, with_name, part_text, copy_by}
 use Rattle.arm_eval.specs.Trees.{copy_of}
 use Rattle.expression_values.specs.Meaning.{value}
-use Rattle.arm_env.specs.Answer.{is, is_none, next, given, answered}
-use Rattle.arm_env.proofs.Answers.{answered-done, answered-continued, goes}
+use Rattle.arm_env.proofs.Answers.{told-done, told-continued, goes}
 
-pub said_plain : (p : Look → Known Json) (here : Surroundings) (t s : List ℕ) → text_meaning t ≡ plain s
-    → answered p (said_value here t (text_meaning t)) ≡ is (text s)
-said_plain p here t s e = ap (λ u. answered p (said_value here t u)) e ∙ answered-done p (Some (text s))
+pub said_plain : (p : Look → Known Fact) (here : Surroundings) (t s : List ℕ) → text_meaning t ≡ plain s
+    → told p (said_value here t (text_meaning t)) ≡ knowledge.value (text s)
+said_plain p here t s e = ap (λ u. told p (said_value here t u)) e ∙ told-done p (Some (text s))
 
-pub said_some : (p : Look → Known Json) (here : Surroundings) (t : List ℕ) (e : Tree) → text_meaning t ≡ an_expression
-    → Some e ≡ expression_of t → answered p (said_value here t (text_meaning t)) ≡ answered p (value here e)
-said_some p here t e s h = ap (λ u. answered p (said_value here t u)) s
-    ∙ goes p (done (expression_of t)) (value here) e (answered-done p (expression_of t) ∙ ap given (sym h))
+pub said_some : (p : Look → Known Fact) (here : Surroundings) (t : List ℕ) (e : Tree) → text_meaning t ≡ an_expression
+    → Some e ≡ expression_of t → told p (said_value here t (text_meaning t)) ≡ told p (value here e)
+said_some p here t e s h = ap (λ u. told p (said_value here t u)) s
+    ∙ goes p (done (expression_of t)) (value here) e (told-done p (expression_of t) ∙ ap finished (sym h))
 
-pub said_none : (p : Look → Known Json) (here : Surroundings) (t : List ℕ) → text_meaning t ≡ an_expression
-    → None ≡ expression_of t → answered p (said_value here t (text_meaning t)) ≡ is_none
+pub said_none : (p : Look → Known Fact) (here : Surroundings) (t : List ℕ) → text_meaning t ≡ an_expression
+    → None ≡ expression_of t → told p (said_value here t (text_meaning t)) ≡ knowledge.no_value
 said_none p here t s h =
-    ap (λ u. answered p (said_value here t u)) s ∙ answered-continued p (done (expression_of t)) (value here)
-    ∙ ap (λ a. next a (λ e. answered p (value here e))) (answered-done p (expression_of t) ∙ ap given (sym h))
+    ap (λ u. told p (said_value here t u)) s ∙ told-continued p (done (expression_of t)) (value here)
+    ∙ ap (λ a. and_then a (λ e. told p (value here e))) (told-done p (expression_of t) ∙ ap finished (sym h))
 
 -- a member whose value is that of its tree
 record IsPart (o : Option Part) (v : Json) : Type 0 where

@@ -1,4 +1,7 @@
 pub use Rattle.arm_env.specs.Look
+pub use Rattle.arm_env.specs.Cell
+pub use Rattle.arm_env.specs.Answer
+pub use Rattle.arm_env.specs.Sight
 pub use Rattle.arm_env.specs.Part
 pub use Rattle.arm_env.specs.Loop
 pub use Rattle.arm_env.specs.Id
@@ -10,6 +13,8 @@ pub use Rattle.arm_env.specs.Known
 pub mod Got
 pub mod Text
 pub mod Trees
+pub mod Outputs
+pub mod Titles
 pub mod Words
 pub mod Free
 pub mod Plain

@@ -10,6 +10,13 @@ use Rattle.arm_env.specs.Look.{Looking, Surroundings}
 use Rattle.arm_env.specs.Part.{kept}
 use Rattle.arm_eval.specs.Trees.{Part, Copy, tree_value, own_member, copied, copy_in, concat, names_of, are_new}
 use Rattle.arm_eval.specs.Trees.{differ, is_copy}
+use Rattle.arm_eval.specs.Outputs as outputs
+use Rattle.arm_eval.specs.declared.outputs.Content.{Content}
+use Rattle.arm_eval.specs.declared.outputs.Content.TheVariants as content
+use Rattle.arm_eval.specs.Titles as titles
+use Rattle.arm_eval.specs.declared.symbols.Listed.{Listed}
+use Rattle.arm_eval.specs.declared.symbols.Title.{Title}
+use Rattle.arm_eval.specs.declared.titles.Titles.{Titles}
 use Rattle.arm_eval.specs.declared.copying.Copying.{Copying}
 use Rattle.arm_eval.specs.declared.whole.Own.{Own}
 use Rattle.arm_eval.specs.declared.whole.Own.TheVariants as own
@@ -71,3 +78,18 @@ trees_in _ = None
 abbrev pub copy_tree : List Member → Option Json
 copy_tree [] = None
 copy_tree (m ∷ ms) = if is_copy m.0 then Some m.1 else copy_tree ms
+
+-- what gives an output of the code its value
+abbrev pub content_of : Content → outputs.Content
+content_of (content.Tree j) = outputs.a_tree (json j.now)
+content_of (content.Copy count input) = outputs.a_copy (record { count = json count.now; input = json input.now })
+
+-- a symbol of the code, and what a text means
+abbrev pub listed_in : Listed → titles.Listed
+listed_in l = record { symbol = l.symbol.now; copy = option_map (λ n. n.now) l.copy }
+
+abbrev pub title_in : Title → titles.Title
+title_in t = record { listed = listed_in t.listed; index = t.index }
+
+abbrev pub titles_in : Titles → titles.Titles
+titles_in ts = record { symbols = map listed_in ts.symbols.now; loops = ts.loops.now }

@@ -1,10 +1,12 @@
 // The loops that the member `copy` of an object holds.
-ghost use Rattle.std.specs.Prelude.{◌≡◌, ◌≤◌, ◌<◌, ◌∷◌, ℕ, suc, List, length, chars, map};
+ghost use Rattle.std.specs.Prelude.{◌≡◌, ◌≤◌, ◌<◌, ◌∷◌, suc, List, length, chars, map};
 ghost use Rattle.std.specs.Prelude.{option_map, IfOk, MatchOption, codes};
 ghost use Rattle.arm_value.specs.Json.{nesting, items_nesting, members_nesting, pairs};
 ghost use Rattle.arm_value.specs.View.{json, member};
 ghost use Rattle.arm_eval.specs.Trees as trees;
 ghost use Rattle.arm_eval.specs.Trees.{parts, looping_of};
+ghost use Rattle.arm_eval.specs.Outputs.{output_loop};
+ghost use Rattle.arm_env.specs.declared.env.Looping.{Looping};
 ghost use Rattle.arm_eval.specs.Words.{copying_of, NestsBelow, tree_in, trees_in, copy_tree};
 
 use arm_env::env::Looping;
@@ -142,20 +144,16 @@ pub(crate) fn taken_count(value: Value) -> Option<u32>
     count
 }
 
-/// The loops inside a loop of a name, which has the index 0.
+/// Copies of these loops after a nearest one.
 pub(crate) fn loops_inside(
     alloc: Global,
     loops: &[Looping],
-    name: &Text,
+    nearest: Looping,
 ) -> Result<Vec<Looping>, OutOfMemory>
-    ensures { IfOk result (λ ls. ls.items ≡ looping_of name.now 0 ∷ loops.now) }
+    ensures { IfOk result (λ ls. ls.items ≡ nearest ∷ loops.now) }
 {
     let mut inside = Vec::new(alloc);
-    inside.push(Looping {
-        name: Some(name.copy(alloc)?),
-        index: 0,
-        main: false,
-    })?;
+    inside.push(nearest)?;
     for looping in loops {
         let name = match &looping.name {
             Some(name) => Some(name.copy(alloc)?),
@@ -170,12 +168,40 @@ pub(crate) fn loops_inside(
     Ok(inside)
 }
 
+/// The loops inside a loop of a name, which has the index 0.
+pub(crate) fn loops_named(
+    alloc: Global,
+    loops: &[Looping],
+    name: &Text,
+) -> Result<Vec<Looping>, OutOfMemory>
+    ensures { IfOk result (λ ls. ls.items ≡ looping_of name.now 0 ∷ loops.now) }
+{
+    let nearest = Looping {
+        name: Some(name.copy(alloc)?),
+        index: 0,
+        main: false,
+    };
+    loops_inside(alloc, loops, nearest)
+}
+
+/// The loops inside the loop of an output, which has the index 0.
+pub(crate) fn loops_in_output(alloc: Global, loops: &[Looping]) -> Result<Vec<Looping>, OutOfMemory>
+    ensures { IfOk result (λ ls. ls.items ≡ output_loop 0 ∷ loops.now) }
+{
+    let nearest = Looping {
+        name: None,
+        index: 0,
+        main: true,
+    };
+    loops_inside(alloc, loops, nearest)
+}
+
 /// Lets the nearest loop be at the index.
 pub(crate) fn turn_to(loops: &mut Vec<Looping>, index: u32)
     requires { 0 < length loops.old.items }
-    ensures { (name : List ℕ) (before : ℕ) (around : List Looping)
-        → loops.old.items ≡ looping_of name before ∷ around
-        → loops.new.items ≡ looping_of name index ∷ around }
+    ensures { (nearest : Looping) (around : List Looping)
+        → loops.old.items ≡ nearest ∷ around
+        → loops.new.items ≡ record nearest { index = index } ∷ around }
 {
     loops[0].index = index;
 }

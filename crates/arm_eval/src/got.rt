@@ -1,21 +1,26 @@
-// What is answered of an expression, or of a tree.
-ghost use Rattle.std.specs.Prelude.{IfOk};
-ghost use Rattle.arm_value.specs.Json.{Json};
+// What is answered of an expression, or of a tree, in an environment.
+ghost use Rattle.std.specs.Prelude.{◌≡◌, IfOk};
 ghost use Rattle.arm_value.specs.View.{json};
 ghost use Rattle.arm_expr.specs.View.{tree_of};
-ghost use Rattle.reading.specs.Knowledge.{Known};
-ghost use Rattle.arm_env.specs.Look.{Look, Looking};
+ghost use Rattle.reading.specs.Knowledge.{Known, told, waits};
+ghost use Rattle.arm_env.specs.Look.{Look, Fact, Looking};
+ghost use Rattle.arm_value.specs.Json.{Json};
 ghost use Rattle.expression_values.specs.Meaning.{value};
 ghost use Rattle.arm_env.specs.Known.{known_in, around};
-ghost use Rattle.arm_env.specs.Answer.{answered, Gives};
+ghost use Rattle.arm_env.specs.Cell.{look_of};
+ghost use Rattle.arm_env.specs.Answer.{Gives};
 ghost use Rattle.arm_eval.specs.Got.{Says};
+ghost use Rattle.arm_env.specs.Sight.{here};
+ghost use Rattle.arm_eval.specs.Titles.{titled, titles_of, has_symbols, followed};
 ghost use Rattle.arm_eval.specs.Trees.{tree_value};
-ghost use Rattle.arm_env.specs.declared.env.Unlisted.TheVariants.{Never};
+ghost use Rattle.reading.specs.Reading.{through};
 
+use crate::titles::{Titles, titled_value, titled_value_of, unnamed};
 use crate::tree::tree_value;
-use arm_env::env::{Env, Unlisted};
-use arm_env::sight::Sight;
-use arm_env::stop::Stop;
+use arm_env::cell::Cell;
+use arm_env::entries::Around;
+use arm_env::env::Env;
+use arm_env::stop::{Stop, let_go};
 use arm_expr::Expr;
 use arm_ids::Key;
 use arm_value::{OutOfMemory, Value};
@@ -34,18 +39,105 @@ pub enum Got {
     Late,
 }
 
+// The cell that is waited for, in public words.
+#[tactic(auto, using(crate::proofs::GotLemmas::says))]
+fn awaited(cell: Cell) -> Got
+    ensures { (p : Look → Known Fact) (r : Looking Json) → told p r ≡ waits (look_of cell)
+        → Says p r result }
+{
+    match cell {
+        Cell::Parameter(_name) => Got::Late,
+        Cell::Variable(_name) => Got::Late,
+        Cell::Output(_key, _name) => Got::Late,
+        Cell::State(key) => Got::Needs(key),
+        Cell::Named(_text) => Got::Late,
+        Cell::Deployment(_key) => Got::Late,
+        Cell::Outputs(_key) => Got::Late,
+    }
+}
+
 // The answer in public words.
 #[tactic(auto, using(crate::proofs::GotLemmas::says))]
 fn answer(found: Result<Value, Stop>) -> Result<Got, OutOfMemory>
-    ensures { (p : Look → Known Json) (r : Looking Json) → Gives json found (answered p r)
+    ensures { (p : Look → Known Fact) (r : Looking Json) → Gives json found (told p r)
         → IfOk result (Says p r) }
 {
     match found {
         Ok(value) => Ok(Got::Value(value)),
         Err(Stop::NoValue) => Ok(Got::NoValue),
-        Err(Stop::Needs(key)) => Ok(Got::Needs(key)),
-        Err(Stop::Late) => Ok(Got::Late),
+        Err(Stop::Waits(cell)) => Ok(awaited(cell)),
         Err(Stop::OutOfMemory) => Err(AllocError),
+    }
+}
+
+// Whether texts are symbolic names.
+fn has_symbols(env: &Env) -> bool
+    ensures { result ≡ has_symbols env.now }
+{
+    !env.inside_name && !env.symbols.is_empty()
+}
+
+// The value of an expression where texts are symbolic names.
+fn value_by_symbols(alloc: Global, env: &Env, around: &Around, e: &Expr) -> Result<Value, Stop>
+    ensures { Gives json result (told (known_in env.now)
+        (through (titled (titles_of env.now) around.now.place.now)
+        (value (here around.now) (tree_of e.now)))) }
+{
+    let symbols = unnamed(alloc, &env.symbols)?;
+    let titles = Titles {
+        symbols: symbols.as_slice(),
+        loops: &[],
+    };
+    let found = titled_value_of(alloc, env, &titles, around, e);
+    let_go(symbols);
+    found
+}
+
+// The value of a tree where texts are symbolic names.
+fn tree_by_symbols(alloc: Global, env: &Env, around: &Around, tree: &Value) -> Result<Value, Stop>
+    ensures { Gives json result (told (known_in env.now)
+        (through (titled (titles_of env.now) around.now.place.now)
+        (tree_value (json tree.now) (here around.now)))) }
+{
+    let symbols = unnamed(alloc, &env.symbols)?;
+    let titles = Titles {
+        symbols: symbols.as_slice(),
+        loops: &[],
+    };
+    let found = titled_value(alloc, env, &titles, around, tree);
+    let_go(symbols);
+    found
+}
+
+// The value of an expression.
+fn found_value(alloc: Global, env: &Env, e: &Expr) -> Result<Value, Stop>
+    ensures { Gives json result
+        (told (known_in env.now) (followed env.now (value (around env.now) (tree_of e.now)))) }
+{
+    let around = Around {
+        loops: env.loops.as_slice(),
+        place: env.place,
+    };
+    if has_symbols(env) {
+        value_by_symbols(alloc, env, &around, e)
+    } else {
+        value_of(alloc, env, &around, e)
+    }
+}
+
+// The value of a tree.
+fn found_tree(alloc: Global, env: &Env, tree: &Value) -> Result<Value, Stop>
+    ensures { Gives json result (told (known_in env.now)
+        (followed env.now (tree_value (json tree.now) (around env.now)))) }
+{
+    let around = Around {
+        loops: env.loops.as_slice(),
+        place: env.place,
+    };
+    if has_symbols(env) {
+        tree_by_symbols(alloc, env, &around, tree)
+    } else {
+        tree_value(alloc, env, &around, tree)
     }
 }
 
@@ -56,56 +148,18 @@ fn answer(found: Result<Value, Stop>) -> Result<Got, OutOfMemory>
 /// other entries turn out to be. `Needs` and `Late` name the first entry that is looked at and is
 /// not known yet, where an entry that is not known counts as one without a value.
 pub fn eval(alloc: Global, env: &Env, e: &Expr) -> Result<Got, OutOfMemory>
-    ensures { IfOk result (Says (known_in Never env.now) (value (around env.now) (tree_of e.now))) }
+    ensures { IfOk result (Says (known_in env.now)
+        (followed env.now (value (around env.now) (tree_of e.now)))) }
 {
-    eval_with(alloc, env, Unlisted::Never, e)
-}
-
-/// The same, where it is said what a key means that is not listed among the states.
-pub fn eval_with(alloc: Global, env: &Env, unlisted: Unlisted, e: &Expr) -> Result<Got, OutOfMemory>
-    ensures { IfOk result (Says (known_in unlisted env.now)
-        (value (around env.now) (tree_of e.now))) }
-{
-    let loops = env.loops.as_slice();
-    let sight = Sight {
-        env,
-        unlisted,
-        loops,
-    };
-    answer(value_of(alloc, &sight, e))
+    answer(found_value(alloc, env, e))
 }
 
 /// The value of a JSON tree with expressions and loops in an environment, where a key that is not
-/// listed among the states has none.
-///
-/// A text in brackets is an expression; one that spells none, or that is beyond the limits of
-/// expressions, has no value. After `[[` it is plain, without its first `[`. The member of exactly
-/// the name `copy` of an object is an array of loops, each an object of a name, a count from 0 to
-/// 800 and an input (these three words in letters of any case), and gives the object an array under
-/// each name. A `copy` of another form, and a name that the object has already or that comes twice,
-/// give no value. The answers are those of `eval`.
+/// listed among the states has none. The answers are those of `eval`; `tree_value` says what a tree
+/// means.
 pub fn eval_tree(alloc: Global, env: &Env, tree: &Value) -> Result<Got, OutOfMemory>
-    ensures { IfOk result (Says (known_in Never env.now)
-        (tree_value (json tree.now) (around env.now))) }
+    ensures { IfOk result (Says (known_in env.now)
+        (followed env.now (tree_value (json tree.now) (around env.now)))) }
 {
-    eval_tree_with(alloc, env, Unlisted::Never, tree)
-}
-
-/// The same, where it is said what a key means that is not listed among the states.
-pub fn eval_tree_with(
-    alloc: Global,
-    env: &Env,
-    unlisted: Unlisted,
-    tree: &Value,
-) -> Result<Got, OutOfMemory>
-    ensures { IfOk result (Says (known_in unlisted env.now)
-        (tree_value (json tree.now) (around env.now))) }
-{
-    let loops = env.loops.as_slice();
-    let sight = Sight {
-        env,
-        unlisted,
-        loops,
-    };
-    answer(tree_value(alloc, &sight, tree))
+    answer(found_tree(alloc, env, tree))
 }

@@ -6,11 +6,21 @@ mod copying;
 pub mod got;
 pub mod laws;
 mod names;
+pub mod outputs;
+pub mod symbols;
 mod texts;
+mod titles;
 mod tree;
 mod whole;
 
+pub use arm_env::cell::Cell;
+pub use arm_env::entries::{Around, Declared, Entries};
 pub use arm_env::env::{
-    Env, Looping, ModuleAt, Named, OutputAt, Seen, Slot, Spelled, StateAt, Unlisted,
+    Env, Looping, ModuleAt, Named, OutputAt, Seen, Slot, Spelled, StateAt, Symbol,
 };
-pub use got::{Got, eval, eval_tree, eval_tree_with, eval_with};
+pub use arm_env::stop::Stop;
+pub use expression_values::value_of;
+pub use got::{Got, eval, eval_tree};
+pub use outputs::{Content, output_value};
+pub use titles::{Titles, titled_value, titled_value_of};
+pub use tree::tree_value;

@@ -4,7 +4,8 @@ ghost use Rattle.arm_value.specs.Json.{nesting, members_nesting, put_each};
 ghost use Rattle.arm_value.specs.View.{json, member};
 ghost use Rattle.arm_eval.specs.Trees.{names_of};
 ghost use Rattle.arm_eval.specs.Words.{own_of, with_each, kept_array, kept_object, whole_object};
-ghost use Rattle.arm_env.specs.Answer.{given, with_last, Gives};
+ghost use Rattle.reading.specs.Knowledge.{finished};
+ghost use Rattle.arm_env.specs.Answer.{with_last, Gives};
 
 use crate::names::are_free;
 use arm_env::held::keep;
@@ -41,7 +42,7 @@ fn push_value(alloc: Global, values: Items, value: Value) -> Result<Option<Items
 
 /// The array of values, where all are there and it nests at most 100 deep.
 pub(crate) fn array_of(values: Option<Items>) -> Result<Value, Stop>
-    ensures { Gives json result (given (kept_array values)) }
+    ensures { Gives json result (finished (kept_array values)) }
 {
     match values {
         Some(values) => keep(Value::Array(values)),
@@ -98,7 +99,7 @@ fn put_own(
 /// The members, where all are there.
 pub(crate) fn all_given(added: Option<Vec<Field>>) -> Result<Vec<Field>, Stop>
     ensures { Gives (λ v. map member v.items) result
-        (given (option_map (λ v. map member v.items) added)) }
+        (finished (option_map (λ v. map member v.items) added)) }
 {
     match added {
         Some(added) => Ok(added),
@@ -134,7 +135,7 @@ fn push_given(added: Vec<Field>, field: Field) -> Result<Option<Vec<Field>>, Out
 
 /// The member of the name with the array of values, where all are there.
 pub(crate) fn field_of(alloc: Global, name: &Text, values: Option<Items>) -> Result<Field, Stop>
-    ensures { Gives member result (given (option_map (λ v. (name.now, v)) (kept_array values))) }
+    ensures { Gives member result (finished (option_map (λ v. (name.now, v)) (kept_array values))) }
 {
     let value = array_of(values)?;
     Ok(Field {
@@ -155,7 +156,7 @@ pub(crate) fn whole_object(
 ) -> Result<Value, Stop>
     requires { members_nesting (map member added.items) ≤ 119 }
     ensures { Gives json result
-        (given (whole_object (names_of (map member fields.now)) own (map member added.items))) }
+        (finished (whole_object (names_of (map member fields.now)) own (map member added.items))) }
 {
     match own {
         Some(own) => object_with(alloc, fields, own, added),
@@ -170,7 +171,7 @@ fn object_with(
     added: Vec<Field>,
 ) -> Result<Value, Stop>
     requires { members_nesting (map member added.items) ≤ 119 }
-    ensures { Gives json result (given (whole_object (names_of (map member fields.now)) (Some own)
+    ensures { Gives json result (finished (whole_object (names_of (map member fields.now)) (Some own)
         (map member added.items))) }
 {
     if added.is_empty() {
@@ -210,7 +211,7 @@ fn put_together(alloc: Global, own: Fields, added: Vec<Field>) -> Result<Fields,
 
 fn joined(alloc: Global, own: Fields, added: Vec<Field>) -> Result<Value, Stop>
     requires { members_nesting (map member added.items) ≤ 119 }
-    ensures { Gives json result (given (kept_object own (map member added.items))) }
+    ensures { Gives json result (finished (kept_object own (map member added.items))) }
 {
     let whole = put_together(alloc, own, added)?;
     keep(Value::Object(whole))

@@ -17,19 +17,19 @@ use Rattle.arm_expr.specs.declared.expr.Expr.TheVariants as e
 use Rattle.arm_expr.proofs.ViewLemmas.{tree_of-Text, tree_of-Int, tree_of-Call, tree_of-Member}
 use Rattle.arm_expr.proofs.ViewLemmas.{tree_of-Index}
 use Rattle.reading.specs.Reading.{pure, none, continued, both}
-use Rattle.reading.specs.Knowledge.{Known}
-use Rattle.arm_env.specs.Look.{Look, Looking, Surroundings}
+use Rattle.reading.specs.Knowledge as knowledge
+use Rattle.reading.specs.Knowledge.{Known, told, both_told}
+use Rattle.arm_env.specs.Look.{Look, Fact, Looking, Surroundings}
 use Rattle.arm_env.specs.Held.{Held, held_value}
 use Rattle.expression_values.specs.Meaning.{called, held, values, value, indexed, outcome}
 use Rattle.expression_values.specs.Row.{if_row, chosen}
 use Rattle.function_numbers.specs.Kinds.{truth_of}
-use Rattle.arm_env.specs.Answer.{Answer, is, is_none, needs, is_late, answered, outcome_answer}
-use Rattle.arm_env.specs.Answer.{Stops}
+use Rattle.arm_env.specs.Answer.{outcome_told, Stops}
 use Rattle.arm_env.specs.declared.stop.Stop.TheVariants as stop
 use Rattle.expression_values.specs.Args.{outs}
 use Rattle.arm_env.specs.declared.stop.Stop.{Stop}
-use Rattle.arm_env.proofs.Answers.{both_answers, answered-done, answered-both}
-use Rattle.expression_values.proofs.Answers.{answered-outcome}
+use Rattle.arm_env.proofs.Answers.{told-done, told-both}
+use Rattle.expression_values.proofs.Answers.{told-outcome}
 use Rattle.arm_env.proofs.Answers.{goes, stops}
 
 values-outs : (here : Surroundings) (es : List Expr)
@@ -61,88 +61,76 @@ held-Index here x i = ap (held here) (tree_of-Index x i)
 pub ruleset meanings = (held-Text, held-Int, held-Call, held-Member, held-Index)
 
 -- an index, by what is answered of both parts
-index_is : (A B : Type 0) (s : Answer A) (t : Answer B) (o : A) (u : B) → s ≡ is o → t ≡ is u
-    → both_answers s t ≡ is (o, u)
-index_is A B (is x) (is y) o u e f =
+index_is : (A B : Type 0) (s : knowledge.Told Look A) (t : knowledge.Told Look B) (o : A) (u : B) → s
+    ≡ knowledge.value o → t ≡ knowledge.value u
+    → both_told s t ≡ knowledge.value (o, u)
+index_is A B (knowledge.value x) (knowledge.value y) o u e f =
     let a : x ≡ o = cc in
     let b : y ≡ u = cc in
-    λ i. is (a i, b i)
-index_is A B (is x) is_none o u e f = absurd cc
-index_is A B (is x) (needs k) o u e f = absurd cc
-index_is A B (is x) is_late o u e f = absurd cc
-index_is A B is_none t o u e f = absurd cc
-index_is A B (needs k) t o u e f = absurd cc
-index_is A B is_late t o u e f = absurd cc
+    λ i. knowledge.value (a i, b i)
+index_is A B (knowledge.value x) knowledge.no_value o u e f = absurd cc
+index_is A B (knowledge.value x) (knowledge.waits k) o u e f = absurd cc
+index_is A B knowledge.no_value t o u e f = absurd cc
+index_is A B (knowledge.waits k) t o u e f = absurd cc
 
-both_out : (p : Look → Known Json) (r : Looking Held) (q : Looking Json)
-    → answered p (both (outcome r) (outcome q))
-    ≡ both_answers (outcome_answer (answered p r)) (outcome_answer (answered p q))
-both_out p r q = answered-both p (outcome r) (outcome q)
-    ∙ (λ i. both_answers (answered-outcome p r i) (answered-outcome p q i))
+both_out : (p : Look → Known Fact) (r : Looking Held) (q : Looking Json)
+    → told p (both (outcome r) (outcome q))
+    ≡ both_told (outcome_told (told p r)) (outcome_told (told p q))
+both_out p r q = told-both p (outcome r) (outcome q)
+    ∙ (λ i. both_told (told-outcome p r i) (told-outcome p q i))
 
-pub index_told : (p : Look → Known Json) (here : Surroundings) (r : Looking Held) (q : Looking Json)
-    (h : Option Held) (o : Option Json) → outcome_answer (answered p r) ≡ is h
-    → outcome_answer (answered p q) ≡ is o
-    → answered p (continued (both (outcome r) (outcome q)) (λ z. indexed here z.0 z.1))
-    ≡ answered p (indexed here h o)
-index_told p here r q h o e f =
-    goes p (both (outcome r) (outcome q)) (λ z. indexed here z.0 z.1) (h, o)
+pub index_told : (p : Look → Known Fact) (r : Looking Held) (q : Looking Json)
+    (h : Option Held) (o : Option Json) → outcome_told (told p r) ≡ knowledge.value h
+    → outcome_told (told p q) ≡ knowledge.value o
+    → told p (continued (both (outcome r) (outcome q)) (λ z. indexed z.0 z.1))
+    ≡ told p (indexed h o)
+index_told p r q h o e f =
+    goes p (both (outcome r) (outcome q)) (λ z. indexed z.0 z.1) (h, o)
     (both_out p r q ∙ index_is (Option Held) (Option Json) _ _ h o e f)
 
 -- the first of both that stops
-first_stops : (A B : Type 0) (s : Stop) (t : Answer A) (u : Answer B) → Stops s (outcome_answer t)
-    → Stops s (both_answers (outcome_answer t) u)
-first_stops A B stop.NoValue (is x) u h = absurd cc
-first_stops A B stop.NoValue is_none u h = absurd cc
-first_stops A B stop.NoValue (needs k) u h = absurd cc
-first_stops A B stop.NoValue is_late u h = absurd cc
-first_stops A B (stop.Needs l) (is x) u h = absurd cc
-first_stops A B (stop.Needs l) is_none u h = absurd cc
-first_stops A B (stop.Needs l) (needs k) u h = cc
-first_stops A B (stop.Needs l) is_late u h = absurd cc
-first_stops A B stop.Late (is x) u h = absurd cc
-first_stops A B stop.Late is_none u h = absurd cc
-first_stops A B stop.Late (needs k) u h = absurd cc
-first_stops A B stop.Late is_late u h = refl
+first_stops : (A B : Type 0) (s : Stop) (t : knowledge.Told Look A) (u : knowledge.Told Look B)
+    → Stops s (outcome_told t)
+    → Stops s (both_told (outcome_told t) u)
+first_stops A B stop.NoValue (knowledge.value x) u h = absurd cc
+first_stops A B stop.NoValue knowledge.no_value u h = absurd cc
+first_stops A B stop.NoValue (knowledge.waits k) u h = absurd cc
+first_stops A B (stop.Waits l) (knowledge.value x) u h = absurd cc
+first_stops A B (stop.Waits l) knowledge.no_value u h = absurd cc
+first_stops A B (stop.Waits l) (knowledge.waits k) u h = cc
 first_stops A B stop.OutOfMemory t u h = tt
 
-second_stops : (A B : Type 0) (s : Stop) (t : Answer A) (u : Answer B) (o : A) → t ≡ is o
-    → Stops s (outcome_answer u) → Stops s (both_answers t (outcome_answer u))
-second_stops A B s is_none u o e h = absurd cc
-second_stops A B s (needs k) u o e h = absurd cc
-second_stops A B s is_late u o e h = absurd cc
-second_stops A B stop.NoValue (is x) (is y) o e h = absurd cc
-second_stops A B stop.NoValue (is x) is_none o e h = absurd cc
-second_stops A B stop.NoValue (is x) (needs k) o e h = absurd cc
-second_stops A B stop.NoValue (is x) is_late o e h = absurd cc
-second_stops A B (stop.Needs l) (is x) (is y) o e h = absurd cc
-second_stops A B (stop.Needs l) (is x) is_none o e h = absurd cc
-second_stops A B (stop.Needs l) (is x) (needs k) o e h = cc
-second_stops A B (stop.Needs l) (is x) is_late o e h = absurd cc
-second_stops A B stop.Late (is x) (is y) o e h = absurd cc
-second_stops A B stop.Late (is x) is_none o e h = absurd cc
-second_stops A B stop.Late (is x) (needs k) o e h = absurd cc
-second_stops A B stop.Late (is x) is_late o e h = refl
-second_stops A B stop.OutOfMemory (is x) u o e h = tt
+second_stops : (A B : Type 0) (s : Stop) (t : knowledge.Told Look A) (u : knowledge.Told Look B) (o : A) → t
+    ≡ knowledge.value o
+    → Stops s (outcome_told u) → Stops s (both_told t (outcome_told u))
+second_stops A B s knowledge.no_value u o e h = absurd cc
+second_stops A B s (knowledge.waits k) u o e h = absurd cc
+second_stops A B stop.NoValue (knowledge.value x) (knowledge.value y) o e h = absurd cc
+second_stops A B stop.NoValue (knowledge.value x) knowledge.no_value o e h = absurd cc
+second_stops A B stop.NoValue (knowledge.value x) (knowledge.waits k) o e h = absurd cc
+second_stops A B (stop.Waits l) (knowledge.value x) (knowledge.value y) o e h = absurd cc
+second_stops A B (stop.Waits l) (knowledge.value x) knowledge.no_value o e h = absurd cc
+second_stops A B (stop.Waits l) (knowledge.value x) (knowledge.waits k) o e h = cc
+second_stops A B stop.OutOfMemory (knowledge.value x) u o e h = tt
 
-pub base_stops_index : (s : Stop) (p : Look → Known Json) (here : Surroundings) (r : Looking Held)
-    (q : Looking Json) → Stops s (outcome_answer (answered p r))
-    → Stops s (answered p (continued (both (outcome r) (outcome q)) (λ z. indexed here z.0 z.1)))
-base_stops_index s p here r q h =
-    let P : Answer (Option Held × Option Json) → Type 0 = Stops s in
-    stops s p (both (outcome r) (outcome q)) (λ z. indexed here z.0 z.1)
+pub base_stops_index : (s : Stop) (p : Look → Known Fact) (r : Looking Held)
+    (q : Looking Json) → Stops s (outcome_told (told p r))
+    → Stops s (told p (continued (both (outcome r) (outcome q)) (λ z. indexed z.0 z.1)))
+base_stops_index s p r q h =
+    let P : knowledge.Told Look (Option Held × Option Json) → Type 0 = Stops s in
+    stops s p (both (outcome r) (outcome q)) (λ z. indexed z.0 z.1)
     (subst P (sym (both_out p r q))
-    (first_stops Held (Option Json) s (answered p r) (outcome_answer (answered p q)) h))
+    (first_stops Held (Option Json) s (told p r) (outcome_told (told p q)) h))
 
-pub index_stops : (s : Stop) (p : Look → Known Json) (here : Surroundings) (r : Looking Held)
-    (q : Looking Json) (h : Option Held) → outcome_answer (answered p r) ≡ is h
-    → Stops s (outcome_answer (answered p q))
-    → Stops s (answered p (continued (both (outcome r) (outcome q)) (λ z. indexed here z.0 z.1)))
-index_stops s p here r q h e f =
-    let P : Answer (Option Held × Option Json) → Type 0 = Stops s in
-    stops s p (both (outcome r) (outcome q)) (λ z. indexed here z.0 z.1)
+pub index_stops : (s : Stop) (p : Look → Known Fact) (r : Looking Held)
+    (q : Looking Json) (h : Option Held) → outcome_told (told p r) ≡ knowledge.value h
+    → Stops s (outcome_told (told p q))
+    → Stops s (told p (continued (both (outcome r) (outcome q)) (λ z. indexed z.0 z.1)))
+index_stops s p r q h e f =
+    let P : knowledge.Told Look (Option Held × Option Json) → Type 0 = Stops s in
+    stops s p (both (outcome r) (outcome q)) (λ z. indexed z.0 z.1)
     (subst P (sym (both_out p r q))
-    (second_stops (Option Held) Json s (outcome_answer (answered p r)) (answered p q) h e f))
+    (second_stops (Option Held) Json s (outcome_told (told p r)) (told p q) h e f))
 
 -- the first of what is left
 pub left : {A : Type 0} (xs : List A) (i : ℕ) (x : A) → i < length xs → x ≡ get_or xs i x
@@ -150,18 +138,18 @@ pub left : {A : Type 0} (xs : List A) (i : ℕ) (x : A) → i < length xs → x 
 left xs i x h e = rw (add-one, drop-cons xs i x h) (ap (λ y. y ∷ drop (suc i) xs) (sym e))
 
 -- a turn of a loop over the arguments of a row
-pub turn : (row : List (Looking Json) → Looking Json) (p : Look → Known Json) (here : Surroundings)
+pub turn : (row : List (Looking Json) → Looking Json) (p : Look → Known Fact) (here : Surroundings)
     (es : List Expr) (i : ℕ) (x : Expr) → i < length es → x ≡ get_or es i x
-    → answered p (row (outs here es)) ≡ answered p (row (outs here (drop i es)))
-    → answered p (row (outs here es)) ≡ answered p
+    → told p (row (outs here es)) ≡ told p (row (outs here (drop i es)))
+    → told p (row (outs here es)) ≡ told p
     (row (value here (tree_of x) ∷ outs here (drop (i + 1) es)))
 turn row p here es i x l e so_far = so_far
-    ∙ ap (λ xs. answered p (row (outs here xs))) (left es i x l e)
+    ∙ ap (λ xs. told p (row (outs here xs))) (left es i x l e)
 
 -- a part that stops the whole
-pub stops_at : {A B : Type 0} (p : Look → Known Json) (s : Stop) (t : Answer B) (o : Looking A)
-    (f : A → Looking B) → t ≡ answered p (continued o f) → Stops s (answered p o) → Stops s t
-stops_at {A} {B} p s t o f e h = let P : Answer B
+pub stops_at : {A B : Type 0} (p : Look → Known Fact) (s : Stop) (t : knowledge.Told Look B) (o : Looking A)
+    (f : A → Looking B) → t ≡ told p (continued o f) → Stops s (told p o) → Stops s t
+stops_at {A} {B} p s t o f e h = let P : knowledge.Told Look B
     → Type 0 = Stops s in subst P (sym e) (stops s p o f h)
 
 length-outs : (here : Surroundings) (es : List Expr) → length (outs here es) ≡ length es
@@ -172,12 +160,12 @@ not_le : (k n : ℕ) → n < k → nat_le k n ≡ false
 not_le k n h = grind (arith, nat_tests)
 
 -- fewer than k arguments
-pub too_few : (k : ℕ) (p : Look → Known Json) (here : Surroundings) (es : List Expr)
+pub too_few : (k : ℕ) (p : Look → Known Fact) (here : Surroundings) (es : List Expr)
     (r : Looking Json) → length es < k
-    → answered p (if nat_le k (length (outs here es)) then r else none) ≡ is_none
+    → told p (if nat_le k (length (outs here es)) then r else none) ≡ knowledge.no_value
 too_few k p here es r h =
-    ap (λ n. answered p (if nat_le k n then r else none)) (length-outs here es)
-    ∙ ap (λ b. answered p (if b then r else none)) (not_le k (length es) h) ∙ answered-done p None
+    ap (λ n. told p (if nat_le k n then r else none)) (length-outs here es)
+    ∙ ap (λ b. told p (if b then r else none)) (not_le k (length es) h) ∙ told-done p None
 
 -- three in all
 pub three : {A : Type 0} (xs : List A) (a b c : A) → length xs ≡ 3 → a ≡ get_or xs 0 a
@@ -189,22 +177,22 @@ three (x ∷ y ∷ z ∷ []) a b c h p q r = cc
 three (x ∷ y ∷ z ∷ u ∷ xs) a b c h p q r = absurd (omega arith)
 
 -- another count than three
-pub if_wrong : (p : Look → Known Json) (here : Surroundings) (es : List Expr) → (length es ≡ 3 → ⊥)
-    → answered p (if_row (outs here es)) ≡ is_none
-if_wrong p here [] h = answered-done p None
-if_wrong p here (a ∷ []) h = answered-done p None
-if_wrong p here (a ∷ b ∷ []) h = answered-done p None
+pub if_wrong : (p : Look → Known Fact) (here : Surroundings) (es : List Expr) → (length es ≡ 3 → ⊥)
+    → told p (if_row (outs here es)) ≡ knowledge.no_value
+if_wrong p here [] h = told-done p None
+if_wrong p here (a ∷ []) h = told-done p None
+if_wrong p here (a ∷ b ∷ []) h = told-done p None
 if_wrong p here (a ∷ b ∷ c ∷ []) h = absurd (h (omega arith))
-if_wrong p here (a ∷ b ∷ c ∷ d ∷ es) h = answered-done p None
+if_wrong p here (a ∷ b ∷ c ∷ d ∷ es) h = told-done p None
 
 -- the argument that the condition chooses
-pub if_args : (p : Look → Known Json) (here : Surroundings) (es : List Expr) (a b c : Expr)
+pub if_args : (p : Look → Known Fact) (here : Surroundings) (es : List Expr) (a b c : Expr)
     (v : Json) → length es ≡ 3 → a ≡ get_or es 0 a → b ≡ get_or es 1 b → c ≡ get_or es 2 c
-    → answered p (value here (tree_of a)) ≡ is v
-    → answered p (if_row (outs here es)) ≡ answered p
+    → told p (value here (tree_of a)) ≡ knowledge.value v
+    → told p (if_row (outs here es)) ≡ told p
     (chosen (truth_of v) (value here (tree_of b)) (value here (tree_of c)))
 if_args p here es a b c v h x y z e =
-    ap (λ l. answered p (if_row (outs here l))) (three es a b c h x y z)
+    ap (λ l. told p (if_row (outs here l))) (three es a b c h x y z)
     ∙ goes p (value here (tree_of a)) _ v e
 
 -- a value that is not null

@@ -2,22 +2,22 @@
 ghost use Rattle.std.specs.Prelude.{◌≡◌, ◌∷◌, [], chars, map, option_map, codes, None};
 ghost use Rattle.arm_value.specs.Json.{Json, put_each, text, object, pairs};
 ghost use Rattle.arm_value.specs.View.{json};
+ghost use Rattle.reading.specs.Knowledge.{told, finished};
 ghost use Rattle.arm_env.specs.Held as held;
-ghost use Rattle.arm_env.specs.Held.{is_word, capped, forced, outputs_at, no_part, kind_of_output};
-ghost use Rattle.arm_env.specs.Held.{output_by, output_at, part_of_output, part_of_no_output};
+ghost use Rattle.arm_env.specs.Held.{is_word, capped, forced, no_part, output_at, part_of_output};
 ghost use Rattle.arm_env.specs.Held.{access, access_by};
-ghost use Rattle.arm_env.specs.Known.{declared, output_with};
-ghost use Rattle.arm_env.specs.Answer.{answered, given, Gives, Sees};
+ghost use Rattle.arm_env.specs.Answer.{Gives, Sees};
 ghost use Rattle.expression_values.specs.Meaning.{indexed};
 ghost use Rattle.arm_env.specs.Part.{kept};
 ghost use Rattle.arm_env.specs.Object.{object_of};
-ghost use Rattle.arm_env.specs.Sight.{known_by, here, held_of, output_of};
+ghost use Rattle.arm_env.specs.Sight.{held_of, declared_of};
 
-use arm_env::env::OutputAt;
+use arm_env::entries::Entries;
 use arm_env::held::{Held, keep, keep_copy, lend, own_part, part_of};
 use arm_env::objects::with_value;
-use arm_env::outputs::{fields_at, look_at_outputs, output_named, typed};
-use arm_env::sight::{Sight, output_value, value_named};
+use arm_env::outputs::{
+    fields_at, look_at_outputs, output_declared, output_value, typed, value_named,
+};
 use arm_env::stop::{Stop, let_go, stopped};
 use arm_ids::Key;
 use arm_value::{Fields, Text, Value};
@@ -35,142 +35,111 @@ fn is_word(word: &str, index: &Value) -> bool
 
 // A part that a nested deployment does not have.
 #[tactic(auto, using(crate::proofs::Answers::answers))]
-fn no_part<'a>(sight: &Sight<'a>, key: &Key) -> Result<Held<'a>, Stop>
-    ensures { Gives held_of result
-        (answered (known_by sight.now) (no_part (here sight.now) key.now)) }
+fn no_part<'a, K: Entries>(alloc: Global, entries: &'a K, key: &Key) -> Result<Held<'a>, Stop>
+    ensures { Gives held_of result (told (K.known entries.now) (no_part key.now)) }
 {
-    look_at_outputs(sight, key)?;
+    look_at_outputs(alloc, entries, key)?;
     Err(Stop::NoValue)
 }
 
 // The same, where the key is dropped.
-fn no_part_at<'a>(sight: &Sight<'a>, key: Key) -> Result<Held<'a>, Stop>
-    ensures { Gives held_of result
-        (answered (known_by sight.now) (no_part (here sight.now) key)) }
+fn no_part_at<'a, K: Entries>(alloc: Global, entries: &'a K, key: Key) -> Result<Held<'a>, Stop>
+    ensures { Gives held_of result (told (K.known entries.now) (no_part key)) }
 {
-    let part = no_part(sight, &key);
+    let part = no_part(alloc, entries, &key);
     let_go(key);
     part
 }
 
 #[tactic(auto, using(crate::proofs::Answers::answers, arm_env::proofs::Words::words))]
-fn part_of_deployment<'a>(sight: &Sight<'a>, key: Key, index: &Value) -> Result<Held<'a>, Stop>
-    ensures { Gives held_of result (answered (known_by sight.now)
-        (access (here sight.now) (held.deployment key) (json index.now))) }
-{
-    if is_word("outputs", index) {
-        return Ok(Held::Outputs(key));
-    }
-    no_part_at(sight, key)
-}
-
-// An output that is not listed.
-#[tactic(auto, using(crate::proofs::Answers::answers))]
-fn unlisted<'a>(alloc: Global, sight: &Sight<'a>, key: Key, name: &Text) -> Result<Held<'a>, Stop>
-    ensures { Gives held_of result
-        (answered (known_by sight.now) (output_by key name.now None)) }
-{
-    match name.copy(alloc) {
-        Ok(name) => Ok(Held::Unlisted { key, name }),
-        Err(_) => stopped(Stop::OutOfMemory, key),
-    }
-}
-
-#[tactic(auto, using(crate::proofs::Answers::answers))]
-fn output_at<'a>(
+fn part_of_deployment<'a, K: Entries>(
     alloc: Global,
-    sight: &Sight<'a>,
+    entries: &'a K,
     key: Key,
     index: &Value,
 ) -> Result<Held<'a>, Stop>
     ensures { Gives held_of result
-        (answered (known_by sight.now) (output_at (here sight.now) key (json index.now))) }
+        (told (K.known entries.now) (access (held.deployment key) (json index.now))) }
 {
-    match index {
-        Value::Text(name) => match output_named(sight, &key, name) {
-            Some(output) => Ok(Held::Output { key, output }),
-            None => unlisted(alloc, sight, key, name),
-        },
-        _ => no_part_at(sight, key),
+    if is_word("outputs", index) {
+        return Ok(Held::Outputs(key));
     }
+    no_part_at(alloc, entries, key)
 }
 
 #[tactic(auto, using(crate::proofs::Answers::answers))]
-fn kind_of<'a>(
+fn output_at<'a, K: Entries>(
     alloc: Global,
-    sight: &Sight<'a>,
-    key: &Key,
-    output: &OutputAt,
+    entries: &'a K,
+    key: Key,
+    index: &Value,
 ) -> Result<Held<'a>, Stop>
-    ensures { Gives held_of result (answered (known_by sight.now)
-        (kind_of_output (here sight.now) key.now (declared output.now))) }
+    ensures { Gives held_of result
+        (told (K.known entries.now) (output_at key (json index.now))) }
 {
-    look_at_outputs(sight, key)?;
+    match index {
+        Value::Text(name) => match name.copy(alloc) {
+            Ok(name) => Ok(Held::Output { key, name }),
+            Err(_) => stopped(Stop::OutOfMemory, key),
+        },
+        _ => no_part_at(alloc, entries, key),
+    }
+}
+
+// The type of an output.
+#[tactic(auto, using(crate::proofs::Answers::answers))]
+fn kind_of<'a, K: Entries>(
+    alloc: Global,
+    entries: &'a K,
+    key: &Key,
+    name: &Text,
+) -> Result<Held<'a>, Stop>
+    ensures { Gives held_of result (told (K.known entries.now)
+        (held.kind_of_output (record { key = key.now; name = name.now }))) }
+{
+    let output = output_declared(alloc, entries, key, name)?;
     Ok(Held::Owned(Value::Text(output.kind.copy(alloc)?)))
 }
 
 #[tactic(auto, using(crate::proofs::Answers::answers, arm_env::proofs::Words::words))]
-fn part_of_output<'a>(
+fn part_of_output<'a, K: Entries>(
     alloc: Global,
-    sight: &Sight<'a>,
-    key: &Key,
-    output: &OutputAt,
-    index: &Value,
-) -> Result<Held<'a>, Stop>
-    ensures { Gives held_of result (answered (known_by sight.now)
-        (part_of_output (here sight.now) (output_of key.now output.now) (json index.now))) }
-{
-    if is_word("value", index) {
-        return lend(Some(output_value(sight, key, output)?));
-    }
-    if is_word("type", index) {
-        return kind_of(alloc, sight, key, output);
-    }
-    no_part(sight, key)
-}
-
-// The part of an output that is not listed.
-#[tactic(auto, using(crate::proofs::Answers::answers, arm_env::proofs::Words::words))]
-fn part_of_unlisted<'a>(
-    sight: &Sight<'a>,
+    entries: &'a K,
     key: &Key,
     name: &Text,
     index: &Value,
 ) -> Result<Held<'a>, Stop>
-    ensures { Gives held_of result (answered (known_by sight.now)
-        (part_of_no_output (here sight.now) (record { key = key.now; name = name.now })
-        (json index.now))) }
+    ensures { Gives held_of result (told (K.known entries.now)
+        (part_of_output (record { key = key.now; name = name.now }) (json index.now))) }
 {
     if is_word("value", index) {
-        return lend(Some(value_named(sight, key, name)?));
+        return lend(Some(value_named(alloc, entries, key, name)?));
     }
-    no_part(sight, key)
+    if is_word("type", index) {
+        return kind_of(alloc, entries, key, name);
+    }
+    no_part(alloc, entries, key)
 }
 
 /// The part under a name or at a place.
 #[tactic(auto, using(crate::proofs::Answers::answers))]
-pub(crate) fn access<'a>(
+pub(crate) fn access<'a, K: Entries>(
     alloc: Global,
-    sight: &Sight<'a>,
+    entries: &'a K,
     base: Held<'a>,
     index: &Value,
 ) -> Result<Held<'a>, Stop>
-    ensures { Gives held_of result (answered (known_by sight.now)
-        (access (here sight.now) (held_of base.entry) (json index.now))) }
+    ensures { Gives held_of result
+        (told (K.known entries.now) (access (held_of base.entry) (json index.now))) }
 {
     match base {
         Held::Owned(value) => own_part(alloc, value, index),
         Held::Lent(value) => lend(part_of(value, index)),
         Held::Whole(value) => lend(part_of(value, index)),
-        Held::Deployment(key) => part_of_deployment(sight, key, index),
-        Held::Outputs(key) => output_at(alloc, sight, key, index),
-        Held::Output { key, output } => {
-            let part = part_of_output(alloc, sight, &key, output, index);
-            let_go(key);
-            part
-        }
-        Held::Unlisted { key, name } => {
-            let part = part_of_unlisted(sight, &key, &name, index);
+        Held::Deployment(key) => part_of_deployment(alloc, entries, key, index),
+        Held::Outputs(key) => output_at(alloc, entries, key, index),
+        Held::Output { key, name } => {
+            let part = part_of_output(alloc, entries, &key, &name, index);
             let_go((key, name));
             part
         }
@@ -178,63 +147,60 @@ pub(crate) fn access<'a>(
 }
 
 // The part at an index, which is dropped.
-fn access_at<'a>(
+fn access_at<'a, K: Entries>(
     alloc: Global,
-    sight: &Sight<'a>,
+    entries: &'a K,
     base: Held<'a>,
     index: Value,
 ) -> Result<Held<'a>, Stop>
-    ensures { Gives held_of result (answered (known_by sight.now)
-        (access (here sight.now) (held_of base.entry) (json index))) }
+    ensures { Gives held_of result
+        (told (K.known entries.now) (access (held_of base.entry) (json index))) }
 {
-    let part = access(alloc, sight, base, &index);
+    let part = access(alloc, entries, base, &index);
     let_go(index);
     part
 }
 
+// Looks at all outputs of the nested deployment, and at one of them.
+fn look_at_output<K: Entries>(
+    alloc: Global,
+    entries: &K,
+    key: &Key,
+    name: &Text,
+) -> Result<(), Stop>
+    ensures { Sees result (told (K.known entries.now)
+        (forced (held.one_output (record { key = key.now; name = name.now })))) }
+{
+    let output = output_declared(alloc, entries, key, name)?;
+    let _value = output_value(alloc, entries, key, &output)?;
+    Ok(())
+}
+
 // Looks at all that the whole looks at.
-fn look_at_all<'a>(sight: &Sight<'a>, base: &Held<'a>) -> Result<(), Stop>
-    ensures { Sees result
-        (answered (known_by sight.now) (forced (here sight.now) (held_of base.now))) }
+fn look_at_all<'a, K: Entries>(alloc: Global, entries: &'a K, base: &Held<'a>) -> Result<(), Stop>
+    ensures { Sees result (told (K.known entries.now) (forced (held_of base.now))) }
 {
     match base {
         Held::Owned(_value) => Ok(()),
         Held::Lent(_value) => Ok(()),
         Held::Whole(_value) => Ok(()),
-        Held::Deployment(key) => look_at_outputs(sight, key),
-        Held::Outputs(key) => look_at_outputs(sight, key),
-        Held::Output { key, output } => look_at_output(sight, key, output),
-        Held::Unlisted { key, name: _name } => look_at_unlisted(sight, key),
+        Held::Deployment(key) => look_at_outputs(alloc, entries, key),
+        Held::Outputs(key) => look_at_outputs(alloc, entries, key),
+        Held::Output { key, name } => look_at_output(alloc, entries, key, name),
     }
-}
-
-// Looks at all outputs of the nested deployment, and at one of them.
-fn look_at_output(sight: &Sight, key: &Key, output: &OutputAt) -> Result<(), Stop>
-    ensures { Sees result (answered (known_by sight.now)
-        (forced (here sight.now) (held.one_output (output_of key.now output.now)))) }
-{
-    look_at_outputs(sight, key)?;
-    let _value = output_value(sight, key, output)?;
-    Ok(())
-}
-
-// Looks at all outputs of the nested deployment, and finds no value.
-#[tactic(auto, using(crate::proofs::Answers::answers))]
-fn look_at_unlisted(sight: &Sight, key: &Key) -> Result<(), Stop>
-    ensures { Sees {A = Json} result
-        (answered (known_by sight.now) (no_part (here sight.now) key.now)) }
-{
-    look_at_outputs(sight, key)?;
-    Err(Stop::NoValue)
 }
 
 // No value, after a look at all that the whole looks at.
 #[tactic(auto, using(crate::proofs::Answers::answers))]
-fn nothing_in<'a>(sight: &Sight<'a>, base: Held<'a>) -> Result<Held<'a>, Stop>
+fn nothing_in<'a, K: Entries>(
+    alloc: Global,
+    entries: &'a K,
+    base: Held<'a>,
+) -> Result<Held<'a>, Stop>
     ensures { Gives held_of result
-        (answered (known_by sight.now) (access_by (here sight.now) (held_of base.entry) None)) }
+        (told (K.known entries.now) (access_by (held_of base.entry) None)) }
 {
-    let looked = look_at_all(sight, &base);
+    let looked = look_at_all(alloc, entries, &base);
     let_go(base);
     match looked {
         Ok(()) => Err(Stop::NoValue),
@@ -244,50 +210,50 @@ fn nothing_in<'a>(sight: &Sight<'a>, base: Held<'a>) -> Result<Held<'a>, Stop>
 
 /// The part at an index that may have no value.
 #[tactic(auto, using(crate::proofs::Answers::answers))]
-pub(crate) fn access_by<'a>(
+pub(crate) fn access_by<'a, K: Entries>(
     alloc: Global,
-    sight: &Sight<'a>,
+    entries: &'a K,
     base: Held<'a>,
     index: Option<Value>,
 ) -> Result<Held<'a>, Stop>
-    ensures { Gives held_of result (answered (known_by sight.now)
-        (access_by (here sight.now) (held_of base.entry) (option_map json index))) }
+    ensures { Gives held_of result
+        (told (K.known entries.now) (access_by (held_of base.entry) (option_map json index))) }
 {
     match index {
-        Some(index) => access_at(alloc, sight, base, index),
-        None => nothing_in(sight, base),
+        Some(index) => access_at(alloc, entries, base, index),
+        None => nothing_in(alloc, entries, base),
     }
 }
 
 /// The part at an index, where the whole may have no value.
 #[tactic(auto, using(crate::proofs::Answers::answers))]
-pub(crate) fn indexed<'a>(
+pub(crate) fn indexed<'a, K: Entries>(
     alloc: Global,
-    sight: &Sight<'a>,
+    entries: &'a K,
     base: Option<Held<'a>>,
     index: Option<Value>,
 ) -> Result<Held<'a>, Stop>
-    ensures { Gives held_of result (answered (known_by sight.now)
-        (indexed (here sight.now) (option_map held_of base.entry) (option_map json index))) }
+    ensures { Gives held_of result (told (K.known entries.now)
+        (indexed (option_map held_of base.entry) (option_map json index))) }
 {
     match base {
-        Some(base) => access_by(alloc, sight, base, index),
+        Some(base) => access_by(alloc, entries, base, index),
         None => stopped(Stop::NoValue, index),
     }
 }
 
 /// The part under a name.
-pub(crate) fn member<'a>(
+pub(crate) fn member<'a, K: Entries>(
     alloc: Global,
-    sight: &Sight<'a>,
+    entries: &'a K,
     base: Held<'a>,
     name: &Text,
 ) -> Result<Held<'a>, Stop>
-    ensures { Gives held_of result (answered (known_by sight.now)
-        (access (here sight.now) (held_of base.entry) (text name.now))) }
+    ensures { Gives held_of result
+        (told (K.known entries.now) (access (held_of base.entry) (text name.now))) }
 {
     match name.copy(alloc) {
-        Ok(name) => access_at(alloc, sight, base, Value::Text(name)),
+        Ok(name) => access_at(alloc, entries, base, Value::Text(name)),
         Err(_) => stopped(Stop::OutOfMemory, base),
     }
 }
@@ -295,7 +261,7 @@ pub(crate) fn member<'a>(
 // The nested deployment at a key, as `reference` shows it.
 fn shown(alloc: Global, fields: Fields) -> Result<Value, Stop>
     ensures { Gives json result
-        (given (kept (object_of ((codes "outputs", object (pairs fields)) ∷ [])))) }
+        (finished (kept (object_of ((codes "outputs", object (pairs fields)) ∷ [])))) }
 {
     let outputs = keep(Value::Object(fields))?;
     let whole = with_value(alloc, Fields::new(), "outputs", outputs)?;
@@ -303,64 +269,58 @@ fn shown(alloc: Global, fields: Fields) -> Result<Value, Stop>
 }
 
 #[tactic(auto, using(crate::proofs::Answers::answers))]
-fn used_output(alloc: Global, sight: &Sight, key: &Key, output: &OutputAt) -> Result<Value, Stop>
-    ensures { Gives json result (answered (known_by sight.now)
-        (capped (forced (here sight.now) (held.one_output (output_of key.now output.now))))) }
+fn used_output<K: Entries>(
+    alloc: Global,
+    entries: &K,
+    key: &Key,
+    name: &Text,
+) -> Result<Value, Stop>
+    ensures { Gives json result (told (K.known entries.now)
+        (capped (forced (held.one_output (record { key = key.now; name = name.now }))))) }
 {
-    look_at_outputs(sight, key)?;
-    let value = output_value(sight, key, output)?;
-    keep(typed(alloc, output, value)?)
-}
-
-// The value of an output that is not listed, where no part of it is accessed.
-#[tactic(auto, using(crate::proofs::Answers::answers))]
-fn used_unlisted(sight: &Sight, key: &Key) -> Result<Value, Stop>
-    ensures { Gives json result
-        (answered (known_by sight.now) (capped (no_part (here sight.now) key.now))) }
-{
-    look_at_outputs(sight, key)?;
-    Err(Stop::NoValue)
+    let output = output_declared(alloc, entries, key, name)?;
+    let value = output_value(alloc, entries, key, &output)?;
+    keep(typed(alloc, &output, value)?)
 }
 
 #[tactic(auto, using(crate::proofs::Answers::answers))]
-fn used_deployment(alloc: Global, sight: &Sight, key: Key) -> Result<Value, Stop>
+fn used_deployment<K: Entries>(alloc: Global, entries: &K, key: Key) -> Result<Value, Stop>
     ensures { Gives json result
-        (answered (known_by sight.now) (capped (forced (here sight.now) (held.deployment key)))) }
+        (told (K.known entries.now) (capped (forced (held.deployment key)))) }
 {
-    let fields = fields_at(alloc, sight, &key);
+    let fields = fields_at(alloc, entries, &key);
     let_go(key);
     shown(alloc, fields?)
 }
 
 #[tactic(auto, using(crate::proofs::Answers::answers))]
-fn used_outputs(alloc: Global, sight: &Sight, key: Key) -> Result<Value, Stop>
+fn used_outputs<K: Entries>(alloc: Global, entries: &K, key: Key) -> Result<Value, Stop>
     ensures { Gives json result
-        (answered (known_by sight.now) (capped (forced (here sight.now) (held.outputs key)))) }
+        (told (K.known entries.now) (capped (forced (held.outputs key)))) }
 {
-    let fields = fields_at(alloc, sight, &key);
+    let fields = fields_at(alloc, entries, &key);
     let_go(key);
     keep(Value::Object(fields?))
 }
 
 /// The value of what is held, where no part of it is accessed.
 #[tactic(auto, using(crate::proofs::Answers::answers))]
-pub(crate) fn used<'a>(alloc: Global, sight: &Sight<'a>, held: Held<'a>) -> Result<Value, Stop>
+pub(crate) fn used<'a, K: Entries>(
+    alloc: Global,
+    entries: &'a K,
+    held: Held<'a>,
+) -> Result<Value, Stop>
     ensures { Gives json result
-        (answered (known_by sight.now) (capped (forced (here sight.now) (held_of held.entry)))) }
+        (told (K.known entries.now) (capped (forced (held_of held.entry)))) }
 {
     match held {
         Held::Owned(value) => keep(value),
         Held::Lent(value) => keep_copy(alloc, value),
         Held::Whole(value) => keep_copy(alloc, value),
-        Held::Deployment(key) => used_deployment(alloc, sight, key),
-        Held::Outputs(key) => used_outputs(alloc, sight, key),
-        Held::Output { key, output } => {
-            let value = used_output(alloc, sight, &key, output);
-            let_go(key);
-            value
-        }
-        Held::Unlisted { key, name } => {
-            let value = used_unlisted(sight, &key);
+        Held::Deployment(key) => used_deployment(alloc, entries, key),
+        Held::Outputs(key) => used_outputs(alloc, entries, key),
+        Held::Output { key, name } => {
+            let value = used_output(alloc, entries, &key, &name);
             let_go((key, name));
             value
         }

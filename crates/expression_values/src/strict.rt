@@ -4,29 +4,32 @@ ghost use Rattle.arm_value.specs.Json.{Json, text};
 ghost use Rattle.arm_value.specs.View.{json};
 ghost use Rattle.arm_value.specs.Look.{fold};
 ghost use Rattle.arm_functions.specs.Values.{function_value};
-ghost use Rattle.reading.specs.Reading.{read};
-ghost use Rattle.arm_env.specs.Look.{parameter, variable};
+ghost use Rattle.reading.specs.Reading.{continued, done};
+ghost use Rattle.reading.specs.Knowledge.{told};
+ghost use Rattle.arm_env.specs.Look.{parameter, variable, seen, json_in};
 ghost use Rattle.arm_env.specs.Names.{strict_named};
+ghost use Rattle.arm_env.specs.Find.{id_key};
+ghost use Rattle.arm_env.specs.Id.{resource_id, subscription_id};
 ghost use Rattle.expression_values.specs.Row as row;
 ghost use Rattle.expression_values.specs.Row.{texts_in};
 ghost use Rattle.arm_env.specs.Held.{held_value};
-ghost use Rattle.expression_values.specs.Meaning.{state_asked, referred, reference, strict_row, strict_call};
-ghost use Rattle.arm_env.specs.declared.function.Strict.TheVariants as strict;
+ghost use Rattle.expression_values.specs.Meaning.{state_asked, found_at, referred, key_meant, reference, strict_row};
+ghost use Rattle.expression_values.specs.Meaning.{strict_call};
+ghost use Rattle.expression_values.specs.Args.{id_told};
 ghost use Rattle.function_numbers.specs.Kinds.{of_none};
-ghost use Rattle.arm_env.specs.Answer.{answered, plain_answer, Gives};
-ghost use Rattle.arm_env.specs.Sight.{known_by, here, held_of};
+ghost use Rattle.arm_env.specs.Answer.{plain_told, Gives};
+ghost use Rattle.arm_env.specs.Sight.{here, held_of};
 
-use arm_env::find::key_named;
+use arm_env::entries::{Around, Entries};
+use arm_env::find::id_key;
 use arm_env::function::{Asked, Strict, strict_named};
 use arm_env::held::{Held, lend, own};
 use arm_env::ids::{resource_id, subscription_id};
 use arm_env::loops::copy_index;
 use arm_env::objects::{deployment, resource_group, subscription};
-use arm_env::outputs::is_deployment;
-use arm_env::sight::{Sight, parameter, state, variable};
 use arm_env::stop::{Stop, let_go, stopped};
 use arm_functions::{FunctionFault, call};
-use arm_ids::Key;
+use arm_ids::{Key, Place};
 use arm_value::{OutOfMemory, Text, Texts, Value};
 use function_numbers::kinds::text_of;
 use std::alloc::{AllocError, Global};
@@ -133,107 +136,158 @@ fn texts_in(alloc: Global, args: &[Value]) -> Result<Option<Texts>, OutOfMemory>
 }
 
 #[tactic(auto, using(crate::proofs::Answers::answers, arm_env::proofs::Words::words))]
-fn state_asked<'a>(
+fn state_asked<'a, K: Entries>(
     alloc: Global,
-    sight: &Sight<'a>,
+    entries: &'a K,
     key: &Key,
     asked: Asked,
 ) -> Result<Held<'a>, Stop>
-    ensures { Gives held_of result (answered (known_by sight.now) (state_asked key.now asked)) }
+    ensures { Gives held_of result (told (K.known entries.now) (state_asked key.now asked)) }
 {
-    let state = state(alloc, sight, key)?;
+    let state = entries.state(alloc, key)?;
     match asked {
         Asked::Properties => lend(state.look("properties")),
         Asked::Whole => Ok(Held::Whole(state)),
     }
 }
 
-// A nested deployment, or else a resource.
-#[tactic(auto, using(crate::proofs::Answers::answers))]
-fn referred<'a>(alloc: Global, sight: &Sight<'a>, asked: Asked, key: Key) -> Result<Held<'a>, Stop>
-    ensures { Gives held_of result
-        (answered (known_by sight.now) (referred (here sight.now) asked key)) }
+// A resource, where the key is dropped.
+fn state_at<'a, K: Entries>(
+    alloc: Global,
+    entries: &'a K,
+    key: Key,
+    asked: Asked,
+) -> Result<Held<'a>, Stop>
+    ensures { Gives held_of result (told (K.known entries.now) (state_asked key asked)) }
 {
-    if is_deployment(sight, &key) {
+    let state = state_asked(alloc, entries, &key, asked);
+    let_go(key);
+    state
+}
+
+// A nested deployment where one is found, or else a resource.
+#[tactic(auto, using(crate::proofs::Answers::answers))]
+fn found_at<'a, K: Entries>(
+    alloc: Global,
+    entries: &'a K,
+    asked: Asked,
+    key: Key,
+    is_found: bool,
+) -> Result<Held<'a>, Stop>
+    ensures { Gives held_of result (told (K.known entries.now) (found_at asked key is_found)) }
+{
+    if is_found {
         Ok(Held::Deployment(key))
     } else {
-        let state = state_asked(alloc, sight, &key, asked);
-        let_go(key);
-        state
+        state_at(alloc, entries, key, asked)
+    }
+}
+
+// A nested deployment, or else a resource.
+#[tactic(auto, using(crate::proofs::Answers::answers))]
+fn referred<'a, K: Entries>(
+    alloc: Global,
+    entries: &'a K,
+    asked: Asked,
+    key: Key,
+) -> Result<Held<'a>, Stop>
+    ensures { Gives held_of result (told (K.known entries.now) (referred asked key)) }
+{
+    match entries.is_deployment(alloc, &key) {
+        Ok(is_found) => found_at(alloc, entries, asked, key, is_found),
+        Err(stop) => stopped(stop, key),
+    }
+}
+
+// The key of an id, or that which another text stands for.
+#[tactic(auto, using(crate::proofs::Answers::answers))]
+fn key_meant<K: Entries>(alloc: Global, entries: &K, text: &Text) -> Result<Key, Stop>
+    ensures { Gives (λ k. k) result
+        (told (K.known entries.now) (key_meant text.now (id_key text.now))) }
+{
+    match id_key(alloc, text)? {
+        Some(key) => Ok(key),
+        None => entries.named(alloc, text),
     }
 }
 
 #[tactic(auto, using(crate::proofs::Answers::answers))]
-fn reference<'a>(
+fn reference<'a, K: Entries>(
     alloc: Global,
-    sight: &Sight<'a>,
+    entries: &'a K,
     text: &Text,
     asked: Asked,
 ) -> Result<Held<'a>, Stop>
-    ensures { Gives held_of result
-        (answered (known_by sight.now) (reference (here sight.now) (text.now, asked))) }
+    ensures { Gives held_of result (told (K.known entries.now) (reference (text.now, asked))) }
 {
-    match key_named(alloc, sight, text)? {
-        Some(key) => referred(alloc, sight, asked, key),
-        None => Err(Stop::NoValue),
-    }
+    let key = key_meant(alloc, entries, text)?;
+    referred(alloc, entries, asked, key)
 }
 
 #[tactic(auto, using(crate::proofs::Answers::answers))]
-fn reference_row<'a>(alloc: Global, sight: &Sight<'a>, args: &[Value]) -> Result<Held<'a>, Stop>
-    ensures { Gives held_of result (answered (known_by sight.now)
-        (strict_row (here sight.now) strict.Reference (map json args.now))) }
-{
-    match asked(args) {
-        Some((text, asked)) => reference(alloc, sight, text, asked),
-        None => Err(Stop::NoValue),
-    }
-}
-
-#[tactic(auto, using(crate::proofs::Answers::answers))]
-fn parameter_row<'a>(sight: &Sight<'a>, args: &[Value]) -> Result<Held<'a>, Stop>
-    ensures { Gives held_of result (answered (known_by sight.now)
-        (strict_row (here sight.now) strict.Parameters (map json args.now))) }
-{
-    match only_text(args) {
-        Some(name) => lend(Some(parameter(sight, name)?)),
-        None => Err(Stop::NoValue),
-    }
-}
-
-#[tactic(auto, using(crate::proofs::Answers::answers))]
-fn variable_row<'a>(sight: &Sight<'a>, args: &[Value]) -> Result<Held<'a>, Stop>
-    ensures { Gives held_of result (answered (known_by sight.now)
-        (strict_row (here sight.now) strict.Variables (map json args.now))) }
-{
-    match only_text(args) {
-        Some(name) => lend(Some(variable(sight, name)?)),
-        None => Err(Stop::NoValue),
-    }
-}
-
-#[tactic(auto, using(crate::proofs::Answers::answers))]
-fn resource_id_row<'a>(alloc: Global, sight: &Sight<'a>, args: &[Value]) -> Result<Held<'a>, Stop>
-    ensures { Gives held_of result (answered (known_by sight.now)
-        (strict_row (here sight.now) strict.ResourceId (map json args.now))) }
-{
-    match texts_in(alloc, args)? {
-        Some(texts) => own(resource_id(alloc, sight.env.place, texts.as_slice())?),
-        None => Err(Stop::NoValue),
-    }
-}
-
-#[tactic(auto, using(crate::proofs::Answers::answers))]
-fn subscription_id_row<'a>(
+fn reference_row<'a, K: Entries>(
     alloc: Global,
-    sight: &Sight<'a>,
+    entries: &'a K,
     args: &[Value],
 ) -> Result<Held<'a>, Stop>
-    ensures { Gives held_of result (answered (known_by sight.now)
-        (strict_row (here sight.now) strict.SubscriptionResourceId (map json args.now))) }
+    ensures { Gives held_of result (told (K.known entries.now)
+        (continued (done (row.asked (map json args.now))) reference)) }
+{
+    match asked(args) {
+        Some((text, asked)) => reference(alloc, entries, text, asked),
+        None => Err(Stop::NoValue),
+    }
+}
+
+#[tactic(auto, using(crate::proofs::Answers::answers))]
+fn parameter_row<'a, K: Entries>(
+    alloc: Global,
+    entries: &'a K,
+    args: &[Value],
+) -> Result<Held<'a>, Stop>
+    ensures { Gives held_of result (told (K.known entries.now)
+        (continued (done (row.only_text (map json args.now)))
+        (λ name. held_value (seen json_in (parameter (fold name)))))) }
+{
+    match only_text(args) {
+        Some(name) => lend(Some(entries.parameter(alloc, name)?)),
+        None => Err(Stop::NoValue),
+    }
+}
+
+#[tactic(auto, using(crate::proofs::Answers::answers))]
+fn variable_row<'a, K: Entries>(
+    alloc: Global,
+    entries: &'a K,
+    args: &[Value],
+) -> Result<Held<'a>, Stop>
+    ensures { Gives held_of result (told (K.known entries.now)
+        (continued (done (row.only_text (map json args.now)))
+        (λ name. held_value (seen json_in (variable (fold name)))))) }
+{
+    match only_text(args) {
+        Some(name) => lend(Some(entries.variable(alloc, name)?)),
+        None => Err(Stop::NoValue),
+    }
+}
+
+// `resourceId`.
+fn resource_id_row<'a>(alloc: Global, place: &Place, args: &[Value]) -> Result<Held<'a>, Stop>
+    ensures { Gives held_of result (id_told (resource_id place.now) (texts_in (map json args.now))) }
 {
     match texts_in(alloc, args)? {
-        Some(texts) => own(subscription_id(alloc, sight.env.place, texts.as_slice())?),
+        Some(texts) => own(resource_id(alloc, place, texts.as_slice())?),
+        None => Err(Stop::NoValue),
+    }
+}
+
+// `subscriptionResourceId`.
+fn subscription_id_row<'a>(alloc: Global, place: &Place, args: &[Value]) -> Result<Held<'a>, Stop>
+    ensures { Gives held_of result
+        (id_told (subscription_id place.now) (texts_in (map json args.now))) }
+{
+    match texts_in(alloc, args)? {
+        Some(texts) => own(subscription_id(alloc, place, texts.as_slice())?),
         None => Err(Stop::NoValue),
     }
 }
@@ -241,7 +295,7 @@ fn subscription_id_row<'a>(
 // What a function without arguments gives.
 #[tactic(auto, using(crate::proofs::Answers::answers))]
 fn of_none<'a>(args: &[Value], value: Value) -> Result<Held<'a>, Stop>
-    ensures { Gives held_of result (plain_answer (of_none (json value) (map json args.now))) }
+    ensures { Gives held_of result (plain_told (of_none (json value) (map json args.now))) }
 {
     if args.is_empty() {
         own(Some(value))
@@ -250,43 +304,45 @@ fn of_none<'a>(args: &[Value], value: Value) -> Result<Held<'a>, Stop>
     }
 }
 
-// The value of a function that needs an environment.
+// The value of a function that needs more than its arguments.
 #[tactic(auto, using(crate::proofs::Answers::answers))]
-fn strict_row<'a>(
+fn strict_row<'a, K: Entries>(
     alloc: Global,
-    sight: &Sight<'a>,
+    entries: &'a K,
+    around: &Around,
     function: Strict,
     args: &[Value],
 ) -> Result<Held<'a>, Stop>
-    ensures { Gives held_of result
-        (answered (known_by sight.now) (strict_row (here sight.now) function (map json args.now))) }
+    ensures { Gives held_of result (told (K.known entries.now)
+        (strict_row (here around.now) function (map json args.now))) }
 {
     match function {
-        Strict::Parameters => parameter_row(sight, args),
-        Strict::Variables => variable_row(sight, args),
-        Strict::Reference => reference_row(alloc, sight, args),
-        Strict::CopyIndex => own(copy_index(sight.loops, args)),
-        Strict::ResourceId => resource_id_row(alloc, sight, args),
-        Strict::SubscriptionResourceId => subscription_id_row(alloc, sight, args),
-        Strict::ResourceGroup => of_none(args, resource_group(alloc, sight.env.place)?),
-        Strict::Subscription => of_none(args, subscription(alloc, sight.env.place)?),
-        Strict::Deployment => of_none(args, deployment(alloc, sight.env.place)?),
+        Strict::Parameters => parameter_row(alloc, entries, args),
+        Strict::Variables => variable_row(alloc, entries, args),
+        Strict::Reference => reference_row(alloc, entries, args),
+        Strict::CopyIndex => own(copy_index(around.loops, args)),
+        Strict::ResourceId => resource_id_row(alloc, around.place, args),
+        Strict::SubscriptionResourceId => subscription_id_row(alloc, around.place, args),
+        Strict::ResourceGroup => of_none(args, resource_group(alloc, around.place)?),
+        Strict::Subscription => of_none(args, subscription(alloc, around.place)?),
+        Strict::Deployment => of_none(args, deployment(alloc, around.place)?),
     }
 }
 
 /// The value of a function of the values of all its arguments.
 #[tactic(auto, using(crate::proofs::Answers::answers))]
-pub(crate) fn strict_call<'a>(
+pub(crate) fn strict_call<'a, K: Entries>(
     alloc: Global,
-    sight: &Sight<'a>,
+    entries: &'a K,
+    around: &Around,
     name: &Text,
     args: &[Value],
 ) -> Result<Held<'a>, Stop>
-    ensures { Gives held_of result (answered (known_by sight.now)
-        (strict_call (here sight.now) name.now (strict_named name.now) (map json args.now))) }
+    ensures { Gives held_of result (told (K.known entries.now)
+        (strict_call (here around.now) name.now (strict_named name.now) (map json args.now))) }
 {
     match strict_named(name) {
-        Some(function) => strict_row(alloc, sight, function, args),
+        Some(function) => strict_row(alloc, entries, around, function, args),
         None => own(plain_call(alloc, name, args)?),
     }
 }

@@ -1,7 +1,10 @@
 // What the expressions of the tests can look at, and walkers over tables of their answers.
 
+use arm_env::cell::Cell;
+use arm_env::entries::Around;
 use arm_env::env::{Env, Looping, ModuleAt, Named, OutputAt, Seen, Slot, Spelled, StateAt};
-use arm_eval::{Got, eval, eval_tree};
+use arm_env::stop::Stop;
+use arm_eval::{Content, Got, eval, eval_tree, output_value};
 use arm_expr::{Expr, read};
 use arm_ids::{Key, Place};
 use arm_value::{OutOfMemory, Text, Value};
@@ -28,8 +31,8 @@ fn slot(alloc: Global, known: &str) -> Result<Slot, Fail> {
     Ok(Slot::Known(Value::from_json(alloc, known.as_bytes())?))
 }
 
-// Adds the item last.
-fn push<T: Drop>(list: &mut Vec<T>, item: T) -> Result<(), Fail> {
+/// Adds the item last.
+pub fn push<T: Drop>(list: &mut Vec<T>, item: T) -> Result<(), Fail> {
     match list.push(item) {
         Ok(()) => Ok(()),
         Err(_) => Err(Fail::from("out of memory")),
@@ -158,6 +161,8 @@ pub fn empty<'a>(alloc: Global, place: &'a Place) -> Env<'a> {
         states: Vec::new(alloc),
         names: Vec::new(alloc),
         modules: Vec::new(alloc),
+        symbols: Vec::new(alloc),
+        inside_name: false,
     }
 }
 
@@ -198,8 +203,8 @@ fn fill_loops(alloc: Global, loops: &mut Vec<Looping>) -> Result<(), Fail> {
     add_loop(alloc, loops, "Disks", 7, false)
 }
 
-// Adds the entries that the tables of the tests speak of.
-fn fill(alloc: Global, env: &mut Env) -> Result<(), Fail> {
+/// Adds the entries that the tables of the tests speak of.
+pub fn fill(alloc: Global, env: &mut Env) -> Result<(), Fail> {
     add_named(alloc, &mut env.parameters, PARAMETERS)?;
     add_named(alloc, &mut env.variables, VARIABLES)?;
     fill_loops(alloc, &mut env.loops)?;
@@ -240,11 +245,7 @@ pub fn compare_got(alloc: Global, asked: &str, got: &Got, wanted: &str) -> Resul
     match got {
         Got::Value(value) => compare_json(alloc, asked, value, wanted),
         Got::NoValue => compare(asked, "none", wanted),
-        Got::Needs(key) => {
-            let id = key.to_id(alloc)?;
-            let wanted = wanted.strip_prefix("needs ").unwrap_or("another answer");
-            compare(asked, id.as_str(), wanted)
-        }
+        Got::Needs(key) => compare_needs(alloc, asked, key, wanted),
         Got::Late => compare(asked, "late", wanted),
     }
 }
@@ -267,11 +268,122 @@ fn check_tree(alloc: Global, env: &Env, text: &str, wanted: &str) -> Result<(), 
     compare_got(alloc, text, &got, wanted)
 }
 
+/// Compares the compact text of a value that was found, or what is known in place of one.
+pub fn compare_found(
+    alloc: Global,
+    asked: &str,
+    found: &Result<Value, Stop>,
+    wanted: &str,
+) -> Result<(), Fail> {
+    match found {
+        Ok(value) => compare_json(alloc, asked, value, wanted),
+        Err(stop) => compare_stop(alloc, asked, stop, wanted),
+    }
+}
+
+/// Compares what is known in place of a value.
+pub fn compare_stop(alloc: Global, asked: &str, stop: &Stop, wanted: &str) -> Result<(), Fail> {
+    match stop {
+        Stop::NoValue => compare(asked, "none", wanted),
+        Stop::Waits(cell) => compare_cell(alloc, asked, cell, wanted),
+        Stop::OutOfMemory => Err(Fail::from("out of memory")),
+    }
+}
+
+// Compares the cell that is waited for; all but states are late.
+fn compare_cell(alloc: Global, asked: &str, cell: &Cell, wanted: &str) -> Result<(), Fail> {
+    match cell {
+        Cell::State(key) => compare_needs(alloc, asked, key, wanted),
+        _ => compare(asked, "late", wanted),
+    }
+}
+
+// Compares the id of a key that is needed; `needs` goes before the wanted one.
+fn compare_needs(alloc: Global, asked: &str, key: &Key, wanted: &str) -> Result<(), Fail> {
+    let id = key.to_id(alloc)?;
+    let wanted = wanted.strip_prefix("needs ").unwrap_or("another answer");
+    compare(asked, id.as_str(), wanted)
+}
+
+// Compares the value of an output, or `left away`.
+fn compare_there(
+    alloc: Global,
+    asked: &str,
+    there: &Option<Value>,
+    wanted: &str,
+) -> Result<(), Fail> {
+    match there {
+        Some(value) => compare_json(alloc, asked, value, wanted),
+        None => compare(asked, "left away", wanted),
+    }
+}
+
+// Compares what there is of an output, or what is known in place of it.
+fn compare_output(
+    alloc: Global,
+    asked: &str,
+    found: &Result<Option<Value>, Stop>,
+    wanted: &str,
+) -> Result<(), Fail> {
+    match found {
+        Ok(there) => compare_there(alloc, asked, there, wanted),
+        Err(stop) => compare_stop(alloc, asked, stop, wanted),
+    }
+}
+
+// The member of that name.
+fn part<'a>(whole: &'a Value, name: &str) -> Result<&'a Value, Fail> {
+    match whole.look(name) {
+        Some(part) => Ok(part),
+        None => Err(Fail::from("a member is missing")),
+    }
+}
+
+// What gives the output its value: its `copy`, or else its `value`.
+fn content(output: &Value) -> Result<Content<'_>, Fail> {
+    match output.look("copy") {
+        Some(copy) => Ok(Content::Copy {
+            count: part(copy, "count")?,
+            input: part(copy, "input")?,
+        }),
+        None => Ok(Content::Tree(part(output, "value")?)),
+    }
+}
+
+// Compares an output with its condition, by what gives it its value.
+fn check_content(
+    alloc: Global,
+    env: &Env,
+    content: &Content,
+    condition: Option<&Value>,
+    line: (&str, &str),
+) -> Result<(), Fail> {
+    let around = Around {
+        loops: env.loops.as_slice(),
+        place: env.place,
+    };
+    let found = output_value(alloc, env, &around, condition, content);
+    compare_output(alloc, line.0, &found, line.1)
+}
+
+fn check_parts(alloc: Global, env: &Env, output: &Value, line: (&str, &str)) -> Result<(), Fail> {
+    match content(output) {
+        Ok(content) => check_content(alloc, env, &content, output.look("condition"), line),
+        Err(fail) => Err(fail),
+    }
+}
+
+fn check_output(alloc: Global, env: &Env, text: &str, wanted: &str) -> Result<(), Fail> {
+    let output = Value::from_json(alloc, text.as_bytes())?;
+    check_parts(alloc, env, &output, (text, wanted))
+}
+
 /// What the texts of a table are.
 #[derive(Clone, Copy)]
 pub enum Texts {
     Expressions,
     Trees,
+    Outputs,
 }
 
 fn check_lines(alloc: Global, env: &Env, texts: Texts, table: &str) -> Result<(), Fail> {
@@ -280,6 +392,7 @@ fn check_lines(alloc: Global, env: &Env, texts: Texts, table: &str) -> Result<()
         match texts {
             Texts::Expressions => check_expression(alloc, env, text, wanted)?,
             Texts::Trees => check_tree(alloc, env, text, wanted)?,
+            Texts::Outputs => check_output(alloc, env, text, wanted)?,
         }
     }
     Ok(())

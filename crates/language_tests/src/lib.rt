@@ -13,14 +13,18 @@ mod environment;
 #[cfg(test)]
 mod expressions;
 #[cfg(test)]
+mod forms;
+#[cfg(test)]
 mod limits;
 #[cfg(test)]
 mod names;
+#[cfg(test)]
+mod outputs;
 #[cfg(test)]
 mod references;
 #[cfg(test)]
 mod spelling;
 #[cfg(test)]
-mod trees;
+mod symbols;
 #[cfg(test)]
-mod unlisted;
+mod trees;

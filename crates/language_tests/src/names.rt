@@ -1,10 +1,12 @@
 // Loops around, and what a name means, in environments of their own.
 
-use crate::environment::{add_loop, add_module, add_names, compare, compare_value, empty, place};
-use arm_env::env::{Env, Looping, Unlisted};
-use arm_env::find::key_named;
+use crate::environment::{
+    add_loop, add_module, add_names, compare, compare_stop, compare_value, empty, place,
+};
+use arm_env::entries::Entries;
+use arm_env::env::{Env, Looping};
 use arm_env::loops::copy_index;
-use arm_env::sight::Sight;
+use arm_env::stop::Stop;
 use arm_ids::Key;
 use arm_value::{Text, Value};
 use std::alloc::Global;
@@ -66,26 +68,28 @@ fn without_a_main_loop_the_nearest_counts(rt: HostRuntime) -> Result<(), Fail> {
     check_index(rt.alloc(), &loops, "[]", "3")
 }
 
-fn compare_key(alloc: Global, asked: &str, key: &Option<Key>, wanted: &str) -> Result<(), Fail> {
-    match key {
-        Some(key) => {
-            let id = key.to_id(alloc)?;
-            compare(asked, id.as_str(), wanted)
-        }
-        None => compare(asked, "none", wanted),
+fn compare_key(alloc: Global, asked: &str, key: &Key, wanted: &str) -> Result<(), Fail> {
+    let id = key.to_id(alloc)?;
+    compare(asked, id.as_str(), wanted)
+}
+
+fn compare_named(
+    alloc: Global,
+    asked: &str,
+    found: &Result<Key, Stop>,
+    wanted: &str,
+) -> Result<(), Fail> {
+    match found {
+        Ok(key) => compare_key(alloc, asked, key, wanted),
+        Err(stop) => compare_stop(alloc, asked, stop, wanted),
     }
 }
 
-// Compares the id of the key that the text names.
+// Compares the id of the key that the text, which is no id, stands for.
 fn check_name(alloc: Global, env: &Env, text: &str, wanted: &str) -> Result<(), Fail> {
     let name = Text::of(alloc, text)?;
-    let sight = Sight {
-        env,
-        unlisted: Unlisted::Never,
-        loops: env.loops.as_slice(),
-    };
-    let key = key_named(alloc, &sight, &name)?;
-    compare_key(alloc, text, &key, wanted)
+    let found = env.named(alloc, &name);
+    compare_named(alloc, text, &found, wanted)
 }
 
 // Two deployments around, the inner one first, and resources of which two have one name.
@@ -105,7 +109,6 @@ const OUTER_N: &str =
 fn check_names(alloc: Global, env: &Env) -> Result<(), Fail> {
     check_name(alloc, env, "m", INNER_M)?;
     check_name(alloc, env, "Microsoft.Resources/Deployments/N", OUTER_N)?;
-    check_name(alloc, env, OUTER_N, OUTER_N)?;
     check_name(
         alloc,
         env,

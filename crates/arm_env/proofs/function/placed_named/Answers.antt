@@ -10,9 +10,11 @@ unfolding placed_named
 returns-then-equals_ignore_case-2 c =
     let n = c.args.name.now in
     let one : is_same_folded (codes "resourceId") n ≡ false =
-    ap (λ w. is_same_folded w n) (sym word_resourceId) ∙ sym c.equals_ignore_case.ensures ∙ c.if-equals_ignore_case.false in
+    ap (λ w. is_same_folded w n) (sym word_resourceId) ∙ sym c.equals_ignore_case.ensures
+    ∙ c.if-equals_ignore_case.false in
     let two : is_same_folded (codes "subscriptionResourceId") n ≡ true =
-    ap (λ w. is_same_folded w n) (sym word_subscriptionResourceId) ∙ sym c.equals_ignore_case-else-equals_ignore_case.ensures
+    ap (λ w. is_same_folded w n) (sym word_subscriptionResourceId)
+    ∙ sym c.equals_ignore_case-else-equals_ignore_case.ensures
     ∙ c.if-equals_ignore_case-2.true in
     rw (one, two) refl
 
@@ -21,9 +23,11 @@ unfolding placed_named
 returns-then-equals_ignore_case-4 c =
     let n = c.args.name.now in
     let one : is_same_folded (codes "resourceId") n ≡ false =
-    ap (λ w. is_same_folded w n) (sym word_resourceId) ∙ sym c.equals_ignore_case.ensures ∙ c.if-equals_ignore_case.false in
+    ap (λ w. is_same_folded w n) (sym word_resourceId) ∙ sym c.equals_ignore_case.ensures
+    ∙ c.if-equals_ignore_case.false in
     let two : is_same_folded (codes "subscriptionResourceId") n ≡ false =
-    ap (λ w. is_same_folded w n) (sym word_subscriptionResourceId) ∙ sym c.equals_ignore_case-else-equals_ignore_case.ensures
+    ap (λ w. is_same_folded w n) (sym word_subscriptionResourceId)
+    ∙ sym c.equals_ignore_case-else-equals_ignore_case.ensures
     ∙ c.if-equals_ignore_case-2.false in
     let three : is_same_folded (codes "resourceGroup") n ≡ false =
     ap (λ w. is_same_folded w n) (sym word_resourceGroup) ∙ sym c.equals_ignore_case-else-equals_ignore_case-2.ensures
@@ -38,9 +42,11 @@ unfolding placed_named
 returns-then-equals_ignore_case-5 c =
     let n = c.args.name.now in
     let one : is_same_folded (codes "resourceId") n ≡ false =
-    ap (λ w. is_same_folded w n) (sym word_resourceId) ∙ sym c.equals_ignore_case.ensures ∙ c.if-equals_ignore_case.false in
+    ap (λ w. is_same_folded w n) (sym word_resourceId) ∙ sym c.equals_ignore_case.ensures
+    ∙ c.if-equals_ignore_case.false in
     let two : is_same_folded (codes "subscriptionResourceId") n ≡ false =
-    ap (λ w. is_same_folded w n) (sym word_subscriptionResourceId) ∙ sym c.equals_ignore_case-else-equals_ignore_case.ensures
+    ap (λ w. is_same_folded w n) (sym word_subscriptionResourceId)
+    ∙ sym c.equals_ignore_case-else-equals_ignore_case.ensures
     ∙ c.if-equals_ignore_case-2.false in
     let three : is_same_folded (codes "resourceGroup") n ≡ false =
     ap (λ w. is_same_folded w n) (sym word_resourceGroup) ∙ sym c.equals_ignore_case-else-equals_ignore_case-2.ensures
@@ -58,9 +64,11 @@ unfolding placed_named
 returns-else-equals_ignore_case-5 c =
     let n = c.args.name.now in
     let one : is_same_folded (codes "resourceId") n ≡ false =
-    ap (λ w. is_same_folded w n) (sym word_resourceId) ∙ sym c.equals_ignore_case.ensures ∙ c.if-equals_ignore_case.false in
+    ap (λ w. is_same_folded w n) (sym word_resourceId) ∙ sym c.equals_ignore_case.ensures
+    ∙ c.if-equals_ignore_case.false in
     let two : is_same_folded (codes "subscriptionResourceId") n ≡ false =
-    ap (λ w. is_same_folded w n) (sym word_subscriptionResourceId) ∙ sym c.equals_ignore_case-else-equals_ignore_case.ensures
+    ap (λ w. is_same_folded w n) (sym word_subscriptionResourceId)
+    ∙ sym c.equals_ignore_case-else-equals_ignore_case.ensures
     ∙ c.if-equals_ignore_case-2.false in
     let three : is_same_folded (codes "resourceGroup") n ≡ false =
     ap (λ w. is_same_folded w n) (sym word_resourceGroup) ∙ sym c.equals_ignore_case-else-equals_ignore_case-2.ensures

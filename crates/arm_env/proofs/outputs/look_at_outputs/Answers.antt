@@ -1,19 +1,16 @@
-use Rattle.std.proofs.Common.{sym, ap, ◌∙◌}
-use Rattle.arm_env.specs.Answer.{answered}
-use Rattle.arm_env.specs.Sight.{known_by}
-use Rattle.arm_env.proofs.HeldLemmas.{sees, outputs_found, outputs_missing, found_none}
+use Rattle.std.proofs.Common.{sym}
+use Rattle.std.proofs.lemmas.Result.{err_from_is_err_and}
+use Rattle.arm_env.proofs.HeldLemmas.{outputs_told, outputs_stop, looked}
 use Rattle.arm_env.proofs.outputs.look_at_outputs.Goals as goal
 
-pub returns-in-Some : goal.returns-in-Some
-returns-in-Some c =
-    rw (outputs_found c.args.sight.now c.args.key.now c.in-Some.module.now
-    (rw (sym c.deref.ensures.value) c.in-Some.ensures))
-    (sees _ _ _ (rw (sym c.deref-in-Some.ensures.value) c.look_at_each.ensures))
+pub returns-in_err-outputs : goal.returns-in_err-outputs
+returns-in_err-outputs g c =
+    let r = err_from_is_err_and c.from_residual.result c.from_residual.ensures.1 in
+    rw (r.1, r.2) (outputs_stop _ (g.K.Entries.known c.args.entries.now) c.args.key.now c.in_err-outputs.ensures)
 
-pub returns-in-None : goal.returns-in-None
-returns-in-None c = (
-  _,
-  ap (answered (known_by c.args.sight.now))
-      (outputs_missing c.args.sight.now c.args.key.now
-      (rw (sym c.deref.ensures.value) c.in-None.ensures)) ∙ found_none (known_by c.args.sight.now),
-)
+pub returns : goal.returns
+returns g c =
+    let p = g.K.Entries.known c.args.entries.now in
+    rw (outputs_told p c.args.key.now _ c.in_ok-outputs.ensures)
+    (looked p c.args.key.now c.in_ok-outputs.outputs.items c.look_at_each-looked.result
+    (rw (sym c.as_slice.ensures.value) c.look_at_each-looked.ensures))

@@ -1,13 +1,12 @@
 use Rattle.std.proofs.Common.{◌≡◌, take, map, []}
 use Rattle.arm_value.specs.Json.{put_each}
 use Rattle.arm_env.specs.Held.{output_member}
-use Rattle.arm_env.specs.Known.{declared}
+use Rattle.arm_env.specs.Sight.{declared_of}
 use Rattle.arm_env.specs.Answer.{gathered, so_far}
-use Rattle.arm_env.specs.Sight.{known_by}
 use Rattle.arm_env.proofs.outputs.output_fields.Given as goal
 
 abbrev pub invariant-loop-output : goal.invariant-loop-output
-invariant-loop-output l =
-    gathered (put_each []) (known_by l.sight)
-    (map (λ x. output_member l.key (declared x)) (take l.output-index l.outputs))
+invariant-loop-output g l =
+    gathered (put_each []) (g.K.Entries.known l.entries)
+    (map (λ x. output_member l.key (declared_of x)) (take l.output-index l.outputs))
     ≡ so_far l.complete l.fields

@@ -2,30 +2,31 @@ use Rattle.std.proofs.Common.{◌≡◌, drop, take, map, option_map}
 use Rattle.arm_expr.specs.View.{tree_of}
 use Rattle.expression_values.specs.Row.{all_true, one_true, first_there}
 use Rattle.expression_values.specs.Meaning.{value}
-use Rattle.arm_env.specs.Answer.{answered, gathered, given}
-use Rattle.arm_env.specs.Sight.{known_by, here}
+use Rattle.reading.specs.Knowledge.{told, finished}
+use Rattle.arm_env.specs.Answer.{gathered}
+use Rattle.arm_env.specs.Sight.{here}
 use Rattle.expression_values.specs.Args.{outs, all_json}
 use Rattle.expression_values.proofs.expression.+eval.Given as goal
 
 -- the rest gives what the whole gives
 abbrev pub invariant-all_true-loop-arg : goal.invariant-all_true-loop-arg
-invariant-all_true-loop-arg l =
-    answered (known_by l.sight) (all_true (outs (here l.sight) l.args))
-    ≡ answered (known_by l.sight) (all_true (outs (here l.sight) (drop l.arg-index l.args)))
+invariant-all_true-loop-arg g l =
+    told (g.K.Entries.known l.entries) (all_true (outs (here l.around) l.args))
+    ≡ told (g.K.Entries.known l.entries) (all_true (outs (here l.around) (drop l.arg-index l.args)))
 
 abbrev pub invariant-one_true-loop-arg : goal.invariant-one_true-loop-arg
-invariant-one_true-loop-arg l =
-    answered (known_by l.sight) (one_true (outs (here l.sight) l.args))
-    ≡ answered (known_by l.sight) (one_true (outs (here l.sight) (drop l.arg-index l.args)))
+invariant-one_true-loop-arg g l =
+    told (g.K.Entries.known l.entries) (one_true (outs (here l.around) l.args))
+    ≡ told (g.K.Entries.known l.entries) (one_true (outs (here l.around) (drop l.arg-index l.args)))
 
 abbrev pub invariant-first_there-loop-arg : goal.invariant-first_there-loop-arg
-invariant-first_there-loop-arg l =
-    answered (known_by l.sight) (first_there (outs (here l.sight) l.args))
-    ≡ answered (known_by l.sight) (first_there (outs (here l.sight) (drop l.arg-index l.args)))
+invariant-first_there-loop-arg g l =
+    told (g.K.Entries.known l.entries) (first_there (outs (here l.around) l.args))
+    ≡ told (g.K.Entries.known l.entries) (first_there (outs (here l.around) (drop l.arg-index l.args)))
 
 -- the values so far, or none where one of them is none
 abbrev pub invariant-all_values-loop-arg : goal.invariant-all_values-loop-arg
-invariant-all_values-loop-arg l =
-    gathered (λ xs. xs) (known_by l.sight)
-    (map (λ e. value (here l.sight) (tree_of e)) (take l.arg-index l.args))
-    ≡ given (option_map all_json l.values)
+invariant-all_values-loop-arg g l =
+    gathered (λ xs. xs) (g.K.Entries.known l.entries)
+    (map (λ e. value (here l.around) (tree_of e)) (take l.arg-index l.args))
+    ≡ finished (option_map all_json l.values)

@@ -1,0 +1,6 @@
+use Rattle.template_faults.proofs.PartLemmas.{some_items}
+use Rattle.template_faults.proofs.header.has_no_item.Goals as goal
+
+pub returns-in-len1-up : goal.returns-in-len1-up
+returns-in-len1-up c =
+    some_items c.as_slice.result.now c.args.items.now c.as_slice.ensures.items c.in-len1-up.len_at_least

@@ -1,0 +1,5 @@
+pub mod Header
+pub mod Sights
+pub mod Properties
+pub mod Counts
+pub mod Faults

@@ -1,0 +1,4 @@
+pub mod Values
+pub mod Parts
+pub mod Resources
+pub mod Describes

@@ -1,0 +1,27 @@
+use Rattle.std.proofs.Common.{arith}
+use Rattle.template_values.proofs.PartLemmas.{item_within, member_within}
+use Rattle.template_values.proofs.value.+fault.Goals as goal
+
+pub items_fault-value_fault-requires : goal.items_fault-value_fault-requires
+items_fault-value_fault-requires t c =
+    let h = item_within c.as_slice-item-items.result.now c.args.items.now c.loop-i.i c.item-item.result
+    c.as_slice-item-items.ensures.items c.loop-i-test.true c.item-item.is in
+    (omega (arith, h, c.decreases), tt)
+
+pub fields_fault-member_fault-requires : goal.fields_fault-member_fault-requires
+fields_fault-member_fault-requires t c =
+    let h = member_within c.as_slice-field-items.result.now c.args.fields.now c.loop-field.field-index
+    c.field-item.result c.as_slice-field-items.ensures.members c.loop-field-test.true c.field-item.is in
+    (omega (arith, h, c.decreases), tt)
+
+pub loops_fault-loop_fault-requires : goal.loops_fault-loop_fault-requires
+loops_fault-loop_fault-requires t c =
+    let h = item_within c.as_slice-item-items.result.now c.args.items.now c.loop-i.i c.item-item.result
+    c.as_slice-item-items.ensures.items c.loop-i-test.true c.item-item.is in
+    (omega (arith, h, c.decreases), tt)
+
+pub parts_fault-loop_member_fault-requires : goal.parts_fault-loop_member_fault-requires
+parts_fault-loop_member_fault-requires t c =
+    let h = member_within c.as_slice-field-items.result.now c.args.fields.now c.loop-field.field-index
+    c.field-item.result c.as_slice-field-items.ensures.members c.loop-field-test.true c.field-item.is in
+    (omega (arith, h, c.decreases), tt)

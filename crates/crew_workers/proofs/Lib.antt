@@ -1,2 +1,3 @@
 pub mod SeatedLemmas
 pub mod PostLemmas
+pub mod MarkLemmas

@@ -1,5 +1,5 @@
 -- What a driver knows of its seats.
-use Rattle.std.specs.Prelude.{◌≡◌, ◌<◌, ◌≤◌, ℕ, true, List, length, slice_index_or}
+use Rattle.std.specs.Prelude.{◌≡◌, ◌<◌, ◌≤◌, ℕ, true, List, [], ◌∷◌, Option, None, Some, length, slice_index_or}
 use Rattle.crossbeam_channel.specs.Claims.{view, IsSeatAt}
 use Rattle.crossbeam_channel.specs.Ends.{sends_on, receives_on}
 use Rattle.crew_channels.specs.Orders.{jobs_in}
@@ -10,22 +10,34 @@ use Rattle.crew_workers.specs.declared.post.Place.{Place}
 use Rattle.crew_workers.specs.declared.post.Place.TheVariants.{Away, Here}
 use Rattle.crew_workers.specs.declared.post.Post.{Post}
 use Rattle.crew_workers.specs.declared.post.Station.{Station}
+use Rattle.crew_workers.specs.declared.promise.SeatPromise.{SeatPromise}
 use Rattle.crew_workers.specs.declared.worker.Worker.{Worker}
 use Rattle.seat_calls.specs.declared.done.Done.{Done}
 
 -- the number of the seat
 abbrev pub number_of : {P : Type 0} → Place P → ℕ
-number_of (Away handle) = handle.promise.worker.value.number
+number_of (Away promise) = promise.worker.value.number
 number_of (Here worker) = worker.number
 
 -- the provider of the seat before its first call
 abbrev pub before_of : {P : Type 0} → Place P → P
-before_of (Away handle) = handle.promise.worker.value.before.value
+before_of (Away promise) = promise.worker.value.before.value
 before_of (Here worker) = worker.before.value
 
--- two places are of one seat, which began with one provider
+-- what the thread of the seat has promised, where there is one
+abbrev pub promise_of : {P : Type 0} → Place P → Option (SeatPromise P)
+promise_of (Away promise) = Some promise
+promise_of (Here worker) = None
+
+-- two places are of one seat, which began with one provider and is in the same thread or in none
 abbrev pub IsSamePlace : {P : Type 0} → Place P → Place P → Type 0
 IsSamePlace old new = (number_of new ≡ number_of old) × (before_of new ≡ before_of old)
+    × (promise_of new ≡ promise_of old)
+
+-- what stays as it is of each seat while it is at work
+unfoldable pub marks : {P : Type 0} → List (Post P) → List (P × Option (SeatPromise P))
+marks [] = []
+marks (post ∷ rest) = (before_of post.place, promise_of post.place) ∷ marks rest
 
 -- a seat was started so: the same jobs were sent to it, and it is of the same number and provider
 abbrev pub IsStartOf : {P : Type 0} → Station P → Post P → Type 0
@@ -35,8 +47,7 @@ IsStartOf station post = (jobs_in (view post.orders).sent ≡ jobs_in (view stat
 module _ {P : Type 0} (made : P → P → List Done → Type 0) where
   -- a worker in a thread has promised to come back seated at these channels, and one that is with the driver is so
   abbrev pub IsPlaced : OrderRing → DoneRing → Place P → Type 0
-  IsPlaced from to (Away handle) =
-      (receives_on handle.promise.from.value ≡ from) × (sends_on handle.promise.to.value ≡ to)
+  IsPlaced from to (Away promise) = (receives_on promise.from.value ≡ from) × (sends_on promise.to.value ≡ to)
   IsPlaced from to (Here worker) = IsSeated made from to worker
 
   -- the driver sends on this channel to the seat of the post
@@ -64,20 +75,10 @@ module _ {P : Type 0} (made : P → P → List Done → Type 0) where
         → IsPosted (slice_index_or channels k e) to (slice_index_or posts k f)
         × IsStartOf (slice_index_or stations k d) (slice_index_or posts k f)
 
-  -- all seats can be started, there is room for them, and this may be done with them however they were started
-  pub record MayRun (channels : List SeatChannel) (to : DoneRing) (stations : List (Station P))
-      (posts posts_room back back_room : ℕ) (Can : List (Post P) → Type 0) : Type 0 where
-    pub len : length stations ≡ length channels
-    pub posts_wide : (posts ≡ 0) × (length stations ≤ posts_room)
-    pub back_wide : (back ≡ 0) × (length stations ≤ back_room)
-    pub ready : AreStationed channels to stations
-    pub can : (all : List (Post P)) → ArePosted channels to stations all → Can all
-
   -- a worker that was in a thread has kept its promise, and one that was with the driver is that one
   abbrev pub GaveWorker : Place P → Worker P → Type 0
-  GaveWorker (Away handle) worker =
-      IsSeated made (receives_on handle.promise.from.value) (sends_on handle.promise.to.value) worker
-      × IsSameSeat handle.promise.worker.value worker
+  GaveWorker (Away promise) worker = IsSeated made (receives_on promise.from.value) (sends_on promise.to.value) worker
+      × IsSameSeat promise.worker.value worker
   GaveWorker (Here there) worker = worker ≡ there
 
   -- a seat has come back

@@ -1,25 +1,34 @@
 // The workers of all seats come back.
 
-ghost use Rattle.std.specs.Prelude.{◌≡◌, ◌<◌, ◌≤◌, ℕ, vec_len, vec_items, vec_capacity};
-ghost use Rattle.crew_workers.specs.Posts.{HaveGiven};
+ghost use Rattle.std.specs.Prelude.{vec_len, vec_items, vec_capacity};
+ghost use Rattle.crew_workers.specs.Posts.{HaveGiven, marks};
+ghost use Rattle.crew_workers.specs.Threads.{HasThreads, IsRoom};
 ghost use Rattle.seat_calls.specs.Dones.{Made};
 
-use crate::post::{Post, Station, finish};
-use provider_trait::Provider;
+use crate::post::{Post, Station};
+use crate::seat_thread::{SeatThread, finish};
+use seat_calls::Serves;
+use std::collections::VecDeque;
 use std::thread::Threads;
 
 /// Waits until each worker has come back, in order. They are put into the room.
-pub(crate) fn gather<R: Threads, P: Provider>(
+pub(crate) fn gather<R: Threads, P: Serves>(
     rt: &R,
     posts: Vec<Post<P>>,
+    threads: VecDeque<SeatThread<P>>,
     room: Vec<Station<P>>,
 ) -> Vec<Station<P>>
-    requires room { (vec_len room ≡ 0) × (vec_len posts ≤ vec_capacity room) }
+    requires room { IsRoom (vec_len room) (vec_capacity room) (vec_len posts) }
+    requires threads { HasThreads (marks (vec_items posts)) threads.items }
     ensures { HaveGiven (Made P.may P.tells P.calls P.faults) (vec_items posts) (vec_items result) }
 {
     let mut stations = room;
+    let mut left = threads;
     for post in posts {
-        let station = finish(rt, post);
+        let Some(thread) = left.pop_front() else {
+            unreachable!()
+        };
+        let station = finish(rt, post, thread);
         let Ok(()) = stations.push(station) else {
             unreachable!()
         };

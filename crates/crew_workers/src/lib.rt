@@ -11,10 +11,12 @@ mod mustering;
 mod post;
 mod promise;
 mod scope;
+mod seat_thread;
 mod worker;
 
 pub use channel::SeatChannel;
 pub use post::{Place, Post, Station, command, dismiss};
 pub use promise::SeatPromise;
 pub use scope::{Task, crew};
+pub use seat_thread::SeatThread;
 pub use worker::{Worker, do_order, work};

@@ -1,20 +1,24 @@
 // The workers of all seats are started.
 
-ghost use Rattle.std.specs.Prelude.{◌≡◌, ◌≤◌, length, vec_len, vec_items, vec_capacity};
+ghost use Rattle.std.specs.Prelude.{◌≡◌, [], length, vec_len, vec_items, vec_capacity};
+ghost use Rattle.std.specs.VecDeque.{deque_len, deque_capacity};
 ghost use Rattle.crossbeam_channel.specs.Ends.{sends_on};
-ghost use Rattle.crew_workers.specs.Posts.{AreStationed, ArePosted};
+ghost use Rattle.crew_workers.specs.Posts.{AreStationed, ArePosted, marks};
+ghost use Rattle.crew_workers.specs.Threads.{HasThreads, IsRoom};
 ghost use Rattle.seat_calls.specs.Dones.{Made};
 
 use crate::channel::SeatChannel;
-use crate::post::{Post, Station, start};
+use crate::post::{Post, Station};
+use crate::seat_thread::{SeatThread, Started, start};
 use crew_channels::DoneSender;
-use provider_trait::Provider;
+use seat_calls::Serves;
 use std::alloc::Global;
+use std::collections::VecDeque;
 use std::sync::Wait;
 use std::thread::{Scope, Threads};
 
-/// Starts each seat, in order. The posts are put into the room.
-pub(crate) fn muster<'s, E, R: Threads + Wait + Sync, P: Provider + 's>(
+/// Starts each seat, in order. The posts and the threads are put into the rooms.
+pub(crate) fn muster<'s, E, R: Threads + Wait + Sync, P: Serves + Send + 's>(
     rt: &'s R,
     alloc: Global,
     scope: &Scope<'s, E>,
@@ -22,21 +26,30 @@ pub(crate) fn muster<'s, E, R: Threads + Wait + Sync, P: Provider + 's>(
     to: &'s DoneSender,
     stations: Vec<Station<P>>,
     room: Vec<Post<P>>,
-) -> Vec<Post<P>>
+    threads_room: VecDeque<SeatThread<P>>,
+) -> (Vec<Post<P>>, VecDeque<SeatThread<P>>)
     requires len { vec_len stations ≡ length channels.now }
-    requires room { (vec_len room ≡ 0) × (vec_len stations ≤ vec_capacity room) }
+    requires room { IsRoom (vec_len room) (vec_capacity room) (vec_len stations) }
+    requires threads_room { IsRoom (deque_len threads_room) (deque_capacity threads_room)
+        (vec_len stations) }
+    requires none { threads_room.items ≡ [] }
     requires ready { AreStationed (Made P.may P.tells P.calls P.faults) channels.now
         (sends_on to.now) (vec_items stations) }
-    ensures { ArePosted (Made P.may P.tells P.calls P.faults) channels.now (sends_on to.now)
-        (vec_items stations) (vec_items result) }
+    ensures posted { ArePosted (Made P.may P.tells P.calls P.faults) channels.now (sends_on to.now)
+        (vec_items stations) (vec_items result.0) }
+    ensures threads { HasThreads (marks (vec_items result.0)) result.1.items }
 {
     let mut posts = room;
+    let mut threads = threads_room;
     for station in stations {
         let at = posts.len();
-        let post = start(rt, alloc, scope, &channels[at], to, station);
+        let Started { post, thread } = start(rt, alloc, scope, &channels[at], to, station);
         let Ok(()) = posts.push(post) else {
             unreachable!()
         };
+        let Ok(()) = threads.push_back(thread) else {
+            unreachable!()
+        };
     }
-    posts
+    (posts, threads)
 }

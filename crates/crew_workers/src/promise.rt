@@ -2,7 +2,7 @@
 
 use crate::worker::Worker;
 use crew_channels::{DoneSender, OrderReceiver};
-use provider_trait::Provider;
+use seat_calls::Serves;
 use std::snapshot::Snapshot;
 use std::thread::Promise;
 
@@ -17,7 +17,7 @@ pub struct SeatPromise<P: Drop> {
     pub to: Snapshot<DoneSender>,
 }
 
-impl<P: Provider> Promise<Worker<P>> for SeatPromise<P> {
+impl<P: Serves> Promise<Worker<P>> for SeatPromise<P> {
     ghost use Rattle.crossbeam_channel.specs.Ends.{sends_on, receives_on};
     ghost use Rattle.crew_workers.specs.Seated.{IsSeated, IsSameSeat};
     ghost use Rattle.seat_calls.specs.Dones.{Made};

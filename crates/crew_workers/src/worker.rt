@@ -7,8 +7,7 @@ ghost use Rattle.seat_calls.specs.Dones.{Made};
 use crew_channels::{
     DonePass, DoneSender, Order, OrderPass, OrderReceiver, receive_order, send_done,
 };
-use provider_trait::Provider;
-use seat_calls::done_by;
+use seat_calls::{Serves, done_by};
 use std::alloc::Global;
 use std::snapshot::Snapshot;
 use std::sync::Wait;
@@ -30,7 +29,7 @@ pub struct Worker<P: Drop> {
 
 /// Waits for an order and does it: a job is one call on the provider, and its result is sent. Returns
 /// whether it was a job.
-pub fn do_order<R: Wait, P: Provider>(
+pub fn do_order<R: Wait, P: Serves>(
     rt: &R,
     alloc: Global,
     from: &OrderReceiver,
@@ -54,7 +53,7 @@ pub fn do_order<R: Wait, P: Provider>(
 }
 
 /// Does orders until there are no further ones.
-pub fn work<R: Wait, P: Provider>(
+pub fn work<R: Wait, P: Serves>(
     rt: &R,
     alloc: Global,
     from: &OrderReceiver,

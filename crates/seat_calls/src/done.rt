@@ -5,8 +5,8 @@ ghost use Rattle.std.proofs.Props.{props};
 ghost use Rattle.provider_trait.specs.Answer.{Suits};
 ghost use Rattle.seat_calls.specs.Called.{Called, suits_prop};
 
-use crate::calling::call_provider;
-use provider_trait::{Answer, Job, Provider, ProviderFault};
+use crate::serving::Serves;
+use provider_trait::{Answer, Job, ProviderFault};
 use std::alloc::Global;
 
 /// A job of a seat with what its call returned. An answer suits what the job asks for.
@@ -22,12 +22,12 @@ pub struct Done {
 }
 
 /// Calls the seat's provider with the job.
-pub fn done_by<P: Provider>(provider: &mut P, alloc: Global, worker: u32, job: Job) -> Done
+pub fn done_by<P: Serves>(provider: &mut P, alloc: Global, worker: u32, job: Job) -> Done
     ensures worker { result.worker ≡ worker }
     ensures job { result.job ≡ job }
     ensures called { Called P.may P.tells P.calls P.faults
         provider.old provider.new result.job result.got }
 {
-    let got = call_provider(provider, alloc, &job);
+    let got = provider.call(alloc, &job);
     Done { worker, job, got }
 }

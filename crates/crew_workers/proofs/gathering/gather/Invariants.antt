@@ -1,6 +1,7 @@
-use Rattle.std.proofs.Common.{◌≡◌, ℕ, ◌+◌, ◌<◌, ◌≤◌, get_or, vec_items, vec_len, vec_capacity}
+use Rattle.std.proofs.Common.{◌≡◌, ℕ, ◌+◌, ◌<◌, ◌≤◌, length, get_or, vec_items, vec_len, vec_capacity}
 use Rattle.std.specs.Vec.Iter.{into_iter_items, into_iter_len}
-use Rattle.crew_workers.specs.Posts.{Gave}
+use Rattle.crew_workers.specs.Posts.{Gave, marks}
+use Rattle.crew_workers.specs.Threads.{HasThreads}
 use Rattle.crew_workers.proofs.gathering.gather.Given as goal
 use Rattle.seat_calls.specs.Dones.{Made}
 
@@ -11,5 +12,7 @@ invariant-loop-post g l =
     × ((k : ℕ) (d : _) → k < into_iter_len rest
     → get_or (into_iter_items rest) k d ≡ get_or (vec_items l.fn.posts) (done + k) d)
     × ((k : ℕ) (d : _) (f : _) → k < done
-    → Gave (Made g.P.Provider.may g.P.Provider.tells g.P.Provider.calls g.P.Provider.faults)
+    → Gave (Made g.P.Serves.may g.P.Serves.tells g.P.Serves.calls g.P.Serves.faults)
     (get_or (vec_items l.fn.posts) k f) (get_or (vec_items l.stations) k d))
+    × (length l.left.items ≡ into_iter_len rest)
+    × HasThreads (marks (into_iter_items rest)) l.left.items

@@ -1,11 +1,15 @@
-use Rattle.std.proofs.Common.{rules, arith, ◌≡◌, ℕ, ◌+◌, ◌<◌, suc, zero, List, [], ◌∷◌, refl, length, get_or, vec_items}
+use Rattle.std.proofs.Common.{rules, arith, ◌≡◌, ℕ, ◌+◌, ◌<◌, suc, zero, List, [], ◌∷◌, ◌++◌, refl, length, get_or, vec_items}
 use Rattle.std.proofs.Common.{vec_len, below_more, sym, ap, ◌∙◌, subst}
 use Rattle.std.proofs.lemmas.List.{get_or_default}
+use Rattle.std.specs.Vec.Iter.{into_iter_items}
 use Rattle.crossbeam_channel.specs.Ends.{sends_on}
-use Rattle.crew_workers.specs.Posts.{IsPosted, IsStationed, IsStartOf}
+use Rattle.crew_workers.specs.Posts.{IsPosted, IsStationed, IsStartOf, marks}
+use Rattle.crew_workers.specs.Threads.{HasThreads}
 use Rattle.crew_workers.specs.declared.channel.SeatChannel.{SeatChannel}
 use Rattle.crew_workers.specs.declared.post.Post.{Post}
 use Rattle.crew_workers.specs.declared.post.Station.{Station}
+use Rattle.crew_workers.specs.declared.seat_thread.SeatThread.{SeatThread}
+use Rattle.crew_workers.proofs.MarkLemmas.{threads_empty, threads_more}
 use Rattle.crew_workers.proofs.mustering.muster.Goals as goal
 use Rattle.crew_workers.proofs.mustering.muster.Goals.{After-index-channels-at}
 use Rattle.seat_calls.specs.Dones.{Made}
@@ -26,19 +30,37 @@ its_station g c d = let h = c.loop-station.invariant.2 0 d in grind rules
 pub start-post-requires-clause-ready : goal.start-post-requires-clause-ready
 start-post-requires-clause-ready g c κs within =
     subst (λ (y : SeatChannel × Station g.row.P.Denot).
-    IsStationed (Made g.P.Provider.may g.P.Provider.tells g.P.Provider.calls g.P.Provider.faults) y.0
+    IsStationed (Made g.P.Serves.may g.P.Serves.tells g.P.Serves.calls g.P.Serves.faults) y.0
     (sends_on c.args.to.now) y.1)
     (λ i. (its_channel g c c.index-channels-at.result i, its_station g c c.in-Some.station i))
     (c.requires.ready.each (vec_len c.loop-station.posts) c.in-Some.station c.index-channels-at.result
     (let h = c.loop-station.invariant.0 in grind rules))
 
+pub loop-station-init : goal.loop-station-init
+loop-station-init g c =
+    let none : vec_len c.args.room ≡ 0 = c.requires.room.0 in
+    let empty : length (vec_items c.args.room) ≡ 0 = search rules in
+    let same : vec_items c.args.stations ≡ into_iter_items c.into_iter-station-iterator.result = search rules in (
+      search rules,
+      search rules,
+      (λ k d low.
+          let at : k ≡ vec_len c.args.room + k = omega arith in
+          ap (λ l. get_or l k d) (sym same) ∙ ap (λ n. get_or (vec_items c.args.stations) n d) at),
+      (λ k d e f low. let below : k < 0 = subst (λ n. k < n) none low in absurd (omega arith)),
+      (search rules, search rules),
+      threads_empty (vec_items c.args.room) c.args.threads_room.items empty c.requires.none,
+    )
+
 pub loop-station-preserved : goal.loop-station-preserved
 loop-station-preserved g c =
-    let made = Made g.P.Provider.may g.P.Provider.tells g.P.Provider.calls g.P.Provider.faults in
+    let made = Made g.P.Serves.may g.P.Serves.tells g.P.Serves.calls g.P.Serves.faults in
     let was = c.loop-station.invariant in let done = vec_len c.loop-station.posts in
     let pushed = c.push in let all = vec_items pushed.new.self in
     let steps = c.in-Some.ensures.steps.0 in let less = c.in-Some.ensures.steps.1 in
     let grown : vec_len pushed.new.self ≡ done + 1 = search rules in
+    let posts_more : all ≡ vec_items c.loop-station.posts ++ c.start-post.result.post ∷ [] = search rules in
+    let threads_now : c.push_back.new.self.items ≡ c.loop-station.threads.items ++ c.start-post.result.thread ∷ []
+    = search rules in
     let here = (goal.at.loop-station-preserved g c).After-index-channels-at in
     let So : SeatChannel → Station g.row.P.Denot → Post g.row.P.Denot → Type 0
     = λ x y z. IsPosted made x (sends_on c.args.to.now) z × IsStartOf y z in (
@@ -47,7 +69,7 @@ loop-station-preserved g c =
       (λ k d below.
           sym (ap (λ l. get_or l (suc k) d) steps) ∙ was.2 (suc k) d (let e = less in omega arith)
           ∙ ap (λ n. get_or (vec_items c.args.stations) n d) (omega arith)),
-      λ i d e f below.
+      (λ i d e f below.
           below_more (λ j. So (get_or c.args.channels.now j e) (get_or (vec_items c.args.stations) j d) (get_or all j f)) done
           (λ j low.
           subst (λ p. So (get_or c.args.channels.now j e) (get_or (vec_items c.args.stations) j d) p)
@@ -58,11 +80,19 @@ loop-station-preserved g c =
             sym (its_station g here d) i,
             sym (pushed.ensures.by_index.1 f (search rules)) i,
           )) (c.start-post.ensures.posted, c.start-post.ensures.start))
-          i (omega arith),
+          i (omega arith)),
+      (search rules, search rules),
+      subst (λ (y : List (Post g.row.P.Denot) × List (SeatThread g.row.P.Denot)). HasThreads (marks y.0) y.1)
+          (λ i. (sym posts_more i, sym threads_now i))
+          (threads_more (vec_items c.loop-station.posts) c.loop-station.threads.items c.start-post.result.post c.start-post.result.thread
+          was.5 c.start-post.ensures.thread),
     )
 
-pub returns : goal.returns
-returns g c =
+pub returns-clause-threads : goal.returns-clause-threads
+returns-clause-threads g c = c.loop-station.invariant.5
+
+pub returns-clause-posted : goal.returns-clause-posted
+returns-clause-posted g c =
     let i = c.loop-station.invariant.0 in
     let e = c.in-None.ensures in record {
       len = grind rules;

@@ -26,16 +26,16 @@ send_done-requires-clause-own g c =
 
 pub returns-in-Run-clause-seated : goal.returns-in-Run-clause-seated
 returns-in-Run-clause-seated g c =
-    let made = Made g.P.Provider.may g.P.Provider.tells g.P.Provider.calls g.P.Provider.faults in
+    let made = Made g.P.Serves.may g.P.Serves.tells g.P.Serves.calls g.P.Serves.faults in
     let d = c.done_by-done.result in
     seated_run made _ _ c.args.worker.now _ c.requires d c.receive_order.result
     (c.in-Run.is ∙ ap Run (sym c.done_by-done.ensures.job)) refl c.receive_order.ensures.seat
     c.receive_order.ensures.got c.send_done.ensures.seat c.send_done.ensures.sent
-    (made_more g.P.Provider.may g.P.Provider.tells g.P.Provider.calls g.P.Provider.faults _ _ _ _ d c.requires.calls
+    (made_more g.P.Serves.may g.P.Serves.tells g.P.Serves.calls g.P.Serves.faults _ _ _ _ d c.requires.calls
     c.done_by-done.ensures.called)
 
 pub returns-in-Stop-clause-seated : goal.returns-in-Stop-clause-seated
 returns-in-Stop-clause-seated g c =
-    let made = Made g.P.Provider.may g.P.Provider.tells g.P.Provider.calls g.P.Provider.faults in
+    let made = Made g.P.Serves.may g.P.Serves.tells g.P.Serves.calls g.P.Serves.faults in
     seated_stop made _ _ c.args.worker.now _ c.requires c.receive_order.result c.in-Stop.is refl refl refl refl
     c.receive_order.ensures.seat c.receive_order.ensures.got

@@ -5,5 +5,5 @@ use Rattle.seat_calls.specs.Dones.{Made}
 
 abbrev pub invariant-loop : goal.invariant-loop
 invariant-loop g l =
-    IsSeated (Made g.P.Provider.may g.P.Provider.tells g.P.Provider.calls g.P.Provider.faults) (receives_on l.from)
+    IsSeated (Made g.P.Serves.may g.P.Serves.tells g.P.Serves.calls g.P.Serves.faults) (receives_on l.from)
     (sends_on l.to) l.working × IsSameSeat l.fn.worker l.working

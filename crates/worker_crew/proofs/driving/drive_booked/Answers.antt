@@ -1,0 +1,17 @@
+use Rattle.std.proofs.Common.{rules, ◌≡◌, subst, vec_items}
+use Rattle.driver_loop.specs.Moments.{pages}
+use Rattle.seat_calls.specs.Dones.{Made}
+use Rattle.worker_crew.specs.Driven.{HasFinished}
+use Rattle.worker_crew.proofs.driving.drive_booked.Goals as goal
+
+pub returns-clause-drove : goal.returns-clause-drove
+returns-clause-drove g c =
+    let r = c.drive_lent-board_back.result in
+    let names = c.drive_lent-board_back.ensures.names.1 in
+    let book : r.1.now ≡ c.book-1.given.0 = search rules in
+    subst (λ b.
+    HasFinished (Made g.P.Provider.may g.P.Provider.tells g.P.Provider.calls g.P.Provider.faults)
+    (g.G.Dealer.is_end r.0.now) g.B.Book.tells (g.G.Dealer.steps c.args.board.now) (g.G.Dealer.steps r.0.now)
+    (pages (g.B.Book.notes c.args.book.now) (g.B.Book.refusals c.args.book.now) (g.B.Book.first c.args.book.now))
+    (pages (g.B.Book.notes b) (g.B.Book.refusals b) (g.B.Book.first b)) (vec_items c.args.stations) (vec_items r.2) r.3)
+    book c.drive_lent-board_back.ensures.drove

@@ -1,0 +1,5 @@
+pub mod Rooms
+pub mod Rigs
+pub mod Tasks
+pub mod Deals
+pub mod Driven

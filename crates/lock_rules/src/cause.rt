@@ -4,7 +4,7 @@ ghost use Rattle.std.specs.Prelude.{◌≡◌, ◌++◌, chars, codes, IfOk};
 ghost use Rattle.lock_rules.specs.BindFaults.{fault_text};
 ghost use Rattle.lock_rules.specs.Causes.{code_of, message_of};
 ghost use Rattle.lock_rules.specs.Spaced.{spaced};
-ghost use Rattle.lock_rules.specs.declared.cause.Cause.TheVariants.{Locked, Parameter};
+ghost use Rattle.lock_rules.specs.declared.cause.Cause.TheVariants.{Circular, Locked, Parameter};
 
 use crate::bind_fault::fault_text;
 use crate::lock::Lock;
@@ -38,11 +38,11 @@ impl Cause {
         ensures { IfOk result (λ cause. cause ≡ self.now) }
     {
         match self {
-            Cause::Locked(lock) => Ok(Cause::Locked(lock.copy(alloc)?)),
+            Cause::Locked(lock) => copy_locked(alloc, lock),
             Cause::NoValue(path) => Ok(Cause::NoValue(path.copy(alloc)?)),
             Cause::Parameter(path, fault) => copy_parameter(alloc, path, fault),
             Cause::Refused(code) => Ok(Cause::Refused(code.copy(alloc)?)),
-            Cause::Circular(tasks) => Ok(Cause::Circular(copy_tasks(alloc, tasks)?)),
+            Cause::Circular(tasks) => copy_circular(alloc, tasks),
         }
     }
 
@@ -86,11 +86,19 @@ fn copy_parameter(alloc: Global, path: &Path, fault: &BindFault) -> Result<Cause
     }
 }
 
-// A copy of the numbers.
-fn copy_tasks(alloc: Global, tasks: &Tasks) -> Result<Tasks, OutOfMemory>
-    ensures { IfOk result (λ copy. copy ≡ tasks.now) }
+// A copy of the lock.
+fn copy_locked(alloc: Global, lock: &Lock) -> Result<Cause, OutOfMemory>
+    ensures { IfOk result (λ cause. cause ≡ Locked lock.now) }
 {
-    Ok(Tasks::from_vec(Vec::from_slice(alloc, tasks.as_slice())?))
+    Ok(Cause::Locked(lock.copy(alloc)?))
+}
+
+// A copy of the numbers.
+fn copy_circular(alloc: Global, tasks: &Tasks) -> Result<Cause, OutOfMemory>
+    ensures { IfOk result (λ cause. cause ≡ Circular tasks.now) }
+{
+    let tasks = Vec::from_slice(alloc, tasks.as_slice())?;
+    Ok(Cause::Circular(Tasks::from_vec(tasks)))
 }
 
 // The names, and another text after them.

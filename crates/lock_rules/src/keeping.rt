@@ -69,8 +69,16 @@ fn replace(locks: &mut Vec<Lock>, places: &mut Vec<Place>, i: usize, place: Plac
     ensures locks { locks.new.items ≡ slice_set locks.old.items i lock }
     ensures places { places.new.items ≡ slice_set places.old.items i place }
 {
-    locks[i] = lock;
-    places[i] = place;
+    replace_one(locks, i, lock);
+    replace_one(places, i, place);
+}
+
+// Puts an element in place of the one at the index.
+fn replace_one<T: Drop>(elements: &mut Vec<T>, i: usize, element: T)
+    requires { i < length elements.old.items }
+    ensures { elements.new.items ≡ slice_set elements.old.items i element }
+{
+    elements[i] = element;
 }
 
 // Puts a lock before the one at the index. After `OutOfMemory` both are unchanged.

@@ -1,0 +1,5 @@
+pub mod Scope
+pub mod Functions
+pub mod Resolve
+pub mod Parts
+pub mod Unknown

@@ -1,0 +1,4 @@
+pub mod SameLemmas
+pub mod CellLemmas
+pub mod ListingLemmas
+pub mod FollowedLemmas

@@ -1,0 +1,6 @@
+pub mod Cells
+pub mod Guarded
+pub mod Listing
+pub mod Puts
+pub mod Same
+pub mod Followed

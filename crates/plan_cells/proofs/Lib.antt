@@ -1,0 +1,10 @@
+pub mod ListLemmas
+pub mod ChildLemmas
+pub mod ApartLemmas
+pub mod UndeclaredLemmas
+pub mod KnownLemmas
+pub mod DesiredLemmas
+pub mod PlanLemmas
+pub mod PointLemmas
+pub mod TaskLemmas
+pub mod SiteLemmas

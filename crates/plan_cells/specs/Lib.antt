@@ -1,0 +1,13 @@
+pub mod Resources
+pub mod Scopes
+pub mod Sites
+pub mod Meaning
+pub mod Desired
+pub mod Children
+pub mod Known
+pub mod Start
+pub mod Tasks
+pub mod TaskOf
+pub mod Needs
+pub mod Reads
+pub mod Plan

@@ -1,0 +1,5 @@
+pub mod RowLemmas
+pub mod StepLemmas
+pub mod ChangeLemmas
+pub mod WayLemmas
+pub mod FinalLemmas

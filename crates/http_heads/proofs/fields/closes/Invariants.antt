@@ -1,0 +1,10 @@
+use Rattle.std.proofs.Common.{◌≡◌, drop, map}
+use Rattle.std.specs.List.{list_any}
+use Rattle.httparse.specs.Spans.{header_bytes}
+use Rattle.http_heads.specs.Fields.{says_close}
+use Rattle.http_heads.proofs.fields.closes.Given as goal
+
+abbrev pub invariant-loop-field : goal.invariant-loop-field
+invariant-loop-field l =
+    list_any says_close (map (header_bytes l.bytes) (drop l.field-index l.fields))
+    ≡ list_any says_close (map (header_bytes l.bytes) l.fields)

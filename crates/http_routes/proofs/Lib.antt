@@ -1,0 +1,4 @@
+pub mod SegmentLemmas
+pub mod IdLemmas
+pub mod RouteLemmas
+pub mod TargetLemmas

@@ -1,0 +1,5 @@
+pub mod Patterns
+pub mod Segments
+pub mod Seen
+pub mod Routes
+pub mod Targets

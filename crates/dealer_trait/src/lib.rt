@@ -18,7 +18,7 @@ pub use book::Book;
 pub use book_fault::BookFault;
 pub use dealer::Dealer;
 pub use dealer_step::DealerStep;
-pub use laws::notes_state_jobs_and_answers;
+pub use laws::{notes_are_records, notes_state_jobs_and_answers};
 pub use next::Next;
 pub use no_book::NoBook;
 pub use note::{GONE, Note, REFUSED, STORED, kind_of, second_of};

@@ -19,6 +19,10 @@ first_members a =
     (codes "api", text a.api) ∷ (codes "body", a.body) ∷ (codes "id", text a.id)
     ∷ (codes "task", int (pos a.task)) ∷ (codes "worker", int (pos a.worker)) ∷ []
 
--- the first part: these members as compact JSON
+-- the object of these members
+abbrev pub first_value : Assignment → Json
+first_value a = object (pairs (first_members a))
+
+-- the first part: this object as compact JSON
 abbrev pub first_part : Assignment → List ℕ
-first_part a = compact_text (data_of (object (pairs (first_members a))))
+first_part a = compact_text (data_of (first_value a))

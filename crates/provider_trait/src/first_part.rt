@@ -1,9 +1,10 @@
 // The first part of a job's record in the journal.
 
-ghost use Rattle.std.specs.Prelude.{◌≡◌, ◌≤◌, chars, pos, IfOk};
+ghost use Rattle.std.specs.Prelude.{◌≡◌, ◌≤◌, chars, pos, Some, IfOk};
 ghost use Rattle.arm_value.specs.View.{json};
 ghost use Rattle.arm_value.specs.Json.{nesting, put, int};
-ghost use Rattle.provider_trait.specs.FirstPart.{first_members, first_part};
+ghost use Rattle.arm_value.specs.Reading.{data_of, reading};
+ghost use Rattle.provider_trait.specs.FirstPart.{first_members, first_value, first_part};
 ghost use Rattle.provider_trait.specs.JobParts.{assigned};
 
 use crate::job::JobParts;
@@ -14,7 +15,8 @@ use std::alloc::Global;
 /// The first part of the record of the job that has these parts.
 pub(crate) fn first_part(alloc: Global, parts: &JobParts) -> Result<Bytes, OutOfMemory>
     requires { nesting (json parts.now.body) ≤ 100 }
-    ensures { IfOk result (λ bytes. bytes ≡ first_part (assigned parts.now)) }
+    ensures text { IfOk result (λ bytes. bytes ≡ first_part (assigned parts.now)) }
+    ensures reads { IfOk result (λ bytes. reading bytes ≡ Some (data_of (first_value (assigned parts.now)))) }
 {
     let members = first_members(alloc, parts)?;
     Value::Object(members).to_json(alloc)

@@ -1,7 +1,8 @@
 // The jobs that providers are given.
 
-ghost use Rattle.std.specs.Prelude.{◌≡◌, IfOk};
+ghost use Rattle.std.specs.Prelude.{◌≡◌, Some, IfOk};
 ghost use Rattle.arm_value.specs.View.{json};
+ghost use Rattle.arm_value.specs.Reading.{data_of, reading};
 ghost use Rattle.provider_trait.specs.Act.{FitsAct};
 
 use crate::act::Act;
@@ -33,10 +34,11 @@ impl Model for Job {
 
     ghost coded = { work_code };
 
-    ghost use Rattle.std.specs.Prelude.{◌≡◌};
+    ghost use Rattle.std.specs.Prelude.{◌≡◌, Some};
     ghost use Rattle.arm_value.specs.View.{json};
+    ghost use Rattle.arm_value.specs.Reading.{data_of, reading};
     ghost use Rattle.provider_trait.specs.Act.{FitsAct};
-    ghost use Rattle.provider_trait.specs.FirstPart.{first_part};
+    ghost use Rattle.provider_trait.specs.FirstPart.{first_value, first_part};
 
     ghost view = { λ j. record {
       task = j.task;
@@ -55,7 +57,14 @@ impl Model for Job {
           id = j.id;
           task = j.task;
           worker = j.worker;
-        })) };
+        }))
+        × (reading j.first ≡ Some (data_of (first_value (record {
+          api = j.api;
+          body = json j.body;
+          id = j.id;
+          task = j.task;
+          worker = j.worker;
+        })))) };
 }
 
 /// What a job is made of.
@@ -76,7 +85,7 @@ pub struct JobParts {
 }
 
 impl Job {
-    ghost use Rattle.provider_trait.specs.FirstPart.{first_part};
+    ghost use Rattle.provider_trait.specs.FirstPart.{first_value, first_part};
     ghost use Rattle.provider_trait.specs.JobParts.{work_of};
     ghost use Rattle.provider_trait.specs.Work.{assignment_of};
 
@@ -143,10 +152,11 @@ impl Job {
     }
 
     /// The first part of the job's record in the journal: the object of `api`, `body`, `id`, `task`
-    /// and `worker` as compact JSON.
+    /// and `worker` as compact JSON. It reads back as this object.
     pub fn first(&self) -> &Bytes
         ensures first { result.now ≡ self.now.first }
         ensures record_of { self.now.first ≡ first_part (assignment_of self.now) }
+        ensures reads_back { reading self.now.first ≡ Some (data_of (first_value (assignment_of self.now))) }
     {
         &self.first
     }

@@ -1,10 +1,10 @@
 // The states of stored resources.
 
-ghost use Rattle.std.specs.Prelude.{◌≡◌, ◌≤◌, IfOk, IfErr};
+ghost use Rattle.std.specs.Prelude.{◌≡◌, ◌≤◌, Some, IfOk, IfErr};
 ghost use Rattle.serde_json.specs.Written.{compact_text};
 ghost use Rattle.arm_value.specs.View.{json};
 ghost use Rattle.arm_value.specs.Json.{nesting};
-ghost use Rattle.arm_value.specs.Reading.{data_of};
+ghost use Rattle.arm_value.specs.Reading.{data_of, reading};
 ghost use Rattle.provider_trait.specs.StateFault.{IsStateFault};
 
 use crate::parts::letting_go;
@@ -29,15 +29,16 @@ impl Model for State {
 
     ghost coded = { json_code };
 
-    ghost use Rattle.std.specs.Prelude.{◌≡◌, ◌≤◌};
+    ghost use Rattle.std.specs.Prelude.{◌≡◌, ◌≤◌, Some};
     ghost use Rattle.serde_json.specs.Written.{compact_text};
     ghost use Rattle.arm_value.specs.View.{json};
     ghost use Rattle.arm_value.specs.Json.{nesting};
-    ghost use Rattle.arm_value.specs.Reading.{data_of};
+    ghost use Rattle.arm_value.specs.Reading.{data_of, reading};
 
     ghost view = { λ s. json s.value };
 
     ghost invariant = { λ s. (s.text ≡ compact_text (data_of (json s.value)))
+        × (reading s.text ≡ Some (data_of (json s.value)))
         × (nesting (json s.value) ≤ 110) };
 }
 
@@ -91,9 +92,10 @@ impl State {
         &self.value
     }
 
-    /// The compact JSON text of the value, as `Value::to_json` gives it.
+    /// The compact JSON text of the value, as `Value::to_json` gives it. It reads back as the value.
     pub fn text(&self) -> &Bytes
-        ensures { result.now ≡ compact_text (data_of self.now) }
+        ensures text { result.now ≡ compact_text (data_of self.now) }
+        ensures reads_back { reading result.now ≡ Some (data_of self.now) }
     {
         &self.text
     }

@@ -23,7 +23,8 @@ pub struct MemSource {
 impl MemSource {
     /// A source of these bytes, which come by those cuts. The calls of those numbers fail.
     pub fn new(bytes: Vec<u8>, cuts: Vec<usize>, fails: Vec<u64>) -> MemSource
-        ensures bytes { drop result.taken result.bytes.items ≡ bytes.items }
+        ensures bytes { result.bytes ≡ bytes }
+        ensures taken { result.taken ≡ 0 }
         ensures cuts { result.calls.cuts.items ≡ cuts.items }
         ensures fails { result.calls.fails.items ≡ fails.items }
         ensures made { result.calls.made ≡ 0 }

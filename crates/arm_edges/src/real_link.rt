@@ -1,5 +1,5 @@
 // A link over TCP.
-ghost use Rattle.std.specs.Prelude.{◌≡◌, false, []};
+ghost use Rattle.std.specs.Prelude.{◌≡◌, false, [], None};
 
 use crate::faults::counted;
 use crate::{Failed, Link, RealEnd};
@@ -36,7 +36,9 @@ impl<R: Net<Listener = TcpListener, Stream = TcpStream> + Drop> RealLink<R> {
 
     /// The port on which it takes connections, where it takes any: that of the last `listen`, or the port that the
     /// system gave it for port 0.
-    pub fn port(&self) -> Option<u16> {
+    pub fn port(&self) -> Option<u16>
+        ensures { self.now.listener ≡ None → result ≡ None }
+    {
         match self.listener.as_ref()?.local_addr() {
             Ok(address) => Some(address.port()),
             Err(_) => None,

@@ -32,7 +32,8 @@ impl<R: Files<File = File> + Drop> RealTree<R> {
 
     /// The tree of that folder.
     pub fn new(rt: R, folder: String) -> RealTree<R>
-        ensures { result.faults ≡ 0 }
+        ensures folder { result.folder ≡ folder }
+        ensures faults { result.faults ≡ 0 }
     {
         RealTree {
             rt,

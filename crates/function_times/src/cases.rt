@@ -10,8 +10,12 @@ pub type Case = (&'static str, &'static str, &'static [Shape], u64);
 
 const LONG: u64 = 500_000;
 
-const MANY: u64 = 50_000;
+const MANY: u64 = 500_000;
 
+// Of eight arrays at once.
+const EACH: u64 = 60_000;
+
+// Half of the most numbers of a range, and of the most characters of a padded text.
 const FEW: u64 = 5_000;
 
 const A: Shape = Text("", "a", "");
@@ -133,7 +137,7 @@ pub static CASES: [Case; 50] = [
             Numbers(6),
             Numbers(7),
         ],
-        FEW,
+        EACH,
     ),
     (
         "union",
@@ -148,7 +152,7 @@ pub static CASES: [Case; 50] = [
             Numbers(0),
             Numbers(0),
         ],
-        FEW,
+        EACH,
     ),
     (
         "intersection",

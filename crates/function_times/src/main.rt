@@ -17,6 +17,9 @@ use std::rt::{Clock, Env};
 use std::time::Instant;
 use std::{env, io};
 
+// How often each call is timed at each size.
+const TURNS: u32 = 5;
+
 // The arguments of these shapes at size n.
 fn arguments(alloc: Global, shapes: &[Shape], n: u64) -> Result<Vec<Value>, AllocError> {
     let mut args = Vec::new(alloc);
@@ -61,10 +64,25 @@ fn none_said(found: bool) -> &'static str {
     if found { "" } else { " no value" }
 }
 
+// The least microseconds of some calls of the function at size n and of as many at 2n, by turns, and whether all of
+// them gave a value.
+fn least<R: Clock + Alloc<A = Global>>(rt: &R, case: &Case) -> io::Result<(u64, u64, bool)> {
+    let mut once = u64::MAX;
+    let mut twice = u64::MAX;
+    let mut found = true;
+    for _turn in 0..TURNS {
+        let (smaller, is_found) = micros(rt, case, case.3)?;
+        let (larger, is_larger_found) = micros(rt, case, case.3.saturating_mul(2))?;
+        once = once.min(smaller);
+        twice = twice.min(larger);
+        found = found && is_found && is_larger_found;
+    }
+    Ok((once, twice, found))
+}
+
 fn measure<R: Clock + Print + Alloc<A = Global>>(rt: &R, case: &Case) -> io::Result<()> {
     let (name, words, _, n) = case;
-    let (once, found) = micros(rt, case, *n)?;
-    let (twice, _) = micros(rt, case, n.saturating_mul(2))?;
+    let (once, twice, found) = least(rt, case)?;
     let percent = twice.saturating_mul(100) / once.max(1);
     let none = none_said(found);
     println!(rt; "{name}, {words}: n {n} in {once} us, 2n in {twice} us, {percent} percent{none}")

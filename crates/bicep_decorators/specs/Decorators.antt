@@ -9,13 +9,13 @@ use Rattle.bicep_tree.specs.declared.leaf.Literal.{Literal}
 use Rattle.bicep_tree.specs.declared.leaf.Literal.TheVariants as l
 use Rattle.bicep_tree.specs.declared.leaf.TypeName.{TypeName}
 use Rattle.bicep_tree.specs.declared.leaf.TypeName.TheVariants as type
-use Rattle.bicep_tree.specs.Tree.{Tree, literal, object, array, prefixed, Trees, none, more, ObjectTree, braces}
+use Rattle.bicep_tree.specs.Tree.{Tree, object, array, Trees, none, more, ObjectTree, braces}
 use Rattle.bicep_tree.specs.Tree.{MemberTree, MemberTrees, no_member, and_member, property, child, DecoratorTree}
 use Rattle.bicep_tree.specs.Tree.{DecoratorTrees, no_decorator, and_decorator, decorator, ResourceTree, resource}
 use Rattle.bicep_tree.specs.Tree.{BodyTree, body_plain, body_if, body_each, body_each_if, DeclarationTree, metadata}
 use Rattle.bicep_tree.specs.Tree.{target_scope, param, param_with, var, output, a_resource, a_module, StatementTree}
 use Rattle.bicep_tree.specs.Tree.{statement, FileTree}
-use Rattle.bicep_decorators.specs.Literals.{literal_in, number_literal, is_literal_object, are_literals, is_whole}
+use Rattle.bicep_decorators.specs.Literals.{literal_in, is_literal_object, are_literals, is_whole}
 use Rattle.bicep_decorators.specs.declared.kind.DecoratorKind.{DecoratorKind}
 use Rattle.bicep_decorators.specs.declared.kind.DecoratorKind.TheVariants as k
 use Rattle.bicep_decorators.specs.declared.place.Place.{Place}

@@ -1,5 +1,5 @@
--- Literals: texts without interpolation, whole numbers with or without one `-`, `true`, `false`, `null`, and objects and
--- arrays of literals.
+-- Literals: texts without interpolation, whole numbers with or without one `-`, `true`, `false`, `null`, and objects
+-- and arrays of literals.
 use Rattle.std.specs.Prelude.{◌&&◌, Bool, true, false, Option, Some, None}
 use Rattle.bicep_tree.specs.declared.leaf.Literal.{Literal}
 use Rattle.bicep_tree.specs.declared.leaf.Literal.TheVariants as l
@@ -7,7 +7,8 @@ use Rattle.bicep_tree.specs.declared.leaf.Prefix.{Prefix}
 use Rattle.bicep_tree.specs.declared.leaf.Prefix.TheVariants as p
 use Rattle.bicep_tree.specs.Tree.{Tree, name, literal, interpolated, object, array, parentheses, call, access, index}
 use Rattle.bicep_tree.specs.Tree.{not_null, prefixed, binary, conditional, Trees, none, more, ObjectTree, braces}
-use Rattle.bicep_tree.specs.Tree.{MemberTree, MemberTrees, no_member, and_member, property, child, ValueTree, plain, each}
+use Rattle.bicep_tree.specs.Tree.{MemberTree, MemberTrees, no_member, and_member, property, child, ValueTree, plain}
+use Rattle.bicep_tree.specs.Tree.{each}
 
 -- the literal token that an expression is
 abbrev pub literal_in : Tree → Option Literal

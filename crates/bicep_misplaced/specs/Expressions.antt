@@ -1,4 +1,5 @@
--- What is misplaced in an expression: members whose names a template would read otherwise, for-expressions, and resources.
+-- What is misplaced in an expression: members whose names a template would read otherwise, for-expressions, and
+-- resources.
 use Rattle.std.specs.Prelude.{ℕ, Option, Some, None, if◌then◌else◌}
 use Rattle.bicep_tree.specs.declared.leaf.Label.{Label}
 use Rattle.bicep_tree.specs.Offset.{label_offset, resource_offset}

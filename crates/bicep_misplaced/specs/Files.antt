@@ -1,5 +1,5 @@
 -- What is misplaced in a file, before any name is found.
-use Rattle.std.specs.Prelude.{ℕ, Bool, false, List, [], ◌∷◌, Option, Some, None, bytes_eq, codes, if◌then◌else◌}
+use Rattle.std.specs.Prelude.{ℕ, Bool, false, [], ◌∷◌, Option, Some, None, bytes_eq, codes, if◌then◌else◌}
 use Rattle.bicep_tree.specs.declared.leaf.Literal.{Literal}
 use Rattle.bicep_tree.specs.declared.leaf.Literal.TheVariants as l
 use Rattle.bicep_tree.specs.declared.leaf.Name.{Name}

@@ -1,5 +1,5 @@
 -- What is misplaced in a resource or a module.
-use Rattle.std.specs.Prelude.{ℕ, Bool, true, false, List, [], ◌∷◌, ◌||◌, ◌&&◌, not, Option, Some, None, bytes_eq, codes}
+use Rattle.std.specs.Prelude.{ℕ, Bool, true, false, List, ◌||◌, ◌&&◌, Option, Some, None, bytes_eq, codes}
 use Rattle.std.specs.Prelude.{if◌then◌else◌}
 use Rattle.bicep_tree.specs.declared.leaf.Label.{Label}
 use Rattle.bicep_tree.specs.declared.leaf.Quoted.{Quoted}

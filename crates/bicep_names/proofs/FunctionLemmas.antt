@@ -1,6 +1,8 @@
 -- Names of functions, one after another, and the rows that they call.
-use Rattle.std.proofs.Common.{◌≡◌, ◌<◌, ◌≤◌, ◌+◌, ℕ, Bool, true, false, not, ◌&&◌, List, [], ◌∷◌, Option, Some, None, Bor}
-use Rattle.std.proofs.Common.{length, get_or, drop, map, option_map, add-one, refl, ap, sym, subst, ◌∙◌, bytes_eq, is_some}
+use Rattle.std.proofs.Common.{◌≡◌, ◌<◌, ◌≤◌, ◌+◌, ℕ, Bool, true, false, not, ◌&&◌, List, [], ◌∷◌, Option, Some, None}
+use Rattle.std.proofs.Common.{Bor}
+use Rattle.std.proofs.Common.{length, get_or, drop, map, option_map, add-one, refl, ap, sym, subst, ◌∙◌}
+use Rattle.std.proofs.Common.{is_some}
 use Rattle.std.specs.Str.{chars}
 use Rattle.std.specs.Prelude.{IfSome, if◌then◌else◌}
 use Rattle.std.proofs.Math.Seq.{drop-cons}

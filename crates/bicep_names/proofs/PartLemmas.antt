@@ -14,7 +14,7 @@ use Rattle.bicep_tree.specs.View.{tree_of}
 use Rattle.bicep_resolved.specs.Source.{SourceTree}
 use Rattle.bicep_resolved.specs.Source as s
 use Rattle.bicep_resolved.specs.View.{PieceTree, PropertyTree, sources, pieces, properties}
-use Rattle.bicep_found.specs.Found.{Found, found, mapped, both, all_found}
+use Rattle.bicep_found.specs.Found.{Found, mapped, both, all_found}
 use Rattle.bicep_found.proofs.GatherLemmas.{one, woven, woven_same, woven_some, woven_none}
 use Rattle.bicep_names.specs.Scope.{Scope}
 use Rattle.bicep_names.specs.Resolve.{resolved, resolved_all, resolved_holes, resolved_members, resolved_value}

@@ -1,5 +1,6 @@
 -- Symbols and outputs that are looked up in a map.
-use Rattle.std.proofs.Common.{◌≡◌, ℕ, ◌+◌, List, [], ◌∷◌, ◌++◌, map, Bool, true, false, Option, Some, None, refl, sym, ap}
+use Rattle.std.proofs.Common.{◌≡◌, ℕ, ◌+◌, List, [], ◌∷◌, ◌++◌, map, Bool, true, false, Option, Some, None, refl, sym}
+use Rattle.std.proofs.Common.{ap}
 use Rattle.std.proofs.Common.{◌∙◌, bytes_eq, cond, ◌||◌}
 use Rattle.std.specs.Prelude.{position, string_bytes}
 use Rattle.std.specs.String.{string_eq}
@@ -53,7 +54,8 @@ pub symbol_added : (es : List (String Global × Kind)) (k : String Global) (v : 
     → map seen (insert_entry string_eq es k v) ≡ map seen es ++ (string_bytes k, v) ∷ []
 symbol_added [] k v n h = refl
 symbol_added (e ∷ es) k v n h =
-    added_by (bytes_eq (string_bytes k) (string_bytes e.0)) (string_bytes k, v) k v e (insert_entry string_eq es k v) es _
+    added_by (bytes_eq (string_bytes k) (string_bytes e.0)) (string_bytes k, v) k v e
+    (insert_entry string_eq es k v) es _
     (none_at (bytes_eq (string_bytes k) (string_bytes e.0)) (n, e.1) (0, e.1) _ h) (λ g. symbol_added es k v (n + 1) g)
 
 place_from : (q : List ℕ) (keys : List (String Global)) (n : ℕ)
@@ -65,7 +67,8 @@ place_from q (k ∷ ks) n = ap (cond (bytes_eq q (string_bytes k)) (Some n)) (pl
 pub place_is : (q : List ℕ) (keys : List (String Global))
     → position (bytes_eq q) (map string_bytes keys) ≡ position (test q) keys
 place_is q keys =
-    position_from-zero (bytes_eq q) (map string_bytes keys) ∙ place_from q keys 0 ∙ sym (position_from-zero (test q) keys)
+    position_from-zero (bytes_eq q) (map string_bytes keys) ∙ place_from q keys 0
+    ∙ sym (position_from-zero (test q) keys)
 
 absent_by : (b : Bool) (n : ℕ) (o : Option ℕ) (r : Bool) → cond b (Some n) o ≡ None → (o ≡ None → r ≡ false)
     → (b || r) ≡ false

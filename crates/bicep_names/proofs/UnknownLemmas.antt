@@ -1,9 +1,8 @@
 -- An expression stands for nothing exactly where a name in it means nothing.
-use Rattle.std.proofs.Common.{◌≡◌, ◌⊎◌, inl, inr, ℕ, List, ◌∷◌, Option, Some, None, refl, sym, ◌∙◌}
+use Rattle.std.proofs.Common.{◌≡◌, ◌⊎◌, inl, inr, ℕ, List, ◌∷◌, Option, Some, None, refl, sym}
 use Rattle.std.proofs.lemmas.Option.{none-some}
 use Rattle.bicep_tree.specs.declared.leaf.Access.{Access}
 use Rattle.bicep_tree.specs.declared.leaf.Access.TheVariants as access
-use Rattle.bicep_tree.specs.declared.leaf.Function.{Function}
 use Rattle.bicep_tree.specs.declared.leaf.LoopNames.{LoopNames}
 use Rattle.bicep_tree.specs.declared.leaf.Name.{Name}
 use Rattle.bicep_tree.specs.Offset.{function_offset}

@@ -1,5 +1,5 @@
 -- What an expression stands for, once its names are found.
-use Rattle.std.specs.Prelude.{ℕ, List, [], ◌∷◌, Bool, true, false, Option, Some, None, bytes_eq, codes, if◌then◌else◌}
+use Rattle.std.specs.Prelude.{ℕ, List, ◌∷◌, Bool, true, false, Option, Some, None, bytes_eq, codes, if◌then◌else◌}
 use Rattle.bicep_tree.specs.declared.leaf.Access.{Access}
 use Rattle.bicep_tree.specs.declared.leaf.Access.TheVariants as access
 use Rattle.bicep_tree.specs.declared.leaf.Function.{Function}

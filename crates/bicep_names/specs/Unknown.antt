@@ -14,8 +14,8 @@ use Rattle.bicep_names.specs.Functions.{function_named}
 use Rattle.bicep_names.specs.Scope.{Scope, meaning_of, nested_named}
 use Rattle.bicep_names.specs.Resolve.{resolved, output_of, function_name}
 
--- a part of that name, after `.`, `.?` or `::`, that what an expression stands for does not have: an output of a module,
--- or a nested resource
+-- a part of that name, after `.`, `.?` or `::`, that what an expression stands for does not have: an output of a
+-- module, or a nested resource
 abbrev pub Lacks : Scope → SourceTree → Access → List ℕ → Type 0
 Lacks sc (s.field r at f.Outputs) access.Member name = output_of sc.outputs (target_of r) name ≡ None
 Lacks sc e access.Member name = ⊥

@@ -1,7 +1,8 @@
 //! What the names of a Bicep file stand for.
 //!
-//! A caller may rely on `specs/Resolve`: the expression that a tree of the parser stands for once its names are found, by
-//! recursion on the tree. `specs/Scope` says what a name stands for, `specs/Functions` which functions a file may call.
+//! A caller may rely on `specs/Resolve`: the expression that a tree of the parser stands for once its names are
+//! found, by recursion on the tree. `specs/Scope` says what a name stands for, `specs/Functions` which functions a
+//! file may call.
 //! `specs/Unknown` says independently where a name means nothing, and `unknown_names` that an expression stands for
 //! nothing exactly there. Symbols are looked up in constant time, names of loops one loop after another.
 #![tactic(auto)]

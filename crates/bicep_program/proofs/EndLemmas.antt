@@ -1,6 +1,7 @@
 -- How loading ends: with a program, a circle, or too many files.
-use Rattle.std.proofs.Common.{◌≡◌, ℕ, suc, zero, ◌+◌, ◌<◌, ◌≤◌, List, [], ◌∷◌, ◌++◌, length, map, take, drop, Some, refl}
-use Rattle.std.proofs.Common.{sym, ◌∙◌, ap, subst, arith, get_or, length-append, add-one}
+use Rattle.std.proofs.Common.{◌≡◌, ℕ, suc, zero, ◌+◌, ◌<◌, ◌≤◌, List, [], ◌∷◌, ◌++◌, length, map, take, drop, Some}
+use Rattle.std.proofs.Common.{refl}
+use Rattle.std.proofs.Common.{sym, ◌∙◌, ap, subst, arith, get_or, add-one}
 use Rattle.std.proofs.Common.{Bool, Option, Result, Ok, Err}
 use Rattle.std.specs.Prelude.{slice_get, bytes_eq, Contains, IfOk, IfErr, OnOk}
 use Rattle.std.specs.List.{AllByRecursion, IsDistinct}
@@ -16,10 +17,10 @@ use Rattle.bicep_program.specs.Program.{files_of}
 use Rattle.bicep_program.specs.declared.file.Program.{Program}
 use Rattle.bicep_program.specs.Refused.{HasFault, AreTooMany, IsModuleCircle}
 use Rattle.bicep_program.specs.Loading.{IsNoted, HasCome}
-use Rattle.bicep_program.specs.Graphs.{name_at, IsCircleOf, IsCircleAmong, AreWithin}
+use Rattle.bicep_program.specs.Graphs.{name_at, IsCircleOf, AreWithin}
 use Rattle.bicep_program.specs.declared.fault.LoadFault.{LoadFault}
 use Rattle.bicep_program.specs.declared.fault.LoadFault.TheVariants as fault
-use Rattle.bicep_program.proofs.LoadLemmas.{entry_reached, named_noted, map_each, take_one_more, take_grown}
+use Rattle.bicep_program.proofs.LoadLemmas.{entry_reached, named_noted, take_one_more, take_grown}
 use Rattle.bicep_program.proofs.LoadLemmas.{entry_names-append, length-entry_names, at_place}
 
 all_map : {A B : Type 0} (f : A → B) (P : B → Type 0) (xs : List A) → AllByRecursion (λ x. P (f x)) xs

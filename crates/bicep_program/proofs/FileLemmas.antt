@@ -1,12 +1,13 @@
 -- The files of a program by their numbers.
-use Rattle.std.proofs.Common.{◌≡◌, ℕ, zero, suc, ◌+◌, ◌<◌, List, [], ◌∷◌, ◌++◌, length, map, take, get_or, refl, sym, ◌∙◌}
+use Rattle.std.proofs.Common.{◌≡◌, ℕ, zero, suc, ◌+◌, ◌<◌, List, [], ◌∷◌, ◌++◌, length, map, take, get_or, refl, sym}
+use Rattle.std.proofs.Common.{◌∙◌}
 use Rattle.std.proofs.Common.{ap, subst, arith, add-one, Option, Some, None, Result, Ok, Err}
 use Rattle.std.specs.Prelude.{IfOk, IfSome, IfNone, OnOk}
 use Rattle.std.specs.declared.vec.Vec.{Vec}
 use Rattle.std.specs.declared.alloc.Global.{Global}
 use Rattle.std.specs.List.{AllByRecursion}
 use Rattle.bicep_program.specs.declared.file.SourceFile.{SourceFile}
-use Rattle.bicep_program.specs.Program.{program_file, links_of, names_of}
+use Rattle.bicep_program.specs.Program.{program_file, links_of}
 use Rattle.bicep_program.specs.Circles.{IsCircle, Links}
 use Rattle.bicep_program.specs.Graphs.{AreWithin, name_at, with_links, unlinked}
 use Rattle.bicep_program.proofs.GraphLemmas.{graph_of_lists, circle_to, circle_from, circle_within}

@@ -1,9 +1,8 @@
 -- What the graph of the files of a program says.
-use Rattle.std.proofs.Common.{◌≡◌, ◌<◌, ◌≤◌, ◌+◌, ◌==◌, ◌⊎◌, inl, inr, ℕ, zero, suc, Bool, true, false, List, [], ◌∷◌}
+use Rattle.std.proofs.Common.{◌≡◌, ◌<◌, ◌≤◌, ◌+◌, ◌==◌, ◌⊎◌, inl, inr, ℕ, zero, suc, Bool, false, List, [], ◌∷◌}
 use Rattle.std.proofs.Common.{length, get_or, refl, sym, ap, ◌∙◌, arith, cond, subst, Ordering, Less, Equal, Greater}
-use Rattle.std.proofs.Common.{nat_cmp, add-zero, add-suc}
-use Rattle.std.proofs.Math.ListN.{set}
-use Rattle.std.specs.Prelude.{Contains, replicate}
+use Rattle.std.proofs.Common.{nat_cmp}
+use Rattle.std.specs.Prelude.{Contains}
 use Rattle.std.specs.BTreeSet.{insert_key}
 use Rattle.std.specs.Ordering.{match_ordering}
 use Rattle.std.specs.List.{AllByRecursion}
@@ -84,7 +83,8 @@ edge_from_by g a b u v (inl e) (inl f) h n = inr (e, f)
 edge_from_by g a b u v (inl e) (inr f) h n = inl (
     let m = rw (get_or-set_at g.needs a u (insert_key nat_cmp (get_or g.needs a []) b) [] e h) at n in
     let z : ◌≡◌ {A = ℕ} (cond (b == v) 1 0) 0 = ap {A = Bool} {B = ℕ} (λ t. cond t 1 0) (other_test b v f) in
-    let s : times (get_or g.needs a []) v ≡ times (get_or g.needs u []) v = ap (λ y. times (get_or g.needs y []) v) (sym e) in
+    let s : times (get_or g.needs a []) v ≡ times (get_or g.needs u []) v =
+    ap (λ y. times (get_or g.needs y []) v) (sym e) in
     omega (arith, most (get_or g.needs a []) b v, m, z, s))
 edge_from_by g a b u v (inr ne) f h n =
     inl (rw (get_or-set_other g.needs a u (insert_key nat_cmp (get_or g.needs a []) b) [] ne) at n)
@@ -125,7 +125,8 @@ needs_from g a (b ∷ bs) u v h n =
 
 pub size_needs : (g : Shape) (a : ℕ) (bs : List ℕ) → length (with_needs g a bs).needs ≡ length g.needs
 size_needs g a [] = refl
-size_needs g a (b ∷ bs) = size_needs (with_edge g a b) a bs ∙ length-set g.needs a (insert_key nat_cmp (get_or g.needs a []) b)
+size_needs g a (b ∷ bs) = size_needs (with_edge g a b) a bs
+    ∙ length-set g.needs a (insert_key nat_cmp (get_or g.needs a []) b)
 
 -- the needs of all nodes from one on
 keeps_links : (g : Shape) (node : ℕ) (lists : List (List ℕ)) (u v : ℕ) → node + length lists ≤ length g.needs

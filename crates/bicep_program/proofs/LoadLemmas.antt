@@ -1,8 +1,9 @@
 -- How loading goes on from file to file.
-use Rattle.std.proofs.Common.{◌≡◌, ℕ, suc, zero, ◌+◌, ◌<◌, ◌≤◌, List, [], ◌∷◌, ◌++◌, length, map, take, drop, Option, Some}
-use Rattle.std.proofs.Common.{None, refl, sym, ◌∙◌, ap, subst, arith, inl, inr, ◌⊎◌, length-append, add-one}
+use Rattle.std.proofs.Common.{◌≡◌, ℕ, suc, zero, ◌+◌, ◌<◌, ◌≤◌, List, [], ◌∷◌, ◌++◌, length, take}
+use Rattle.std.proofs.Common.{Some}
+use Rattle.std.proofs.Common.{None, refl, sym, ◌∙◌, ap, subst, arith, inl, inr, length-append}
 use Rattle.std.proofs.Common.{Result, Ok, Err}
-use Rattle.std.specs.Prelude.{slice_get, bytes_eq, Contains, IfOk}
+use Rattle.std.specs.Prelude.{slice_get, bytes_eq, IfOk}
 use Rattle.std.specs.declared.vec.Vec.{Vec}
 use Rattle.std.specs.declared.alloc.Global.{Global}
 use Rattle.std.specs.List.{AllByRecursion, IsDistinct}
@@ -11,10 +12,10 @@ use Rattle.module_links.specs.declared.entry.Entry.{Entry}
 use Rattle.module_links.specs.Paths.{file_at}
 use Rattle.module_links.specs.Links.{entry_names, AreLinked, Adds, IsNamedBy}
 use Rattle.module_links.proofs.LinkLemmas.{get_grown, linked_grown, all_append, map-append}
-use Rattle.bicep_program.specs.Sources.{Folder, IsReadAs, Lacks, Has, Holds}
-use Rattle.bicep_program.specs.Program.{ProgramFile, names_of, module_paths, IsReached, begun, further, Names}
-use Rattle.bicep_program.specs.Refused.{HasFault, IsWritten, IsMissing, IsMainMissing, LeadsNowhere}
-use Rattle.bicep_program.specs.Loading.{IsNoted, IsMainEntry, IsNamedEntry, IsMissingAt, HasCome}
+use Rattle.bicep_program.specs.Sources.{Folder, IsReadAs, Lacks}
+use Rattle.bicep_program.specs.Program.{ProgramFile, names_of, module_paths, IsReached, begun, further}
+use Rattle.bicep_program.specs.Refused.{HasFault, IsWritten, IsMissing}
+use Rattle.bicep_program.specs.Loading.{IsNoted, IsMissingAt, HasCome}
 use Rattle.bicep_program.specs.declared.fault.LoadFault.{LoadFault}
 use Rattle.bicep_program.specs.declared.fault.LoadFault.TheVariants as fault
 
@@ -127,7 +128,8 @@ come_next folder main old new files name t ks come more here read adds links =
           (map_each (λ f. AreLinked (entry_names old) f.name (module_paths f.tree) f.modules)
           (λ f. AreLinked (entry_names (old ++ adds.more)) f.name (module_paths f.tree) f.modules) files
           (λ f h. rw (entry_names-append old adds.more)
-          (linked_grown (entry_names old) (entry_names adds.more) f.name (module_paths f.tree) f.modules h)) come.linked)
+          (linked_grown (entry_names old) (entry_names adds.more) f.name (module_paths f.tree) f.modules h))
+          come.linked)
           (subst (λ es. AreLinked (entry_names es) name (module_paths t) ks) adds.new_is links, tt);
     })
   where
@@ -143,7 +145,8 @@ come_next folder main old new files name t ks come more here read adds links =
         by_entry : (es : List Entry) (k : ℕ) → slice_get (entry_names es) k ≡ Some name
             → AllByRecursion (IsNoted folder main) es → IsReached folder main name
         by_entry [] k e h = absurd (cc)
-        by_entry (x ∷ es) zero e h = let s : x.name ≡ name = cc in subst (IsReached folder main) s (entry_reached folder main x h.0)
+        by_entry (x ∷ es) zero e h = let s : x.name ≡ name =
+            cc in subst (IsReached folder main) s (entry_reached folder main x h.0)
         by_entry (x ∷ es) (suc k) e h = by_entry es k e h.1
 
 -- the main file was named

@@ -1,5 +1,5 @@
 -- Why bytes are the source of no file.
-use Rattle.std.proofs.Common.{◌≡◌, ℕ, List}
+use Rattle.std.proofs.Common.{ℕ, List}
 use Rattle.std.specs.Prelude.{◌≢◌}
 use Rattle.std.specs.Str.{IsUtf8}
 use Rattle.bicep_lexer.specs.declared.fault.LexFault.{LexFault}
@@ -10,7 +10,7 @@ use Rattle.bicep_lexer.specs.Faults as faults
 use Rattle.bicep_parser.specs.declared.fault.ParseFault.{ParseFault}
 use Rattle.bicep_parser.specs.declared.fault.ParseFault.TheVariants as parse
 use Rattle.bicep_parser.specs.Refused.{Refuses, TellsPlace}
-use Rattle.bicep_program.specs.Sources.{Folder, Holds, IsLexFault, IsParseFault}
+use Rattle.bicep_program.specs.Sources.{Folder, Holds}
 use Rattle.bicep_program.specs.Unread.{IsNoSource, IsNotRead, lex_fault, parse_fault}
 use Rattle.bicep_program.specs.declared.sources.FileFault.{FileFault}
 use Rattle.bicep_program.specs.declared.sources.FileFault.TheVariants as fault

@@ -1,5 +1,5 @@
 -- Programs: a file and the files that its modules name.
-use Rattle.std.specs.Prelude.{◌≡◌, ℕ, ◌<◌, ◌≤◌, List, [], ◌∷◌, length, map, Option, Some, None, bytes_eq, Contains}
+use Rattle.std.specs.Prelude.{◌≡◌, ℕ, ◌<◌, ◌≤◌, List, [], length, map, Option, Some, None, bytes_eq, Contains}
 use Rattle.std.specs.Prelude.{slice_get}
 use Rattle.std.specs.List.{AllByRecursion, filter_map, IsDistinct}
 use Rattle.bicep_tree.specs.Tree.{FileTree, StatementTree, statement, DeclarationTree, a_module}

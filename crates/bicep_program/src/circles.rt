@@ -29,7 +29,8 @@ fn add_needs(alloc: Global, graph: &mut Graph, node: u32, needs: &[u32]) -> Resu
 fn graph_of(alloc: Global, files: &[SourceFile]) -> Result<Graph, OutOfMemory>
     requires few { length files.now ≤ 65 }
     requires within { AreWithin (length files.now) (links_of (map program_file files.now)) }
-    ensures { IfOk result (λ g. g ≡ with_links (unlinked (length files.now)) 0 (links_of (map program_file files.now))) }
+    ensures { IfOk result (λ g. g
+        ≡ with_links (unlinked (length files.now)) 0 (links_of (map program_file files.now))) }
 {
     let mut graph = Graph::new(alloc, files.len() as u32)?;
     for (node, file) in files.iter().enumerate() {

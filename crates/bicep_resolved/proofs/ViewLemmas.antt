@@ -263,7 +263,8 @@ piece_of-is x =
 pub property_of-is : (x : Property) → property_of x ≡ (x.at, x.name, value_of x.value)
 unfolding source_of reach_of value_of piece_of property_of loop_of
 property_of-is x =
-    let y : Property-F Reach Source SourceValue Piece Property SourceLoop = record { at = x.at; name = x.name; value = x.value } in
+    let y : Property-F Reach Source SourceValue Piece Property SourceLoop =
+    record { at = x.at; name = x.name; value = x.value } in
     ap (fold-Property ReachTree SourceTree ValueTree PieceTree PropertyTree LoopTree
     reach_layer source_layer value_layer piece_layer property_layer loop_layer)
     (views.is-struct-Property x ∙ sym (views.rolls-struct-Property y))

@@ -1,5 +1,5 @@
 -- Expressions whose names are found, as trees.
-use Rattle.std.specs.Prelude.{ℕ, List, [], ◌∷◌}
+use Rattle.std.specs.Prelude.{ℕ, List}
 use Rattle.bicep_tree.specs.declared.leaf.Indexing.{Indexing}
 use Rattle.bicep_tree.specs.declared.leaf.Literal.{Literal}
 use Rattle.bicep_tree.specs.declared.leaf.Name.{Name}

@@ -1,5 +1,7 @@
 -- The steps of the result channel keep its rule.
-use Rattle.std.proofs.Common.{◌≡◌, ◌≢◌, ℕ, ◌+◌, ◌≤◌, Bool, cond, eqb, true, false, List, [], ◌∷◌, ◌++◌, length, set, sym, refl, ap, ◌∙◌, subst, ◌⊎◌, inl, inr, ⊎_elim, append_assoc, append-nil, arith, zero, suc, ne_eqb, eq-eqb}
+use Rattle.std.proofs.Common.{◌≡◌, ◌≢◌, ℕ, ◌+◌, ◌≤◌, Bool, cond, eqb, true, false, List, [], ◌∷◌, ◌++◌, length, set}
+use Rattle.std.proofs.Common.{sym, refl, ap, ◌∙◌, subst, ◌⊎◌, inl, inr, ⊎_elim, append_assoc, append-nil, arith, zero}
+use Rattle.std.proofs.Common.{suc, ne_eqb, eq-eqb}
 use mathlib.Core.Option.{some, some-injective, some-ne-none}
 use lib.ListN.{get_elem?}
 use Rattle.crossbeam_channel.specs.Fifo.{Pushes, Pops, Forks, Merges, Learns}
@@ -16,18 +18,24 @@ Fits reader made seat sent got port v = FitsDriver reader made got port v × Fit
 abbrev All : (ℕ → Results → Type 0) → List Results → Type 0
 All F views = (port : ℕ) (v : Results) → get_elem? views port ≡ some v → F port v
 
-all_set : (F : ℕ → Results → Type 0) (views : List Results) (port : ℕ) (w : Results) → F port w → ((j : ℕ) (u : Results) → j ≢ port → get_elem? views j ≡ some u → F j u) → All F (set views port w)
-all_set F views port w mine others j u e = ⊎_elim (λ (x : (j ≡ port) × (w ≡ u)). subst (λ (y : ℕ × Results). F y.0 y.1) (λ i. (sym x.0 i, x.1 i)) mine)
+all_set : (F : ℕ → Results → Type 0) (views : List Results) (port : ℕ) (w : Results) → F port w
+    → ((j : ℕ) (u : Results) → j ≢ port → get_elem? views j ≡ some u → F j u) → All F (set views port w)
+all_set F views port w mine others j u e =
+    ⊎_elim (λ (x : (j ≡ port) × (w ≡ u)). subst (λ (y : ℕ × Results). F y.0 y.1) (λ i. (sym x.0 i, x.1 i)) mine)
     (λ (x : (j ≢ port) × (get_elem? views j ≡ some u)). others j u x.0 x.1) (at_set views port j w u e)
 
-at_end : (l : List Results) (a b : Results) (j : ℕ) → get_elem? (l ++ a ∷ []) j ≡ some b → (get_elem? l j ≡ some b) ⊎ ((length l ≡ j) × (a ≡ b))
+at_end : (l : List Results) (a b : Results) (j : ℕ) → get_elem? (l ++ a ∷ []) j ≡ some b
+    → (get_elem? l j ≡ some b) ⊎ ((length l ≡ j) × (a ≡ b))
 at_end [] a b zero e = inr (refl, some-injective a b e)
 at_end [] a b (suc j) e = absurd (some-ne-none b (sym e))
 at_end (x ∷ xs) a b zero e = inl e
 at_end (x ∷ xs) a b (suc j) e = ⊎_elim inl (λ t. inr (ap suc t.0, t.1)) (at_end xs a b j e)
 
-all_end : (F : ℕ → Results → Type 0) (views : List Results) (w : Results) → All F views → F (length views) w → All F (views ++ w ∷ [])
-all_end F views w old new j u e = ⊎_elim (old j u) (λ (x : (length views ≡ j) × (w ≡ u)). subst (λ (y : ℕ × Results). F y.0 y.1) (λ i. (x.0 i, x.1 i)) new) (at_end views w u j e)
+all_end : (F : ℕ → Results → Type 0) (views : List Results) (w : Results) → All F views → F (length views) w
+    → All F (views ++ w ∷ [])
+all_end F views w old new j u e =
+    ⊎_elim (old j u) (λ (x : (length views ≡ j)
+    × (w ≡ u)). subst (λ (y : ℕ × Results). F y.0 y.1) (λ i. (x.0 i, x.1 i)) new) (at_end views w u j e)
 
 -- the second of two, where b
 over : {A : Type 0} (b : Bool) (x y : A) → b ≡ true → cond b x y ≡ x
@@ -40,7 +48,8 @@ cond_last : (b : Bool) (l : List Done) (x : Done) → l ++ cond b (x ∷ []) [] 
 cond_last true l x = refl
 cond_last false l x = append-nil l
 
-pub puts : (n port : ℕ) (v : Results) (x : Done) → v.sends ≡ true → x.worker ≡ v.worker → Pushes AreBySeat n port v x (λ w. w ≡ results v.receives v.sends v.made v.worker (v.sent ++ x ∷ []) v.got)
+pub puts : (n port : ℕ) (v : Results) (x : Done) → v.sends ≡ true → x.worker ≡ v.worker
+    → Pushes AreBySeat n port v x (λ w. w ≡ results v.receives v.sends v.made v.worker (v.sent ++ x ∷ []) v.got)
 unfolding of
 puts n port v x may own items views room h at =
     let w : Results = results v.receives v.sends v.made v.worker (v.sent ++ x ∷ []) v.got in
@@ -54,19 +63,36 @@ puts n port v x may own items views room h at =
         h.2,
         sent,
         h.4,
-        (λ p. ap (of p) (sym (append_assoc h.4 items (x ∷ []))) ∙ of_append p (h.4 ++ items) (x ∷ []) ∙ ap (λ l. l ++ of p (x ∷ [])) (h.5 p) ∙ cond_last (eqb x.worker p) (h.3 p) x),
-        (λ p late. under (eqb x.worker p) (h.3 p ++ x ∷ []) (h.3 p) (ne_eqb x.worker p (λ e. let l = me.0 in omega arith)) ∙ h.6 p late),
-        all_set (Fits h.0 h.1 h.2 sent h.4) views port w
-            (mine.0, λ _. (me.0, me.1, ap (λ l. l ++ x ∷ []) me.2 ∙ sym (over (eqb x.worker v.worker) (h.3 v.worker ++ x ∷ []) (h.3 v.worker) (eq-eqb x.worker v.worker own))))
+        (λ p. ap (of p) (sym (append_assoc h.4 items (x ∷ []))) ∙ of_append p (h.4 ++ items) (x ∷ [])
+            ∙ ap (λ l. l ++ of p (x ∷ [])) (h.5 p) ∙ cond_last (eqb x.worker p) (h.3 p) x),
+        (λ p late. under (eqb x.worker p) (h.3 p ++ x ∷ []) (h.3 p)
+            (ne_eqb x.worker p (λ e. let l = me.0 in omega arith)) ∙ h.6 p late),
+        all_set (Fits h.0 h.1 h.2 sent h.4) views port w (
+          mine.0,
+          λ _. (
+            me.0,
+            me.1,
+            ap (λ l. l ++ x ∷ []) me.2
+                ∙ sym (over (eqb x.worker v.worker) (h.3 v.worker ++ x ∷ []) (h.3 v.worker)
+                (eq-eqb x.worker v.worker own)),
+          ),
+        )
             (λ j u other e. let theirs = h.7 j u e in (
               theirs.0,
-              λ s. let t = theirs.1 s in (t.0, t.1, t.2 ∙ sym (under (eqb x.worker u.worker) (h.3 u.worker ++ x ∷ []) (h.3 u.worker) (ne_eqb x.worker u.worker (λ same. other (sym t.1 ∙ ap h.2 (sym same ∙ own) ∙ me.1))))),
+              λ s. let t = theirs.1 s in (
+                t.0,
+                t.1,
+                t.2
+                    ∙ sym (under (eqb x.worker u.worker) (h.3 u.worker ++ x ∷ []) (h.3 u.worker)
+                    (ne_eqb x.worker u.worker (λ same. other (sym t.1 ∙ ap h.2 (sym same ∙ own) ∙ me.1)))),
+              ),
             )),
       ),
       refl,
     )
 
-pub takes : (port : ℕ) (v : Results) → v.receives ≡ true → Pops AreBySeat port v (λ x w. w ≡ results v.receives v.sends v.made v.worker v.sent (v.got ++ x ∷ []))
+pub takes : (port : ℕ) (v : Results) → v.receives ≡ true
+    → Pops AreBySeat port v (λ x w. w ≡ results v.receives v.sends v.made v.worker v.sent (v.got ++ x ∷ []))
 takes port v may x items views h at =
     let w : Results = results v.receives v.sends v.made v.worker v.sent (v.got ++ x ∷ []) in
     let mine = h.7 port v at in
@@ -90,7 +116,8 @@ takes port v may x items views h at =
 no : {A : Type 0} → false ≡ true → A
 no e = absurd (subst (λ b. cond b ⊥ (Unit {0})) e tt)
 
-pub forks : (port : ℕ) (v : Results) → v.receives ≡ true → Forks AreBySeat port v (results true false (v.made + 1) 0 [] v.got) (results false true 0 v.made [] [])
+pub forks : (port : ℕ) (v : Results) → v.receives ≡ true
+    → Forks AreBySeat port v (results true false (v.made + 1) 0 [] v.got) (results false true 0 v.made [] [])
 forks port v may items views h at =
     let left : Results = results true false (v.made + 1) 0 [] v.got in
     let right : Results = results false true 0 v.made [] [] in
@@ -105,15 +132,29 @@ forks port v may items views h at =
       h.5,
       (λ p late. h.6 p (omega arith)),
       all_end (Fits h.0 (h.1 + 1) seat h.3 h.4) (set views port left) right
-          (all_set (Fits h.0 (h.1 + 1) seat h.3 h.4) views port left ((λ _. (me.0, ap (λ m. m + 1) me.1, me.2)), λ s. no s)
+          (all_set (Fits h.0 (h.1 + 1) seat h.3 h.4) views port left
+          ((λ _. (me.0, ap (λ m. m + 1) me.1, me.2)), λ s. no s)
           (λ j u other e. let theirs = h.7 j u e in (
             (λ d. absurd (other ((theirs.0 d).0 ∙ sym me.0))),
-            λ s. let t = theirs.1 s in ((let l = t.0 in omega arith), under (eqb u.worker h.1) new (h.2 u.worker) (ne_eqb u.worker h.1 (λ e. let l = t.0 in omega arith)) ∙ t.1, t.2),
-          )))
-          ((λ d. no d), λ _. ((let m = me.1 in omega arith), over (eqb v.made h.1) new (h.2 v.made) (eq-eqb v.made h.1 me.1), sym (h.6 v.made (let m = me.1 in omega arith)))),
+            λ s. let t = theirs.1 s in (
+              (let l = t.0 in omega arith),
+              under (eqb u.worker h.1) new (h.2 u.worker)
+                  (ne_eqb u.worker h.1 (λ e. let l = t.0 in omega arith)) ∙ t.1,
+              t.2,
+            ),
+          ))) (
+            (λ d. no d),
+            λ _. (
+              (let m = me.1 in omega arith),
+              over (eqb v.made h.1) new (h.2 v.made)
+                  (eq-eqb v.made h.1 me.1),
+              sym (h.6 v.made (let m = me.1 in omega arith)),
+            ),
+          ),
     )
 
-pub merges : (port : ℕ) (v : Results) (other : ℕ) (w : Results) → v.receives ≡ true → w.sends ≡ true → Merges AreBySeat port v other w (results true true v.made w.worker w.sent v.got) (results false false 0 0 [] [])
+pub merges : (port : ℕ) (v : Results) (other : ℕ) (w : Results) → v.receives ≡ true → w.sends ≡ true
+    → Merges AreBySeat port v other w (results true true v.made w.worker w.sent v.got) (results false false 0 0 [] [])
 merges port v other w may serves items views h at apart there =
     let both : Results = results true true v.made w.worker w.sent v.got in
     let spent : Results = results false false 0 0 [] [] in
@@ -131,16 +172,30 @@ merges port v other w may serves items views h at apart there =
       h.6,
       all_set F (set views port both) other spent ((λ d. no d), λ s. no s)
           (λ j u far e. ⊎_elim
-          (λ (x : (j ≡ port) × (both ≡ u)). subst (λ (y : ℕ × Results). F y.0 y.1) (λ i. (sym x.0 i, x.1 i))
-          ((λ _. me), λ _. (its.0, over (eqb w.worker w.worker) port (h.2 w.worker) (eq-eqb w.worker w.worker refl), its.2)))
+          (λ (x : (j ≡ port) × (both ≡ u)). subst (λ (y : ℕ × Results). F y.0 y.1) (λ i. (sym x.0 i, x.1 i)) (
+            (λ _. me),
+            λ _. (
+              its.0,
+              over (eqb w.worker w.worker) port (h.2 w.worker)
+                  (eq-eqb w.worker w.worker refl),
+              its.2,
+            ),
+          ))
           (λ (x : (j ≢ port) × (get_elem? views j ≡ some u)). let theirs = h.7 j u x.1 in (
             theirs.0,
-            λ s. let t = theirs.1 s in (t.0, under (eqb u.worker w.worker) port (h.2 u.worker) (ne_eqb u.worker w.worker (λ same. far (sym t.1 ∙ ap h.2 same ∙ its.1))) ∙ t.1, t.2),
+            λ s. let t = theirs.1 s in (
+              t.0,
+              under (eqb u.worker w.worker) port (h.2 u.worker)
+                  (ne_eqb u.worker w.worker (λ same. far (sym t.1 ∙ ap h.2 same ∙ its.1))) ∙ t.1,
+              t.2,
+            ),
           ))
           (at_set views port j both u e)),
     )
 
-pub learns : (port : ℕ) (v : Results) → v.receives ≡ true → v.sends ≡ true → Learns AreBySeat port v (λ items. (of v.worker (v.got ++ items) ≡ v.sent) × ((p : ℕ) → v.made ≤ p → of p (v.got ++ items) ≡ []))
+pub learns : (port : ℕ) (v : Results) → v.receives ≡ true → v.sends ≡ true
+    → Learns AreBySeat port v (λ items. (of v.worker (v.got ++ items) ≡ v.sent)
+    × ((p : ℕ) → v.made ≤ p → of p (v.got ++ items) ≡ []))
 learns port v may serves items views h at =
     let me = h.7 port v at in
     let got = me.0 may in (
@@ -158,6 +213,8 @@ begins = (
   [],
   (λ _. refl),
   (λ _ _. refl),
-  λ port v e. ⊎_elim (λ (x : get_elem? [] port ≡ some v). absurd (some-ne-none v (sym x))) (λ (x : (0 ≡ port) × (results true false 0 0 [] [] ≡ v)).
-      subst (λ (y : ℕ × Results). Fits 0 0 (λ _. 0) (λ _. []) [] y.0 y.1) (λ i. (x.0 i, x.1 i)) ((λ _. (refl, refl, refl)), λ s. no s)) (at_end [] (results true false 0 0 [] []) v port e),
+  λ port v e. ⊎_elim (λ (x : get_elem? [] port ≡ some v). absurd (some-ne-none v (sym x)))
+      (λ (x : (0 ≡ port) × (results true false 0 0 [] [] ≡ v)).
+      subst (λ (y : ℕ × Results). Fits 0 0 (λ _. 0) (λ _. []) [] y.0 y.1) (λ i. (x.0 i, x.1 i))
+      ((λ _. (refl, refl, refl)), λ s. no s)) (at_end [] (results true false 0 0 [] []) v port e),
 )

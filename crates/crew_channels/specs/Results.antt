@@ -1,4 +1,5 @@
--- The rule of the shared channel: what a seat has sent is what was received of it, and then what the channel holds of it.
+-- The rule of the shared channel: what a seat has sent is what was received of it, and then what the channel holds of
+-- it.
 use Rattle.std.specs.Prelude.{◌≡◌, ℕ, ◌<◌, ◌≤◌, Bool, true, List, [], ◌++◌}
 use mathlib.Core.Option.{some}
 use lib.ListN.{get_elem?}

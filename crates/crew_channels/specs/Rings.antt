@@ -19,7 +19,8 @@ use Rattle.crew_channels.specs.declared.results.Results.{Results}
 
 -- a seat's channel
 abbrev pub OrderRing : Type 0
-OrderRing = Rows (Badge (Key Order)) (Doing Order Orders) (Rounds InOrder) (Option Order) (Key Order) (Lockers Whole) Global
+OrderRing = Rows (Badge (Key Order)) (Doing Order Orders) (Rounds InOrder) (Option Order) (Key Order)
+    (Lockers Whole) Global
 
 -- the shared channel
 abbrev pub DoneRing : Type 0

@@ -18,7 +18,8 @@ pub notes_in-push : (es : List Entry) (bytes : List ℕ) (kind : ℕ) (first sec
     ≡ notes_in es bytes ++ note kind first second ∷ []
 notes_in-push [] [] kind first second h =
     ap₂ (λ f s. note kind f s ∷ []) (take_at first second (length first) refl)
-    (ap (take (length second)) (drop_at first second (length first) refl) ∙ take_all (length second) second (omega arith))
+    (ap (take (length second)) (drop_at first second (length first) refl)
+    ∙ take_all (length second) second (omega arith))
 notes_in-push [] (b ∷ bytes) kind first second h = absurd (omega arith)
 notes_in-push (e ∷ es) bytes kind first second h =
     let more = first ++ second in

@@ -127,7 +127,8 @@ first_take l d r (Some g) is c =
     )
 
 -- a result was settled
-pub knows_take : (l : List Action) (d : Done) (r : Option BookFault) (old now new : Option DriveFault) → KnowsFault old l
+pub knows_take : (l : List Action) (d : Done) (r : Option BookFault) (old now new : Option DriveFault)
+    → KnowsFault old l
     → now ≡ fault_by (taken d r) → new ≡ or_else old now → KnowsFault new (l ++ taken d r ∷ [])
 knows_take l d r None now new c is e =
     subst (λ x. KnowsFault x (l ++ taken d r ∷ [])) (sym e) (first_take l d r now is c)
@@ -189,4 +190,5 @@ wrote_hands tells p None new m a =
     wrote_nothing tells p m (hands_each note_by m no_notes a.0) (hands_each refusal_by m no_refusals a.0)
 wrote_hands tells p (Some g) new m a =
     subst (λ x. Wrote tells p p x) (sym a.0)
-    (wrote_nothing tells p [] (hands_each note_by [] no_notes hands_nil) (hands_each refusal_by [] no_refusals hands_nil))
+    (wrote_nothing tells p [] (hands_each note_by [] no_notes hands_nil)
+    (hands_each refusal_by [] no_refusals hands_nil))

@@ -1,5 +1,6 @@
 -- Actions, some after others.
-use Rattle.std.proofs.Common.{◌≡◌, ◌<◌, ℕ, List, [], ◌∷◌, ◌++◌, sym, ap, ◌∙◌, append-nil, length, set, Option, None, Some}
+use Rattle.std.proofs.Common.{◌≡◌, ◌<◌, ℕ, List, [], ◌∷◌, ◌++◌, sym, ap, ◌∙◌, append-nil, length, set, Option, None}
+use Rattle.std.proofs.Common.{Some}
 use Rattle.dealer_trait.specs.Steps.{begin}
 use Rattle.dealer_trait.specs.declared.book_fault.BookFault.{BookFault}
 use Rattle.driver_loop.specs.Actions.{taken, if_own, end_of, step_by, hand_by, done_by, AreHands}

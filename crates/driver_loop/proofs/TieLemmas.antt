@@ -1,5 +1,6 @@
 -- The dealer's open Begins are the open jobs of the seats.
-use Rattle.std.proofs.Common.{arith, Bool, true, false, cond, eqb, ◌≡◌, ◌≢◌, ◌<◌, ⊎_elim, ℕ, zero, suc, List, [], ◌∷◌, ◌++◌, refl, sym, ap, ◌∙◌, subst, length, get_or, set, Option, None, Some, eq-eqb, ne_eqb}
+use Rattle.std.proofs.Common.{arith, Bool, true, false, cond, eqb, ◌≡◌, ◌≢◌, ◌<◌, ⊎_elim, ℕ, zero, suc, List, [], ◌∷◌}
+use Rattle.std.proofs.Common.{◌++◌, refl, sym, ap, ◌∙◌, subst, length, get_or, set, Option, None, Some, eq-eqb, ne_eqb}
 use Rattle.std.proofs.lemmas.Bool.Decides.{eqb_tells}
 use Rattle.provider_trait.specs.Work.{Work}
 use Rattle.dealer_trait.specs.declared.dealer_step.DealerStep.{DealerStep}
@@ -9,7 +10,8 @@ use Rattle.driver_loop.specs.declared.open_job.OpenJob.{OpenJob}
 use Rattle.driver_loop.specs.OpenJobs.{open_at, job_at, job_in}
 use Rattle.driver_loop.specs.Runs.{IsRight, Tied}
 
-begun_append : (t : ℕ) (o : Option Work) (l m : List DealerStep) → begun_from t o (l ++ m) ≡ begun_from t (begun_from t o l) m
+begun_append : (t : ℕ) (o : Option Work) (l m : List DealerStep)
+    → begun_from t o (l ++ m) ≡ begun_from t (begun_from t o l) m
 unfolding begun_from
 begun_append t o [] m = refl
 begun_append t o (s ∷ l) m = begun_append t (begun_after t o s) l m
@@ -48,18 +50,22 @@ no_some o a p q = cc
 
 module _ (steps : List DealerStep) (opens : List (Option OpenJob)) (tied : Tied steps opens) where
   -- a job is begun at a free seat
-  pub tied_hand : (k : ℕ) (o : OpenJob) (job : Work) → k < length opens → open_at opens k ≡ None → o.job.value ≡ job → o.task ≡ job.task → o.act ≡ job.act → job.worker ≡ k
+  pub tied_hand : (k : ℕ) (o : OpenJob) (job : Work) → k < length opens → open_at opens k ≡ None → o.job.value ≡ job
+      → o.task ≡ job.task → o.act ≡ job.act → job.worker ≡ k
       → begun job.task steps ≡ None → Tied (steps ++ Begin job ∷ []) (set opens k (Some o))
   tied_hand k o job low free is task act worker none = record {
     right = λ j p e. ⊎_elim
         (λ (x : (eqb j k ≡ true) × (j ≡ k)).
-        let own : Some o ≡ Some p = sym (here_set opens k (Some o) None low) ∙ ap (λ n. open_at (set opens k (Some o)) n) (sym x.1) ∙ e in
+        let own : Some o ≡ Some p = sym (here_set opens k (Some o) None low)
+        ∙ ap (λ n. open_at (set opens k (Some o)) n) (sym x.1) ∙ e in
         subst (λ (y : ℕ × OpenJob). IsRight (steps ++ Begin job ∷ []) y.0 y.1) (λ i. (sym x.1 i, some_same o p own i))
         (record {
           task = task ∙ ap (λ (b : Work). b.task) (sym is);
           act = act ∙ ap (λ (b : Work). b.act) (sym is);
           worker = ap (λ (b : Work). b.worker) is ∙ worker;
-          open_there = begun_more o.task steps (Begin job) ∙ over (eqb job.task o.task) (Some job) (begun o.task steps) (eq-eqb job.task o.task (sym task)) ∙ ap (λ b. Some b) (sym is);
+          open_there = begun_more o.task steps (Begin job)
+              ∙ over (eqb job.task o.task) (Some job) (begun o.task steps) (eq-eqb job.task o.task (sym task))
+              ∙ ap (λ b. Some b) (sym is);
         }))
         (λ (x : (eqb j k ≡ false) × (j ≢ k)).
         let r = tied.right j p (sym (else_set opens k j (Some o) None x.1) ∙ e) in
@@ -68,45 +74,64 @@ module _ (steps : List DealerStep) (opens : List (Option OpenJob)) (tied : Tied 
           act = r.act;
           worker = r.worker;
           open_there = begun_more p.task steps (Begin job)
-              ∙ under (eqb job.task p.task) (Some job) (begun p.task steps) (ne_eqb job.task p.task (λ t. no_some (begun p.task steps) p.job.value (ap (λ n. begun n steps) (sym t) ∙ none) r.open_there))
+              ∙ under (eqb job.task p.task) (Some job) (begun p.task steps)
+              (ne_eqb job.task p.task (λ t. no_some (begun p.task steps) p.job.value
+              (ap (λ n. begun n steps) (sym t) ∙ none) r.open_there))
               ∙ r.open_there;
         })
         (eqb_tells j k);
     all = λ t b e. ⊎_elim
         (λ (x : (eqb job.task t ≡ true) × (job.task ≡ t)).
-        let own : job ≡ b = some_same job b (sym (begun_more t steps (Begin job) ∙ over (eqb job.task t) (Some job) (begun t steps) x.0) ∙ e) in (
+        let own : job ≡ b = some_same job b (sym (begun_more t steps (Begin job)
+        ∙ over (eqb job.task t) (Some job) (begun t steps) x.0) ∙ e) in (
           ap (λ (y : Work). y.task) (sym own) ∙ x.1,
-          ap (λ (y : Work). job_at (set opens k (Some o)) y.worker) (sym own) ∙ ap (λ n. job_at (set opens k (Some o)) n) worker ∙ ap job_in (here_set opens k (Some o) None low) ∙ ap (λ y. Some y) (is ∙ own),
+          ap (λ (y : Work). job_at (set opens k (Some o)) y.worker) (sym own)
+              ∙ ap (λ n. job_at (set opens k (Some o)) n) worker ∙ ap job_in (here_set opens k (Some o) None low)
+              ∙ ap (λ y. Some y) (is ∙ own),
         ))
         (λ (x : (eqb job.task t ≡ false) × (job.task ≢ t)).
-        let a = tied.all t b (sym (begun_more t steps (Begin job) ∙ under (eqb job.task t) (Some job) (begun t steps) x.0) ∙ e) in (
+        let a = tied.all t b (sym (begun_more t steps (Begin job)
+        ∙ under (eqb job.task t) (Some job) (begun t steps) x.0) ∙ e) in (
           a.0,
-          ap job_in (else_set opens k b.worker (Some o) None (λ w. no_some (job_at opens b.worker) b (ap (λ n. job_at opens n) w ∙ ap job_in free) a.1)) ∙ a.1,
+          ap job_in (else_set opens k b.worker (Some o) None
+              (λ w. no_some (job_at opens b.worker) b (ap (λ n. job_at opens n) w ∙ ap job_in free) a.1)) ∙ a.1,
         ))
         (eqb_tells job.task t);
   }
 
   -- the open job of a seat ends
-  pub tied_end : (k : ℕ) (o : OpenJob) (s : DealerStep) → k < length opens → open_at opens k ≡ Some o → ((t : ℕ) (b : Option Work) → begun_after t b s ≡ cond (eqb o.task t) None b) → Tied (steps ++ s ∷ []) (set opens k None)
+  pub tied_end : (k : ℕ) (o : OpenJob) (s : DealerStep) → k < length opens → open_at opens k ≡ Some o
+      → ((t : ℕ) (b : Option Work) → begun_after t b s ≡ cond (eqb o.task t) None b)
+      → Tied (steps ++ s ∷ []) (set opens k None)
   tied_end k o s low was ends =
       let mine = tied.right k o was in record {
         right = λ j p e. ⊎_elim
-            (λ (x : (eqb j k ≡ true) × (j ≡ k)). absurd (no_some (open_at (set opens k None) k) p (here_set opens k None None low) (ap (λ n. open_at (set opens k None) n) (sym x.1) ∙ e)))
+            (λ (x : (eqb j k ≡ true) × (j ≡ k)). absurd
+            (no_some (open_at (set opens k None) k) p (here_set opens k None None low)
+            (ap (λ n. open_at (set opens k None) n) (sym x.1) ∙ e)))
             (λ (x : (eqb j k ≡ false) × (j ≢ k)).
             let r = tied.right j p (sym (else_set opens k j None None x.1) ∙ e) in
-            let other : o.task ≢ p.task = λ t. x.1 (sym r.worker ∙ ap (λ (y : Work). y.worker) (some_same p.job.value o.job.value (sym r.open_there ∙ ap (λ n. begun n steps) (sym t) ∙ mine.open_there)) ∙ mine.worker) in
+            let other : o.task ≢ p.task = λ t. x.1 (sym r.worker
+            ∙ ap (λ (y : Work). y.worker) (some_same p.job.value o.job.value (sym r.open_there
+            ∙ ap (λ n. begun n steps) (sym t) ∙ mine.open_there)) ∙ mine.worker) in
             record {
               task = r.task;
               act = r.act;
               worker = r.worker;
-              open_there = begun_more p.task steps s ∙ ends p.task (begun p.task steps) ∙ under (eqb o.task p.task) None (begun p.task steps) (ne_eqb o.task p.task other) ∙ r.open_there;
+              open_there = begun_more p.task steps s ∙ ends p.task (begun p.task steps)
+                  ∙ under (eqb o.task p.task) None (begun p.task steps) (ne_eqb o.task p.task other) ∙ r.open_there;
             })
             (eqb_tells j k);
         all = λ t b e. ⊎_elim
-            (λ (x : (eqb o.task t ≡ true) × (o.task ≡ t)). absurd (no_some (begun t (steps ++ s ∷ [])) b (begun_more t steps s ∙ ends t (begun t steps) ∙ over (eqb o.task t) None (begun t steps) x.0) e))
+            (λ (x : (eqb o.task t ≡ true) × (o.task ≡ t)). absurd
+            (no_some (begun t (steps ++ s ∷ [])) b (begun_more t steps s ∙ ends t (begun t steps)
+            ∙ over (eqb o.task t) None (begun t steps) x.0) e))
             (λ (x : (eqb o.task t ≡ false) × (o.task ≢ t)).
-            let a = tied.all t b (sym (begun_more t steps s ∙ ends t (begun t steps) ∙ under (eqb o.task t) None (begun t steps) x.0) ∙ e) in
-            let other : b.worker ≢ k = λ w. x.1 (mine.task ∙ ap (λ (y : Work). y.task) (some_same o.job.value b (sym (ap job_in was) ∙ ap (λ n. job_at opens n) (sym w) ∙ a.1)) ∙ a.0) in (
+            let a = tied.all t b (sym (begun_more t steps s ∙ ends t (begun t steps)
+            ∙ under (eqb o.task t) None (begun t steps) x.0) ∙ e) in
+            let other : b.worker ≢ k = λ w. x.1 (mine.task
+            ∙ ap (λ (y : Work). y.task) (some_same o.job.value b (sym (ap job_in was)
+            ∙ ap (λ n. job_at opens n) (sym w) ∙ a.1)) ∙ a.0) in (
               a.0,
               ap job_in (else_set opens k b.worker None None other) ∙ a.1,
             ))
@@ -114,15 +139,18 @@ module _ (steps : List DealerStep) (opens : List (Option OpenJob)) (tied : Tied 
       }
 
 -- where no job is open at a seat, none is at the dealer
-pub tied_none : (steps : List DealerStep) (opens : List (Option OpenJob)) → Tied steps opens → ((k : ℕ) → open_at opens k ≡ None) → NoneBegun steps
+pub tied_none : (steps : List DealerStep) (opens : List (Option OpenJob)) → Tied steps opens
+    → ((k : ℕ) → open_at opens k ≡ None) → NoneBegun steps
 tied_none steps opens tied free t = closed t (begun t steps) refl
   where
     closed : (t : ℕ) (b : Option Work) → begun t steps ≡ b → begun t steps ≡ None
     closed t None e = e
-    closed t (Some j) e = let a = tied.all t j e in absurd (no_some (job_at opens j.worker) j (ap job_in (free j.worker)) a.1)
+    closed t (Some j) e = let a = tied.all t j e
+        in absurd (no_some (job_at opens j.worker) j (ap job_in (free j.worker)) a.1)
 
 -- where no Begin is open and no seat has a job, they are tied
-pub tied_first : (steps : List DealerStep) (opens : List (Option OpenJob)) → NoneBegun steps → ((k : ℕ) → open_at opens k ≡ None) → Tied steps opens
+pub tied_first : (steps : List DealerStep) (opens : List (Option OpenJob)) → NoneBegun steps
+    → ((k : ℕ) → open_at opens k ≡ None) → Tied steps opens
 tied_first steps opens none free = record {
   right = λ k o e. absurd (no_some (open_at opens k) o (free k) e);
   all = λ t b e. absurd (no_some (begun t steps) b (none t) e);

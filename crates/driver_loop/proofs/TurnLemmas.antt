@@ -1,12 +1,12 @@
 -- What the driver's loop keeps.
-use Rattle.std.proofs.Common.{◌≡◌, ℕ, Bool, List, [], ◌∷◌, ◌++◌, refl, ap, ◌∙◌, set, length, Option, None, Some}
+use Rattle.std.proofs.Common.{◌≡◌, ℕ, Bool, List, [], ◌∷◌, ◌++◌, refl, ap, ◌∙◌, set, Option, None, Some}
 use Rattle.dealer_trait.specs.declared.book_fault.BookFault.{BookFault}
 use Rattle.driver_loop.specs.Actions.{taken, end_of, fault_by, or_else}
 use Rattle.driver_loop.specs.Ends.{Asks, Closed, Strayed}
 use Rattle.driver_loop.specs.Moments.{Moment, Pages}
 use Rattle.driver_loop.specs.OpenJobs.{open_at, IsOfOpenJob, IsStray}
 use Rattle.driver_loop.specs.Runs.{Ran, Wrote, Tied}
-use Rattle.driver_loop.specs.Turns.{KnowsFault, GoesOn}
+use Rattle.driver_loop.specs.Turns.{GoesOn}
 use Rattle.driver_loop.specs.declared.action.Action.{Action}
 use Rattle.driver_loop.specs.declared.fault.DriveFault.{DriveFault}
 use Rattle.driver_loop.specs.declared.fault.DriveFault.TheVariants.{OutOfMemory}

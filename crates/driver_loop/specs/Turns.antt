@@ -10,7 +10,8 @@ use Rattle.driver_loop.specs.declared.fault.Ended.{Ended}
 
 -- the fault is the first that these actions show, or one of memory; after the first fault nothing was begun
 abbrev pub KnowsFault : Option DriveFault → List Action → Type 0
-KnowsFault fault course = (a : List Action) × (b : List Action) × (course ≡ a ++ b) × (first_fault a ≡ None) × AreTakes b
+KnowsFault fault course = (a : List Action) × (b : List Action) × (course ≡ a ++ b) × (first_fault a ≡ None)
+    × AreTakes b
     × (fault ≡ None → b ≡ []) × Blames fault course
 
 -- these actions were done since the beginning, with this fault
@@ -24,7 +25,8 @@ Turned end tells m0 m p0 p fault None = GoesOn tells m0 m p0 p fault
 Turned end tells m0 m p0 p fault (Some ended) = Drove end tells m0 m p0 p ended
 
 -- a turn takes a drive that goes on from one moment to the next
-abbrev pub Turns : Type 0 → Bool → Moment → Moment → Pages → Pages → Option DriveFault → Option DriveFault → Option Ended
+abbrev pub Turns : Type 0 → Bool → Moment → Moment → Pages → Pages → Option DriveFault → Option DriveFault
+    → Option Ended
     → Type 0
 Turns end tells m m' p p' fault fault' result = (m0 : Moment) (p0 : Pages) → GoesOn tells m0 m p0 p fault
     → Turned end tells m0 m' p0 p' fault' result

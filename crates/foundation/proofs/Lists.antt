@@ -1,5 +1,6 @@
 -- Lists: a function of each item, and the item at a place.
-use Rattle.std.proofs.Common.{◌≡◌, ◌<◌, ◌+◌, ℕ, suc, List, [], ◌∷◌, ◌++◌, length, get_or, take, drop, map, refl, ap, ap₂}
+use Rattle.std.proofs.Common.{◌≡◌, ◌<◌, ◌+◌, ℕ, suc, List, [], ◌∷◌, ◌++◌, length, get_or, take, drop, map, refl, ap}
+use Rattle.std.proofs.Common.{ap₂}
 use Rattle.std.proofs.Common.{sym, ◌∙◌, add-one}
 use Rattle.std.specs.List.{insert}
 use Rattle.std.proofs.Math.Seq.{drop-cons}

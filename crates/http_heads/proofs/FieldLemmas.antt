@@ -1,8 +1,8 @@
 -- Loops over fields.
-use Rattle.std.proofs.Common.{◌≡◌, ℕ, ◌+◌, ◌*◌, ◌≤◌, Bool, true, false, ◌&&◌, List, [], ◌∷◌, ◌++◌, Option, Some, None}
-use Rattle.std.proofs.Common.{bytes_eq, cond, refl, sym, ap, ◌∙◌, ◌<◌, arith, nat_le, Bor}
+use Rattle.std.proofs.Common.{◌≡◌, ℕ, ◌+◌, ◌*◌, ◌≤◌, true, false, ◌&&◌, List, [], ◌∷◌, Option, Some, None}
+use Rattle.std.proofs.Common.{bytes_eq, cond, sym, ap, ◌∙◌, ◌<◌, arith, nat_le, Bor}
 use Rattle.std.specs.List.{list_all}
-use Rattle.std.specs.Char.{is_ascii_digit, digit_value}
+use Rattle.std.specs.Char.{digit_value}
 use Rattle.std.specs.Str.Parse.{digits_value, digits_value_after}
 use Rattle.foundation.proofs.Comparisons.{le_false}
 use Rattle.foundation.proofs.Words.{itself}

@@ -1,11 +1,11 @@
 -- Where bytes lead that end in the target of a start line.
 use Rattle.std.proofs.Common.{◌≡◌, ℕ, ◌==◌, ◌<◌, Bool, true, false, List, [], ◌∷◌, ◌++◌, length, cond, refl, sym, ap}
-use Rattle.std.proofs.Common.{◌∙◌, arith, true≢false, append_assoc}
-use Rattle.std.specs.List.{flat_map, AllByRecursion}
+use Rattle.std.proofs.Common.{◌∙◌, arith, true≢false}
+use Rattle.std.specs.List.{AllByRecursion}
 use Rattle.std.proofs.lemmas.List.Elements.{recursion_from_All}
 use Rattle.std.proofs.lemmas.Bool.Decides.{Decides-eqb}
 use Rattle.std.specs.Prelude.{IsTrue}
-use Rattle.httparse.specs.Grammar.{is_token_byte, is_uri_byte, AllPass, IsToken, LineEnd, crlf, lf, print_end}
+use Rattle.httparse.specs.Grammar.{is_token_byte, is_uri_byte, AllPass, IsToken, LineEnd, crlf, lf}
 use Rattle.httparse.specs.Grammar.{print_blank}
 use Rattle.http_heads.specs.Spots.{begin, go_on, step, run, is_past, is_past_target}
 use Rattle.http_heads.specs.declared.spot.Spot.{Spot}

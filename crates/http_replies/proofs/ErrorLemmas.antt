@@ -5,7 +5,7 @@ use Rattle.std.specs.Ordering.{nat_cmp, match_ordering}
 use Rattle.std.specs.declared.cmp.Ordering.TheVariants.{Greater}
 use Rattle.std.proofs.lemmas.Str.{encodes-IsAscii}
 use Rattle.foundation.proofs.AsciiWords.{ascii_word, word}
-use Rattle.arm_value.specs.Json.{Json, Member, key_cmp, text, object, pairs, put, nesting}
+use Rattle.arm_value.specs.Json.{Member, key_cmp, text, object, pairs, put, nesting}
 use Rattle.http_replies.specs.Codes.{name_of}
 use Rattle.http_replies.specs.Replies.{error_json}
 use Rattle.http_replies.specs.declared.code.Code.{Code}

@@ -1,9 +1,8 @@
 -- Ids that are read, by what they are the ids of.
 use Rattle.std.proofs.Common.{◌≡◌, ℕ, List, Option, Some, None, Result, Ok, Err, IfOk, refl, sym, ap, ◌∙◌}
 use Rattle.std.specs.Prelude.{option_map, OnOk}
-use Rattle.arm_value.specs.Look.{fold}
 use Rattle.arm_ids.specs.Segments.{segments}
-use Rattle.arm_ids.specs.Id.{IsIdOf, IsNoKey, reading}
+use Rattle.arm_ids.specs.Id.{IsIdOf, IsNoKey}
 use Rattle.arm_ids.specs.ScopeId.{IsIdOfScope, IsNoScope, container_of}
 use Rattle.arm_ids.specs.declared.id.ResourceId.{ResourceId}
 use Rattle.arm_ids.specs.declared.scope.Scope.{Scope}

@@ -1,8 +1,7 @@
 -- Lists of segments that are too short.
-use Rattle.std.proofs.Common.{◌≡◌, ◌<◌, ℕ, List, [], ◌∷◌, length, Option, None, refl, arith}
+use Rattle.std.proofs.Common.{◌≡◌, ◌<◌, List, [], ◌∷◌, length, None, refl, arith}
 use Rattle.http_routes.specs.Segments.{Part}
 use Rattle.http_routes.specs.Routes.{deployment_of, deployment_route, lock_at}
-use Rattle.http_routes.specs.declared.route.Route.{Route}
 
 pub short_deployment : (s g : Part) (rest : List Part) → length rest < 3 → None ≡ deployment_of s g rest
 short_deployment s g [] l = refl

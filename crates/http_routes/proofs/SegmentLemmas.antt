@@ -1,6 +1,6 @@
 -- Segments that are read one by one.
 use Rattle.std.proofs.Common.{◌≡◌, ℕ, Bool, true, false, List, [], ◌∷◌, ◌++◌, Option, Some, None, cond, chars, refl}
-use Rattle.std.proofs.Common.{sym, ap, ◌∙◌, append_assoc, true≢false}
+use Rattle.std.proofs.Common.{sym, ap, ◌∙◌, append_assoc}
 use Rattle.std.specs.Prelude.{option_map}
 use Rattle.std.specs.Str.{IsUtf8, is_utf8}
 use Rattle.std.proofs.lemmas.Str.{is_utf8-from_IsUtf8, IsUtf8-from_is_utf8}

@@ -1,6 +1,6 @@
 -- Targets that are cut at their first question mark.
-use Rattle.std.proofs.Common.{◌≡◌, ◌<◌, ◌≤◌, ◌+◌, ℕ, Bool, List, [], length, take, drop, Option, Some, None}
-use Rattle.std.proofs.Common.{Result, Ok, Err, Bor, lit<, refl, sym, ap, ◌∙◌, subst, arith}
+use Rattle.std.proofs.Common.{◌≡◌, ◌<◌, ◌+◌, ℕ, List, [], length, take, drop, Some, None}
+use Rattle.std.proofs.Common.{Result, Err, Bor, lit<, sym, ap, ◌∙◌, subst, arith}
 use Rattle.std.specs.List.{position_or_len}
 use Rattle.std.proofs.lemmas.List.{take_all}
 use Rattle.std.proofs.Math.ListN.{drop_of_length-le}

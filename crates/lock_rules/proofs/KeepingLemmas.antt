@@ -70,7 +70,8 @@ module _ (lock : Lock) (place : Place) (places : List Place) (locks : List Lock)
   found_for : (r : Result ℕ ℕ) → IsFound place places r → IsFound (place_of lock) (map place_of locks) r
   found_for r f = subst (λ p. IsFound p (map place_of locks) r) its (subst (λ ps. IsFound place ps r) same f)
 
-  pub replaced : (i : ℕ) → IsFound place places (Ok i) → Becomes (set locks i lock) (set places i place) (put lock locks)
+  pub replaced : (i : ℕ) → IsFound place places (Ok i)
+      → Becomes (set locks i lock) (set places i place) (put lock locks)
   replaced i f =
       let g = found_for (Ok i) f in
       let l = g.0 in

@@ -1,5 +1,6 @@
 -- Where a search for a place ends.
-use Rattle.std.proofs.Common.{◌≡◌, ◌<◌, ◌≤◌, ◌+◌, ℕ, zero, suc, List, [], ◌∷◌, ◌++◌, length, get_or, take, drop, Ok, Err}
+use Rattle.std.proofs.Common.{◌≡◌, ◌<◌, ◌≤◌, ◌+◌, ℕ, zero, suc, List, [], ◌∷◌, ◌++◌, length, get_or, take, drop, Ok}
+use Rattle.std.proofs.Common.{Err}
 use Rattle.std.proofs.Common.{Less, Equal, Greater, sym, ap, ◌∙◌, subst, arith, length-drop, add-zero}
 use Rattle.std.proofs.lemmas.List.{take_more, take_all, get_or-drop, get_or_read}
 use Rattle.lock_rules.specs.Places.{place_cmp}
@@ -26,7 +27,8 @@ pub found_less : (place : Place) (places : List Place) (i : ℕ) (x : Place) →
     → IsAbove place (take i places) → place_cmp place x ≡ Less → IsFound place places (Err i)
 found_less place places i x h is above e = (omega arith, above, first)
   where
-    first : (k : ℕ) (d : Place) → k < length (drop i places) → k < 1 → place_cmp place (get_or (drop i places) k d) ≡ Less
+    first : (k : ℕ) (d : Place) → k < length (drop i places) → k < 1
+        → place_cmp place (get_or (drop i places) k d) ≡ Less
     first zero d l m =
         ap (place_cmp place) (get_or-drop i places 0 d ∙ ap (λ n. get_or places n d) (add-zero i)
         ∙ sym (get_or_read places i x h is d)) ∙ e

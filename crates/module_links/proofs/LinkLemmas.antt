@@ -50,7 +50,8 @@ pub linked_more : (names : List (List ℕ)) (file path : List ℕ) (paths : List
     → AreLinked names file paths ks → k < length names → slice_get names k ≡ file_at file path
     → AreLinked names file (paths ++ path ∷ []) (ks ++ k ∷ [])
 linked_more names file path paths ks k h within here = record {
-  files = map-append (slice_get names) ks (k ∷ []) ∙ (rw (h.files, here) (sym (map-append (file_at file) paths (path ∷ []))));
+  files = map-append (slice_get names) ks (k ∷ [])
+      ∙ (rw (h.files, here) (sym (map-append (file_at file) paths (path ∷ []))));
   within = all_append (λ n. n < length names) ks (k ∷ []) h.within (within, tt);
 }
 

@@ -49,7 +49,8 @@ adds_one file path name old new found fresh e = record {
 
 -- its number
 pub number_of_added : (file path name : List ℕ) (old new : List Entry) → file_at file path ≡ Some name
-    → new ≡ old ++ record { name = name; by = file; path = path } ∷ [] → LinksTo (entry_names new) file path (length old)
+    → new ≡ old ++ record { name = name; by = file; path = path } ∷ []
+    → LinksTo (entry_names new) file path (length old)
 number_of_added file path name old new found e =
     subst (λ es. LinksTo (entry_names es) file path (length old)) (sym e) (place old)
   where
@@ -70,7 +71,8 @@ pub paths_taken : (ps : List (Bor (List ℕ))) (i : ℕ) (p : Bor (List ℕ)) �
     → map (λ (x : Bor (List ℕ)). x.now) (take (i + 1) ps) ≡ map (λ (x : Bor (List ℕ)). x.now) (take i ps) ++ p.now ∷ []
 paths_taken [] i p h e = absurd (omega arith)
 paths_taken (x ∷ ps) zero p h e = ap (λ (y : Bor (List ℕ)). y.now ∷ []) (sym e)
-paths_taken (x ∷ ps) (suc i) p h e = rw add-one (ap (λ ys. x.now ∷ ys) (rw add-one at (paths_taken ps i p (omega arith) e)))
+paths_taken (x ∷ ps) (suc i) p h e =
+    rw add-one (ap (λ ys. x.now ∷ ys) (rw add-one at (paths_taken ps i p (omega arith) e)))
 
 -- links of paths that are these, by numbers that are these
 pub linked_as : (names : List (List ℕ)) (file : List ℕ) (ps qs : List (List ℕ)) (ks ls : List ℕ) → ps ≡ qs → ks ≡ ls

@@ -3,7 +3,8 @@
 ghost use Rattle.std.specs.Prelude.{◌≡◌, IfOk};
 ghost use Rattle.arm_value.specs.View.{json};
 ghost use Rattle.resource_members.specs.Members.{spelled_name_fault, name_fault, depends_fault, children_fault};
-ghost use Rattle.resource_members.specs.Members.{further_fault, declaring_fault, existing_fault, body_fault, other_fault};
+ghost use Rattle.resource_members.specs.Members.{further_fault, declaring_fault, existing_fault, body_fault};
+ghost use Rattle.resource_members.specs.Members.{other_fault};
 
 use crate::copy::copy_fault;
 use crate::setting::{Rank, Setting, is_existence, is_properties, is_single, is_symbolic};

@@ -4,7 +4,8 @@ ghost use Rattle.std.specs.Prelude.{◌≡◌, map, chars, option_map};
 ghost use Rattle.arm_value.specs.Json.{pairs};
 ghost use Rattle.arm_value.specs.View.{json};
 ghost use Rattle.resource_members.specs.Settings.{has_deployment_type, is_deployment, is_parent, setting_of};
-ghost use Rattle.resource_members.specs.Settings.{is_symbolic, is_existence, is_properties, is_single, resource_members};
+ghost use Rattle.resource_members.specs.Settings.{is_symbolic, is_existence, is_properties, is_single};
+ghost use Rattle.resource_members.specs.Settings.{resource_members};
 
 use arm_ids::{is_declaration_member, is_deployment_type};
 use arm_value::{Fields, Text, Value};

@@ -20,7 +20,8 @@ cond_append false d l m = refl
 pub of_append : (k : ℕ) (l m : List Done) → of k (l ++ m) ≡ of k l ++ of k m
 unfolding of
 of_append k [] m = refl
-of_append k (d ∷ l) m = ap (λ t. cond (eqb d.worker k) (d ∷ t) t) (of_append k l m) ∙ cond_append (eqb d.worker k) d (of k l) (of k m)
+of_append k (d ∷ l) m = ap (λ t. cond (eqb d.worker k) (d ∷ t) t) (of_append k l m)
+    ∙ cond_append (eqb d.worker k) d (of k l) (of k m)
 
 pub of_none : (k : ℕ) → of k [] ≡ []
 unfolding of
@@ -99,7 +100,8 @@ pub failure_none : has_failure [] ≡ false
 unfolding has_failure
 failure_none = refl
 
-may_more : (may : Kind) (l : List Done) (d : Done) → AllMay may l → IfOk d.got (MayGive may d.job) → AllMay may (l ++ d ∷ [])
+may_more : (may : Kind) (l : List Done) (d : Done) → AllMay may l → IfOk d.got (MayGive may d.job)
+    → AllMay may (l ++ d ∷ [])
 unfolding AllMay
 may_more may [] d a m = (m, tt)
 may_more may (x ∷ l) d a m = (a.0, may_more may l d a.1 m)
@@ -111,19 +113,22 @@ may_none may = tt
 no : {A : Type 0} → false ≡ true → A
 no e = cc
 
-later : (before was now : ℕ) (got : Result Answer ProviderFault) → before ≤ was → Counts was now got → (before ≤ now) × (was ≤ now)
+later : (before was now : ℕ) (got : Result Answer ProviderFault) → before ≤ was → Counts was now got
+    → (before ≤ now) × (was ≤ now)
 later before was now (Ok a) l c = (omega arith, omega arith)
 later before was now (Err Fault) l c = let c0 = c.0 in (omega arith, c.0)
 later before was now (Err OutOfMemory) l c = (omega arith, omega arith)
 
-rises : (before was now : ℕ) (h : Bool) (got : Result Answer ProviderFault) → before ≤ was → (h ≡ true → Rose before was)
+rises : (before was now : ℕ) (h : Bool) (got : Result Answer ProviderFault) → before ≤ was
+    → (h ≡ true → Rose before was)
     → Counts was now got → (h || is_failure got) ≡ true → Rose before now
 rises before was now true got l r c t = let a = r refl in let b = (later before was now got l c).1 in omega arith
 rises before was now false (Ok a) l r c t = no t
 rises before was now false (Err Fault) l r c t = let a = c.1 in omega arith
 rises before was now false (Err OutOfMemory) l r c t = no t
 
-adds : (old new : List Call) (job : Work) (got : Result Answer ProviderFault) → AddsCall old new job got → new ≡ old ++ reported job got
+adds : (old new : List Call) (job : Work) (got : Result Answer ProviderFault) → AddsCall old new job got
+    → new ≡ old ++ reported job got
 adds old new job (Ok answer) a = a
 adds old new job (Err Fault) a = a
 adds old new job (Err OutOfMemory) a = a ∙ sym (append-nil old)

@@ -50,7 +50,8 @@ chars_template = word (codes "template") refl
 pub chars_mode : chars (codes "mode") ≡ codes "mode"
 chars_mode = word (codes "mode") refl
 
-pub chars_expressionEvaluationOptions : chars (codes "expressionEvaluationOptions") ≡ codes "expressionEvaluationOptions"
+pub chars_expressionEvaluationOptions : chars (codes "expressionEvaluationOptions")
+    ≡ codes "expressionEvaluationOptions"
 chars_expressionEvaluationOptions = word (codes "expressionEvaluationOptions") refl
 
 pub chars_scope : chars (codes "scope") ≡ codes "scope"

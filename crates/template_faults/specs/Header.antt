@@ -62,10 +62,12 @@ is_empty _ = false
 abbrev pub functions_fault : Json → Option TemplateFault
 functions_fault j = if is_empty j then None else Some (WrongForm [])
 
--- whether the member is of any form: `metadata` and `apiProfile` are not used, and the resources are looked at elsewhere
+-- whether the member is of any form: `metadata` and `apiProfile` are not used, and the resources are looked at
+-- elsewhere
 abbrev pub is_any : List ℕ → Bool
 is_any k =
-    is_same_folded (codes "metadata") k || (is_same_folded (codes "apiProfile") k || is_same_folded (codes "resources") k)
+    is_same_folded (codes "metadata") k
+    || (is_same_folded (codes "apiProfile") k || is_same_folded (codes "resources") k)
 
 -- why a member is refused that has the version of the language or functions, or another
 abbrev pub other_fault : List ℕ → Json → Option TemplateFault

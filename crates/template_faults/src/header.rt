@@ -6,7 +6,8 @@ ghost use Rattle.arm_value.specs.Json.{array, object, pairs, row};
 ghost use Rattle.arm_value.specs.View.{json};
 ghost use Rattle.template_faults.specs.Header.{ends_as_schema, is_schema, schema_fault, text_fault, is_two, form_of};
 ghost use Rattle.template_values.specs.Order.{missing};
-ghost use Rattle.template_faults.specs.Header.{template_members, form_in, language_fault, is_empty, functions_fault, is_any, other_fault, describing_fault};
+ghost use Rattle.template_faults.specs.Header.{template_members, form_in, language_fault, is_empty, functions_fault};
+ghost use Rattle.template_faults.specs.Header.{is_any, other_fault, describing_fault};
 
 use crate::names::{is_content_version, is_functions, is_language_version, is_schema_name};
 use arm_value::{Field, Fields, Items, OutOfMemory, Text, Value};

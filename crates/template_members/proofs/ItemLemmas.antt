@@ -6,7 +6,8 @@ use Rattle.arm_value.specs.View.{json}
 use Rattle.arm_value.specs.declared.value.Value.{Value}
 use Rattle.template_members.specs.Arguments.{has_item}
 
-pub some_items : (vs : List Value) (js : List Json) → map json vs ≡ js → 1 ≤ length vs → true ≡ has_item (array (row js))
+pub some_items : (vs : List Value) (js : List Json) → map json vs ≡ js → 1 ≤ length vs
+    → true ≡ has_item (array (row js))
 some_items [] js e h = absurd (omega arith)
 some_items (v ∷ vs) js e h = ap (λ js. has_item (array (row js))) e
 

@@ -10,8 +10,8 @@ use Rattle.template_texts.specs.declared.sight.Place.{Place}
 use Rattle.template_texts.specs.declared.sight.Sight.{Sight}
 use Rattle.template_values.specs.Values.{is_copy, value_fault}
 
--- why a member of the variables is refused, of which all have these names: `copy` has loops that give further variables,
--- and every other member is a variable
+-- why a member of the variables is refused, of which all have these names: `copy` has loops that give further
+-- variables, and every other member is a variable
 abbrev pub variable_member : Sight → Place → List (List ℕ) → List ℕ → Json → Option TemplateFault
 variable_member here place names k j =
     if is_copy k then loops_fault here place Variables names j else value_fault here place j

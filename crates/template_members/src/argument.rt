@@ -154,9 +154,9 @@ impl MemberRule for ArgumentsRule {
     }
 }
 
-/// Why what a nested deployment gives for the parameters of its template is refused: none of two has one name in letters
-/// of any case, no name is in brackets or `copy`, and each is an object of a `value`. In place of the value a member
-/// `copy` may have one loop that gives it.
+/// Why what a nested deployment gives for the parameters of its template is refused: none of two has one name in
+/// letters of any case, no name is in brackets or `copy`, and each is an object of a `value`. In place of the value a
+/// member `copy` may have one loop that gives it.
 pub fn arguments_fault(
     alloc: Global,
     here: &Sight,

@@ -67,8 +67,8 @@ impl<'a> MemberRule for VariablesRule<'a> {
     }
 }
 
-/// Why the variables of a template are refused: none of two has one name in letters of any case. A member `copy`, spelled
-/// exactly so, is an array of loops, each of which gives a variable of a name that is new.
+/// Why the variables of a template are refused: none of two has one name in letters of any case. A member `copy`,
+/// spelled exactly so, is an array of loops, each of which gives a variable of a name that is new.
 pub fn variables_fault(
     alloc: Global,
     here: &Sight,

@@ -90,7 +90,8 @@ abbrev mutual
   pub loops_fault : Sight → Place → List (List ℕ) → ℕ → Row → Option TemplateFault
   loops_fault here place names i no_items = None
   loops_fault here place names i (item j js) =
-      then_faults (to_item i) (loop_fault here place names j) (loops_fault here place (names_with names (loop_name j)) (i + 1) js)
+      then_faults (to_item i) (loop_fault here place names j)
+      (loops_fault here place (names_with names (loop_name j)) (i + 1) js)
 
   -- why a loop of an object with these names is refused: it is an object of a name, a count and an input
   pub loop_fault : Sight → Place → List (List ℕ) → Json → Option TemplateFault

@@ -10,5 +10,7 @@ returns-in-None c =
 
 pub returns-in-Some : goal.returns-in-Some
 returns-in-Some c =
-    let parts = split_parts 64 c.args.path.now (Some (c.in-Some.kind, c.in-Some.version)) c.in-Some.ensures.cases (lit< tt) in
-    sym (divided_there 64 (lit< tt) c.args.path.now c.in-Some.kind.now c.in-Some.version.now (search rules) parts.0 parts.1)
+    let parts = split_parts 64 c.args.path.now (Some (c.in-Some.kind, c.in-Some.version)) c.in-Some.ensures.cases
+    (lit< tt) in
+    sym (divided_there 64 (lit< tt) c.args.path.now c.in-Some.kind.now c.in-Some.version.now
+    (search rules) parts.0 parts.1)

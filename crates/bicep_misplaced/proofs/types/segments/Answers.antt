@@ -10,5 +10,7 @@ returns-in-None c =
 
 pub returns-in-Some : goal.returns-in-Some
 returns-in-Some c =
-    let parts = split_parts 47 c.args.kind.now (Some (c.in-Some.first, c.in-Some.rest)) c.in-Some.ensures.cases (lit< tt) in
-    sym (divided_there 47 (lit< tt) c.args.kind.now c.in-Some.first.now c.in-Some.rest.now (search rules) parts.0 parts.1)
+    let parts = split_parts 47 c.args.kind.now (Some (c.in-Some.first, c.in-Some.rest)) c.in-Some.ensures.cases
+    (lit< tt) in
+    sym (divided_there 47 (lit< tt) c.args.kind.now c.in-Some.first.now c.in-Some.rest.now
+    (search rules) parts.0 parts.1)

@@ -124,7 +124,8 @@ resolve_members-returns t c =
 pub resolve-returns-in-Access : goal.resolve-returns-in-Access
 resolve-returns-in-Access t c =
     access_by (scope c.args.symbols.now c.args.outputs.now) (map (λ l. l.now) c.args.loops.now) c.args.e.now
-    c.deref-in-Access.result.now c.in-Access.whole c.in-Access.how c.in-Access.name c.resolve-whole.result c.access.result
+    c.deref-in-Access.result.now c.in-Access.whole c.in-Access.how c.in-Access.name c.resolve-whole.result
+    c.access.result
     c.in-Access.is c.deref-in-Access.ensures c.resolve-whole.ensures c.access.ensures
 
 pub resolve-returns-in-Index : goal.resolve-returns-in-Index

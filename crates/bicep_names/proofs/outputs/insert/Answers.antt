@@ -1,4 +1,4 @@
-use Rattle.std.proofs.Common.{◌≡◌, ap, ◌∙◌, map, string_bytes}
+use Rattle.std.proofs.Common.{ap, ◌∙◌, map, string_bytes}
 use Rattle.bicep_names.proofs.SymbolLemmas.{output_added}
 use Rattle.bicep_names.proofs.outputs.insert.Goals as goal
 use Rattle.bicep_names.proofs.outputs.insert.Goals.{in-Ok, in-Err}

@@ -1,4 +1,4 @@
-use Rattle.std.proofs.Common.{◌≡◌, ap, sym, ◌∙◌, map, [], ◌∷◌, ◌++◌, string_bytes}
+use Rattle.std.proofs.Common.{ap, ◌∙◌, map}
 use Rattle.bicep_names.specs.Scope.{seen}
 use Rattle.bicep_names.proofs.SymbolLemmas.{symbol_added}
 use Rattle.bicep_names.proofs.symbols.insert.Goals as goal

@@ -1,12 +1,12 @@
-use Rattle.std.proofs.Common.{◌≡◌, ◌<◌, ◌+◌, ◌∙◌, sym, subst, length, map, drop}
+use Rattle.std.proofs.Common.{◌≡◌, ◌+◌, ◌∙◌, sym, subst, length, map, drop}
 use Rattle.std.specs.List.{AllByRecursion}
 use Rattle.bicep_tree.specs.View.{file_of}
 use Rattle.module_links.specs.Links.{entry_names, Adds, AreLinked}
 use Rattle.bicep_program.specs.Sources.{folder_of, IsReadAs}
 use Rattle.bicep_program.specs.Program.{module_paths, program_file}
-use Rattle.bicep_program.specs.Refused.{HasFault, TreeCounts}
+use Rattle.bicep_program.specs.Refused.{TreeCounts}
 use Rattle.bicep_program.specs.Loading.{IsNoted, HasCome}
-use Rattle.bicep_program.proofs.FileLemmas.{length-map, on_ok, none_of, some_of}
+use Rattle.bicep_program.proofs.FileLemmas.{length-map, on_ok, none_of}
 use Rattle.bicep_program.proofs.LoadLemmas.{come_next}
 use Rattle.bicep_program.proofs.EndLemmas.{Step, here_as, drop_as, reached_at, last_noted, too_many_from, too_many_step}
 use Rattle.bicep_program.proofs.loading.load_next.Goals as goal

@@ -1,4 +1,4 @@
-use Rattle.std.proofs.Common.{◌≡◌, ◌≤◌, ◌∙◌, sym, subst, length, map, chars, refl, arith}
+use Rattle.std.proofs.Common.{◌≡◌, ◌∙◌, subst, length, map, chars, refl, arith}
 use Rattle.bicep_program.specs.Sources.{folder_of}
 use Rattle.bicep_program.specs.Program.{links_of, program_file}
 use Rattle.bicep_program.specs.Graphs.{AreWithin}
@@ -7,14 +7,16 @@ use Rattle.bicep_program.proofs.EndLemmas.{all_within, program_ok, circle_err}
 use Rattle.bicep_program.proofs.program.load.Goals as goal
 
 pub returns-in-Err-clause-fault : goal.returns-in-Err-clause-fault
-returns-in-Err-clause-fault g c = c.in-Err.ensures.fault (folder_of g.T.Tree.tells_files (g.T.Tree.file c.args.tree.now))
+returns-in-Err-clause-fault g c =
+    c.in-Err.ensures.fault (folder_of g.T.Tree.tells_files (g.T.Tree.file c.args.tree.now))
 
 pub returns-in-Err-clause-count : goal.returns-in-Err-clause-count
 returns-in-Err-clause-count g c = c.in-Err.ensures.count (g.T.Tree.faults c.args.tree.now)
 
 pub loop-tree-init : goal.loop-tree-init
 loop-tree-init g c = record {
-  come = rw c.new-files.ensures.items (c.in-Ok.ensures.come (folder_of g.T.Tree.tells_files (g.T.Tree.file c.args.tree.now)));
+  come = rw c.new-files.ensures.items
+      (c.in-Ok.ensures.come (folder_of g.T.Tree.tells_files (g.T.Tree.file c.args.tree.now)));
   few = omega (arith, c.in-Ok.ensures.one);
   within = rw c.new-files.ensures.items (omega arith);
   file = refl;

@@ -1,4 +1,4 @@
-use Rattle.std.proofs.Common.{ℕ, List, length, map, sym, refl}
+use Rattle.std.proofs.Common.{ℕ, List, map, sym, refl}
 use Rattle.bicep_program.specs.Circles.{IsCircle, Links}
 use Rattle.bicep_program.specs.Program.{links_of, program_file}
 use Rattle.bicep_program.proofs.FileLemmas.{circle_in, circle_as, none_of, some_of}

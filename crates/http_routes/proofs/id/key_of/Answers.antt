@@ -1,4 +1,4 @@
-use Rattle.std.proofs.Common.{◌≡◌, ℕ, List, subst, chars}
+use Rattle.std.proofs.Common.{ℕ, List, subst}
 use Rattle.arm_ids.specs.Id.{IsIdOf, IsNoKey}
 use Rattle.http_routes.specs.Routes.{key_of}
 use Rattle.http_routes.proofs.IdLemmas.{key_read, key_unread, unread_is}

@@ -1,4 +1,4 @@
-use Rattle.std.proofs.Common.{◌≡◌, ℕ, List, subst, chars}
+use Rattle.std.proofs.Common.{ℕ, List, subst}
 use Rattle.arm_ids.specs.ScopeId.{IsIdOfScope, IsNoScope}
 use Rattle.http_routes.specs.Routes.{scope_of}
 use Rattle.http_routes.proofs.IdLemmas.{scope_read, scope_unread, unread_is}

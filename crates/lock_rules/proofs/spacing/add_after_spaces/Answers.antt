@@ -1,4 +1,5 @@
-use Rattle.std.proofs.Common.{◌∙◌, ◌++◌, ◌∷◌, ◌+◌, ap, sym, drop, append_assoc, append-nil, string_bytes, encode_utf8_all}
+use Rattle.std.proofs.Common.{◌∙◌, ◌++◌, ◌∷◌, ◌+◌, ap, sym, drop, append_assoc, append-nil, string_bytes}
+use Rattle.std.proofs.Common.{encode_utf8_all}
 use Rattle.std.proofs.lemmas.List.{drop_more, drop_all}
 use Rattle.std.proofs.lemmas.Str.{encodes-append}
 use Rattle.lock_rules.specs.Spaced.{after_spaces}

@@ -5,4 +5,5 @@ use Rattle.template_faults.proofs.names.is_options.Goals as goal
 
 pub returns : goal.returns
 returns c =
-    c.equals_ignore_case.ensures ∙ ap (λ (w : List ℕ). is_same_folded w c.args.name.now) chars_expressionEvaluationOptions
+    c.equals_ignore_case.ensures ∙ ap
+    (λ (w : List ℕ). is_same_folded w c.args.name.now) chars_expressionEvaluationOptions

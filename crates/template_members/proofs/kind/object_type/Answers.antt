@@ -8,5 +8,7 @@ use Rattle.template_members.proofs.kind.object_type.Goals as goal
 pub returns : goal.returns
 returns c =
     neither _ _ (Some type.Object) (Some type.SecureObject) None
-    (sym (c.equals_ignore_case.ensures ∙ ap (λ (w : List ℕ). is_same_folded w c.args.word.now) chars_object) ∙ c.if-equals_ignore_case.false)
-    (sym (c.equals_ignore_case-2.ensures ∙ ap (λ (w : List ℕ). is_same_folded w c.args.word.now) chars_secureObject) ∙ c.if-equals_ignore_case-2.false)
+    (sym (c.equals_ignore_case.ensures ∙ ap (λ (w : List ℕ). is_same_folded w c.args.word.now) chars_object)
+    ∙ c.if-equals_ignore_case.false)
+    (sym (c.equals_ignore_case-2.ensures ∙ ap (λ (w : List ℕ). is_same_folded w c.args.word.now) chars_secureObject)
+    ∙ c.if-equals_ignore_case-2.false)

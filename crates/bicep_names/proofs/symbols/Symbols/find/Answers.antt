@@ -12,6 +12,7 @@ returns-in-Some c =
 
 pub returns-in-None : goal.returns-in-None
 returns-in-None c =
-    let e = symbol_is (encode_utf8_all c.args.name.now) c.self.inside.named.entries None None (search rules) (search rules) in
+    let e = symbol_is (encode_utf8_all c.args.name.now) c.self.inside.named.entries None None (search rules)
+    (search rules) in
     let v = c.self.view_is in
     cc

@@ -28,7 +28,8 @@ pub invariant_of-self-clause-stages_are : goal.invariant_of-self-clause-stages_a
 invariant_of-self-clause-stages_are c =
     let d = c.args.self.now in
     let e = ending d.stages.items d.steps.items c.args.task c.requires.0 d.stages_are c.requires.1 in
-    λ t. stages_after d.stages.items d.steps.items c.args.task Waiting (given_back c.args.task) (back_sets c.args.task) e.within d.stages_are t
+    λ t. stages_after d.stages.items d.steps.items c.args.task Waiting (given_back c.args.task)
+    (back_sets c.args.task) e.within d.stages_are t
     ∙ ap (stage_of t) (sym c.push_step.ensures.steps)
 
 pub invariant_of-self-clause-counted : goal.invariant_of-self-clause-counted

@@ -1,4 +1,4 @@
-// `copy`, which may want memory.
+// `copy`, which may run out of memory.
 ghost use Rattle.std.specs.Prelude.{◌≡◌, IfOk};
 
 use crate::memory::OutOfMemory;

@@ -67,7 +67,7 @@ impl<T> ListOf<T> {
         self.elements.as_slice().get(place)
     }
 
-    /// Adds an element last. After want of memory the list is as it was.
+    /// Adds an element last. After `OutOfMemory` the list is unchanged.
     pub fn push(&mut self, element: T) -> Result<(), OutOfMemory>
     where
         T: Drop,

@@ -25,7 +25,7 @@ pub enum JsonFault {
     /// none. Of several it is the first in the byte order of members.
     #[error("no whole number of 64 bits at `{0}`")]
     NotWhole(Path),
-    /// Want of memory.
+    /// Out of memory.
     #[error("out of memory")]
     OutOfMemory,
 }

@@ -202,7 +202,7 @@ impl Items {
         self.depth
     }
 
-    /// Adds an item last. After want of memory the items are as they were.
+    /// Adds an item last. After `OutOfMemory` the items are unchanged.
     pub fn push(&mut self, alloc: Global, value: Value) -> Result<(), OutOfMemory>
         requires { nesting (json value) ≤ 119 }
         ensures { self.new ≡ (if is_ok result then self.old ++ json value ∷ [] else self.old) }
@@ -269,7 +269,7 @@ impl Fields {
     }
 
     /// Adds a member whose name comes after all that are there.
-    /// After want of memory the members are as they were.
+    /// After `OutOfMemory` the members are unchanged.
     pub fn push_last(&mut self, alloc: Global, name: Text, value: Value) -> Result<(), OutOfMemory>
         requires nests { nesting (json value) ≤ 119 }
         requires last { IsInOrder (self.old ++ (name, json value) ∷ []) }
@@ -282,7 +282,7 @@ impl Fields {
     }
 
     /// Puts the value at this exact name: in place of the value there, or as a new member in order.
-    /// After want of memory the members are as they were.
+    /// After `OutOfMemory` the members are unchanged.
     pub fn set(&mut self, alloc: Global, name: &str, value: Value) -> Result<(), OutOfMemory>
         requires { nesting (json value) ≤ 119 }
         ensures { self.new

@@ -388,7 +388,7 @@ resource cluster properties.agentPoolProfiles.maxCount => {2 * ({pool.value + 1}
 resource quiet properties.timeInWeek => [{ day: 'Sunday', hourSlots: [1, 2, 3] }]
 ";
 
-/// A bus with queues and topics, whose children stand four resources deep.
+/// A bus with queues and topics, whose children are four resources deep.
 pub const QUEUES: &str = "param namespaceName string
 param queues array = [
   { name: 'orders', sessions: true }

@@ -170,7 +170,7 @@ pub fn step<'a>(part: Part<'a>, name: &str) -> Option<Part<'a>> {
     }
 }
 
-/// The part at the end of a path, whose steps stand apart by dots. An empty path stays.
+/// The part at the end of a path, whose steps are separated by dots. An empty path stays.
 pub fn part_at<'a>(part: Part<'a>, path: &str) -> Option<Part<'a>> {
     if path.is_empty() {
         return Some(part);

@@ -1,4 +1,4 @@
-// How expressions are printed: braces stand round each operator with its operands.
+// How expressions are printed: braces are round each operator with its operands.
 
 use arm_value::Text;
 use bicep_tree::{

@@ -30,7 +30,7 @@ abbrev mutual
   row_in_order no_items = no_items
   row_in_order (item j js) = item (in_order j) (row_in_order js)
 
-  -- the members as they stand, each value in order
+  -- the members in the order of the source, each value in order
   pub each_in_order : Pairs → Pairs
   each_in_order no_pairs = no_pairs
   each_in_order (pair k j ms) = pair k (in_order j) (each_in_order ms)

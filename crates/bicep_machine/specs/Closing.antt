@@ -102,13 +102,13 @@ takes_loops (to_var at n) = true
 takes_loops (to_output at n ty) = true
 takes_loops d = false
 
--- whether a for-expression may stand right in it
+-- whether a for-expression may be right in it
 abbrev pub holds_loops : Frame → Bool
 holds_loops (valued l) = true
 holds_loops (assigned ds d) = takes_loops d
 holds_loops F = false
 
--- `[for x` of a value, where that may stand there
+-- `[for x` of a value, where that may be there
 abbrev pub named_on : ℕ → Bool → Name → List Frame → Next
 named_on at was n [] = None
 named_on at was n (F ∷ S) = if holds_loops F then Some (among at (ns.Item n), was, F ∷ S) else None

@@ -7,7 +7,7 @@ ghost use Rattle.bicep_names.specs.Resolve.{resolved, resolved_value};
 ghost use Rattle.bicep_names.specs.Unknown.{HasUnknown, ValueHasUnknown, Tells};
 
 /// An expression stands for another exactly where each of its names means something. Else a name at the offset that is
-/// told means nothing. The same holds of the values of variables, outputs and properties.
+/// returned means nothing. The same holds of the values of variables, outputs and properties.
 pub fn unknown_names()
     ensures expressions { (sc : Scope) (e : Tree) (ls : List LoopNames)
         → Tells (λ at. HasUnknown sc at e ls) (resolved sc e ls) }

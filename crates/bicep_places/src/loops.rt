@@ -164,7 +164,7 @@ fn takes_loops(declaration: &Assigned) -> bool
     }
 }
 
-// Whether a for-expression may stand right in it.
+// Whether a for-expression may be right in it.
 fn holds_loops(frame: &Frame) -> bool
     ensures { result ≡ holds_loops (frame_of frame.now) }
 {
@@ -175,7 +175,7 @@ fn holds_loops(frame: &Frame) -> bool
     }
 }
 
-// `[for x` of a value, where that may stand there.
+// `[for x` of a value, where that may be there.
 fn named_on(at: usize, was: bool, item: Name, stack: &mut Vec<Frame>) -> Result<Next, Stop>
     ensures { Gives (λ n. next_of n stack.new.items) result
         (named_on at was item (frames_of stack.old.items)) }

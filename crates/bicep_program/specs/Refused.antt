@@ -27,7 +27,7 @@ pub record IsWritten (folder : Folder) (main file path : List ℕ) : Type 0 wher
 abbrev pub IsMissing : Folder → List ℕ → List ℕ → List ℕ → Type 0
 IsMissing folder main file path = IsWritten folder main file path × LeadsNowhere folder file path
 
--- the main file is missing, which is told by the name that was given
+-- the main file is missing: the refusal has the name that was given
 pub record IsMainMissing (folder : Folder) (main file path : List ℕ) : Type 0 where
   pub file_is : file ≡ main
   pub path_is : path ≡ main

@@ -1,6 +1,6 @@
 // Bicep files as they are deployed, with the number of their statements.
 
-/// Resources, modules and what they stand on.
+/// Resources, modules and what they need.
 pub const HOSTS: &str = "\
 §@description('Where the account stands.')
 param location string = resourceGroup().location

@@ -81,7 +81,7 @@ fn obey<R: Wait, P: Serves>(
     }
 }
 
-/// Tells a worker in a thread of its own to stop. One that is with the driver has stopped before.
+/// Sends `Stop` to a worker in a thread of its own. One that is with the driver has stopped before.
 pub fn dismiss<R: Wait, P: Serves>(
     rt: &R,
     channel: &SeatChannel,

@@ -38,7 +38,7 @@ pub(crate) struct Started<P: Serves> {
     pub thread: SeatThread<P>,
 }
 
-/// Starts the worker in a thread. Where no thread is started, the worker is told to stop, and stays
+/// Starts the worker in a thread. Where no thread is started, the worker is sent `Stop`, and stays
 /// with the driver.
 pub(crate) fn start<'s, E, R: Threads + Wait + Sync, P: Serves + Send + 's>(
     rt: &'s R,

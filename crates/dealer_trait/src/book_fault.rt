@@ -9,7 +9,7 @@ pub enum BookFault {
     /// the note.
     #[error("the book is full at {length} bytes, and {needed} are needed")]
     Full { length: u64, needed: u64 },
-    /// The disk failed; the count of faults rose. The note may be kept or not.
+    /// The disk failed; the count of faults rose. Once the book is opened again, the note may be there or not.
     #[error("the disk failed")]
     DiskFault,
     /// An earlier note failed by `DiskFault`. Nothing was noted.

@@ -17,7 +17,7 @@ unfoldable pub is_argument : List ℕ → Bool
 is_argument [] = false
 is_argument (b ∷ bs) = not (b == 45)
 
--- whether these are the words of the command that stand before its arguments
+-- whether these are the words of the command, before its arguments
 unfoldable pub are_fixed : List ℕ → List ℕ → List ℕ → Bool
 are_fixed command group name =
     bytes_eq command (codes "deploy") && (bytes_eq group (codes "--group") && bytes_eq name (codes "--name"))

@@ -1,8 +1,8 @@
 //! The loop of a driver, which deals jobs to seats and settles their results, over any `Crew`.
 //!
 //! A caller may rely on what the driver has done: which jobs it handed to which seat, which results it
-//! took, what it noted before the dealer was given an answer, and how it ended. These actions are
-//! defined in `specs/Actions.antt`, what follows from them in `specs/Runs.antt` and
+//! took, that the dealer was given an answer only where its note was taken, and how it ended. These
+//! actions are defined in `specs/Actions.antt`, what follows from them in `specs/Runs.antt` and
 //! `specs/Courses.antt`, and how a drive ends in `specs/Ends.antt`.
 #![tactic(auto)]
 

@@ -4,7 +4,7 @@ use crate::rows::compare;
 use std::alloc::{AllocError, Global};
 use std::test::Fail;
 
-// So many members of this value, each with a comma behind it.
+// So many members of this value, each with a comma after it.
 fn members(alloc: Global, count: usize, value: &str) -> Result<String, AllocError> {
     let mut members = String::new(alloc);
     for i in 0..count {

@@ -1,4 +1,4 @@
-// Where parts stand in texts and arrays.
+// Where parts are in texts and arrays.
 ghost use Rattle.std.specs.Prelude.{◌≡◌, ◌∷◌, [], map, option_map, IfOk, is_some};
 ghost use Rattle.arm_value.specs.Look.{fold};
 ghost use Rattle.arm_value.specs.View.{json};

@@ -66,7 +66,7 @@ pub fn add_loop(
     push(list, Looping { name, index, main })
 }
 
-// The key of a type and a name, which stand apart by a blank, in the group `g`.
+// The key of a type and a name, which are separated by a blank, in the group `g`.
 fn key(alloc: Global, text: &str) -> Result<Key, Fail> {
     let (kind, name) = text.split_once(' ').unwrap_or((text, ""));
     let place = place(alloc, "g")?;

@@ -27,7 +27,7 @@ pub fn known_is_so()
         → (c : Cell) (o : Option Json) → IsKnown m n c o → w c ≡ o }
 {}
 
-/// There is one table of all that is known at a moment, and each world in which what is known outright is so has what
+/// There is at most one table of all that is known at a moment, and each world in which what is known outright is so has what
 /// is in it.
 pub fn one_table()
     ensures alone { (m : Meaning) (n : Moment) (q r : Table) → IsTable m n q → IsTable m n r → (c : Cell) → q c ≡ r c }

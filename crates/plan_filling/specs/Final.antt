@@ -1,4 +1,4 @@
--- What a sheet that is filled tells.
+-- What is known by a filled sheet.
 use Rattle.std.specs.Prelude.{◌≡◌, ◌⊎◌, Option, Some, None}
 use Rattle.arm_value.specs.Json.{Json}
 use Rattle.arm_ids.specs.declared.id.ResourceId.{ResourceId}

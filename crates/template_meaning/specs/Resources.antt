@@ -37,7 +37,7 @@ listed Two o = symbolic o
 
 -- ---- what declares a resource
 
--- the size of a batch, 1 to 800, which is 1 where none is given
+-- the size of a batch, which is 1 where none is given; the rules allow 1 to 800
 abbrev pub batch_size : Option ℤ → ℕ
 batch_size (Some (pos n)) = if nat_le n 800 then n else 1
 batch_size _ = 1

@@ -1,5 +1,5 @@
 -- What a value says in the place of a template where it is. A value of a form that no template has there is refused
--- before, and stands here for the least that the place can have.
+-- before, and means here the least that the place can have.
 use Rattle.std.specs.Prelude.{ℕ, ℤ, chars, bytes_eq, Bool, false, List, [], Option, Some, None, option_map}
 use Rattle.arm_value.specs.Json.{Json, null, bool, int, text, array, object, Member, items, members}
 use Rattle.arm_value.specs.Look.{is_same_folded, look}

@@ -114,7 +114,7 @@ impl Resources {
         self.resources.len()
     }
 
-    /// Adds a resource last. After want of memory the resources are as they were.
+    /// Adds a resource last. After `OutOfMemory` the resources are unchanged.
     pub fn push(&mut self, resource: Resource) -> Result<(), OutOfMemory>
         ensures { self.new ≡ (if is_ok result then self.old ++ resource_tree resource ∷ [] else self.old) }
     {

@@ -26,7 +26,7 @@ use std::sync::Wait;
 use std::thread::Threads;
 
 /// Asks the dealer for jobs, and hands each to a free seat, whose provider is called with it while the
-/// other seats are at work. Each answer is noted in the book, and the dealer is given it after that.
+/// other seats are at work. Each answer is noted in the book, and the dealer is given it only where the note was taken.
 /// It goes on until the dealer answers `End`. It may wait.
 ///
 /// There are 1 to 4,294,967,295 seats, numbered from 0; none has a job, and the dealer has no open

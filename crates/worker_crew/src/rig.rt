@@ -66,7 +66,7 @@ impl<'a, P: Serves> Crew for Rig<'a, P> {
     }
 }
 
-/// Tells each worker in a thread of its own to stop.
+/// Sends `Stop` to each worker in a thread of its own.
 pub(crate) fn dismiss_all<R: Wait, P: Serves>(
     rt: &R,
     ends: &Ends,

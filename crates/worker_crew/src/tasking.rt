@@ -10,7 +10,7 @@ use seat_calls::Serves;
 use std::alloc::Global;
 use std::sync::Wait;
 
-/// The driver's part, with what it borrows. It runs the loop, and then tells the workers to stop.
+/// The driver's part, with what it borrows. It runs the loop, and then sends `Stop` to the workers.
 #[derive(Drop)]
 pub struct Driving<'a, 'b, 'c, G, B> {
     /// For the dealer, and for the calls of seats without a thread.

@@ -45,16 +45,16 @@ fn words<R: Env + Alloc<A = Global>>(rt: &R) -> Result<Vec<String>, AllocError> 
     }
 }
 
+// A seat over the catalogue.
+fn seat(alloc: Global) -> Seat<Catalog> {
+    Seat::new(Catalog::new(alloc))
+}
+
 // Four seats over the catalogue.
 fn crew(alloc: Global) -> Result<Vec<Seat<Catalog>>, AllocError>
     ensures { IfOk result (λ crew. length crew.items ≡ 4) }
 {
-    let mut crew = Vec::with_capacity(alloc, 4)?;
-    crew.push(Seat::new(Catalog::new(alloc)))?;
-    crew.push(Seat::new(Catalog::new(alloc)))?;
-    crew.push(Seat::new(Catalog::new(alloc)))?;
-    crew.push(Seat::new(Catalog::new(alloc)))?;
-    Ok(crew)
+    Ok(vec![in alloc; seat(alloc), seat(alloc), seat(alloc), seat(alloc)]?)
 }
 
 fn main(rt: HostRuntime) -> ExitCode {

@@ -11,7 +11,8 @@ use Rattle.provider_trait.specs.declared.act.Act.{Act}
 use Rattle.provider_trait.specs.declared.act.Act.TheVariants.{Put}
 use Rattle.provider_trait.specs.declared.answer.Answer.{Answer}
 use Rattle.provider_trait.specs.declared.answer.Answer.TheVariants.{Stored, Refused}
-use Rattle.provider_trait.specs.declared.answer.ProviderFault.TheVariants.{Fault}
+use Rattle.provider_trait.specs.declared.answer.ProviderFault.{ProviderFault}
+use Rattle.provider_trait.specs.declared.answer.ProviderFault.TheVariants.{Fault, OutOfMemory}
 use Rattle.deploy_cli.specs.Puts.{id_of, body_of, Gave}
 use Rattle.deploy_cli.specs.declared.outcome.Outcome.{Outcome}
 use Rattle.deploy_cli.specs.declared.outcome.Outcome.TheVariants as outcome
@@ -68,6 +69,17 @@ StoresNothing may place r _ = ⊥
 abbrev pub gave_one : Result Json Outcome → List Gave
 gave_one (Ok state) = stored_in state ∷ []
 gave_one (Err end) = last_gave end
+
+-- what a put with this id comes to, by its answer: the state in which it was stored, or the outcome after a refusal
+abbrev pub Settles : Answer → List ℕ → Result Json Outcome → Type 0
+Settles (Stored state) id r = r ≡ Ok state
+Settles (Refused code) id r = r ≡ Err (outcome.Refused code id)
+Settles _ id r = ⊥
+
+-- the outcome after a put that gave no answer
+abbrev pub unanswered : ProviderFault → Outcome
+unanswered Fault = outcome.ProviderFault
+unanswered OutOfMemory = outcome.OutOfMemory
 
 -- the count of the provider's faults rises where the outcome is its fault, and is unchanged after every other outcome
 abbrev pub CountsTo : ℕ → ℕ → Outcome → Type 0

@@ -3,17 +3,21 @@
 ghost use Rattle.std.specs.Prelude.{◌≡◌, ◌≤◌, ◌++◌, ◌∷◌, ◌<◌, [], true, length, IfOk, IfErr};
 ghost use Rattle.std.specs.List.{AllByRecursion};
 ghost use Rattle.std.specs.Vec.{vec_capacity};
+ghost use Rattle.provider_trait.specs.Answer.{Suits};
+ghost use Rattle.provider_trait.specs.declared.act.Act.TheVariants.{Put};
 ghost use Rattle.provider_trait.specs.declared.answer.Answer.TheVariants.{Stored};
 ghost use Rattle.deploy_cli.specs.declared.outcome.Outcome.TheVariants.{OutOfMemory};
-ghost use Rattle.deploy_cli.specs.Puts.{put_of, puts, calls_of};
+ghost use Rattle.deploy_cli.specs.Puts.{id_of, put_of, puts, calls_of};
 ghost use Rattle.deploy_cli.specs.Outcomes.{MayAnswer, StoresNothing, gave_one, CountsOne, CanPut};
+ghost use Rattle.deploy_cli.specs.Outcomes.{Settles, unanswered};
 ghost use Rattle.deploy_cli.specs.Outcomes.{PutsHaveOutcome, gave_by, CountsTo};
 
 use crate::job::{id_of, put_of};
 use crate::outcome::Outcome;
 use arm_ids::Place;
+use arm_value::{OutOfMemory, Text};
 use literal_template::Resource;
-use provider_trait::{Answer, Provider, ProviderFault, Seat, State};
+use provider_trait::{Answer, Job, Provider, ProviderFault, State};
 use std::alloc::Global;
 
 /// A deployment that was made.
@@ -81,6 +85,61 @@ fn add(states: &mut Vec<State>, state: State)
     }
 }
 
+// The put of a resource, and the id of the resource for the line of a refusal.
+#[derive(Drop)]
+struct Prepared {
+    job: Job,
+    id: Text,
+}
+
+// The put of a resource, as that task.
+fn put_with_id(
+    alloc: Global,
+    place: &Place,
+    task: u32,
+    resource: &Resource,
+) -> Result<Prepared, OutOfMemory>
+    requires { CanPut place.now resource.now }
+    ensures job { IfOk result (λ a. a.job ≡ put_of place.now task resource.now) }
+    ensures id { IfOk result (λ a. a.id ≡ id_of place.now resource.now) }
+{
+    let id = id_of(alloc, place, resource)?;
+    let shown = id.copy(alloc)?;
+    match put_of(alloc, task, id, resource) {
+        Ok(job) => Ok(Prepared { job, id: shown }),
+        Err(refused) => Err(refused),
+    }
+}
+
+// The id of the resource; the job is dropped.
+fn id_alone(prepared: Prepared) -> Text
+    ensures { result ≡ prepared.id }
+{
+    prepared.id
+}
+
+// The state in which a put was stored, or the outcome after it was refused.
+fn settled(answer: Answer, id: Text) -> Result<State, Outcome>
+    requires { Suits Put answer }
+    ensures { Settles answer id result }
+{
+    match answer {
+        Answer::Stored(state) => Ok(state),
+        Answer::Refused(code) => Err(Outcome::Refused(code, id)),
+        Answer::Gone => unreachable!(),
+    }
+}
+
+// The outcome after a put that gave no answer.
+fn unanswered(fault: ProviderFault) -> Outcome
+    ensures { result ≡ unanswered fault }
+{
+    match fault {
+        ProviderFault::Fault => Outcome::ProviderFault,
+        ProviderFault::OutOfMemory => Outcome::OutOfMemory,
+    }
+}
+
 // Puts a resource, as that task. Returns the state in which it was stored, or the outcome of the deployment.
 fn put_one<P: Provider>(
     alloc: Global,
@@ -96,20 +155,13 @@ fn put_one<P: Provider>(
         ≡ P.calls provider.old ++ calls_of (put_of place.now task resource.now ∷ []) (gave_one result) }
     ensures count { CountsOne (P.faults provider.old) (P.faults provider.new) result }
 {
-    let Ok(id) = id_of(alloc, place, resource) else {
+    let Ok(prepared) = put_with_id(alloc, place, task, resource) else {
         return Err(Outcome::OutOfMemory);
     };
-    let Ok(shown) = id.copy(alloc) else {
-        return Err(Outcome::OutOfMemory);
-    };
-    let Ok(job) = put_of(alloc, task, id, resource) else {
-        return Err(Outcome::OutOfMemory);
-    };
-    match provider.put(alloc, &job) {
-        Ok(Answer::Stored(state)) => Ok(state),
-        Ok(Answer::Refused(code)) => Err(Outcome::Refused(code, shown)),
-        Ok(Answer::Gone) => unreachable!(),
-        Err(ProviderFault::Fault) => Err(Outcome::ProviderFault),
-        Err(ProviderFault::OutOfMemory) => Err(Outcome::OutOfMemory),
+    let gave = provider.put(alloc, &prepared.job);
+    let id = id_alone(prepared);
+    match gave {
+        Ok(answer) => settled(answer, id),
+        Err(fault) => Err(unanswered(fault)),
     }
 }

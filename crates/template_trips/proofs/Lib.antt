@@ -1,0 +1,4 @@
+pub mod HeaderLemmas
+pub mod RowLemmas
+pub mod NestedLemmas
+pub mod TemplateLemmas

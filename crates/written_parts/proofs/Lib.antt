@@ -1,0 +1,5 @@
+pub mod FaultLemmas
+pub mod ObjectLemmas
+pub mod ValueLemmas
+pub mod PartLemmas
+pub mod GivenLemmas

@@ -1,0 +1,2 @@
+pub mod ResourceLemmas
+pub mod BodyLemmas

@@ -1,0 +1,4 @@
+pub mod Labels
+pub mod Steps
+pub mod Parts
+pub mod Files

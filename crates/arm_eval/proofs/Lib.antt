@@ -11,3 +11,4 @@ pub mod PutLemmas
 mod OutputLemmas
 mod TitleLemmas
 mod CellLemmas
+mod LoopedLemmas

@@ -13,6 +13,7 @@ pub use Rattle.arm_env.specs.Known
 pub mod Got
 pub mod Text
 pub mod Trees
+pub mod Looped
 pub mod Outputs
 pub mod Titles
 pub mod Words

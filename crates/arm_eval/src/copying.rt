@@ -17,7 +17,7 @@ use function_numbers::kinds::text_of;
 use std::alloc::Global;
 
 /// Whether it is the name of the member that holds loops.
-pub(crate) fn is_copy(name: &Text) -> bool
+pub fn is_copy(name: &Text) -> bool
     ensures { result ≡ trees.is_copy name.now }
 {
     name.as_str() == "copy"
@@ -65,12 +65,15 @@ fn part_named<'a>(fields: &'a [Field], name: &str) -> Option<&'a Value>
     None
 }
 
-/// A loop that gives an object a member.
+/// A loop that gives an object a member: an array of the values of its input, one for each index.
 #[derive(Drop)]
-pub(crate) struct Copying<'a> {
-    pub(crate) name: &'a Text,
-    pub(crate) count: &'a Value,
-    pub(crate) input: &'a Value,
+pub struct Copying<'a> {
+    /// The name of the loop, and of the member.
+    pub name: &'a Text,
+    /// The tree of the count.
+    pub count: &'a Value,
+    /// The tree of the input.
+    pub input: &'a Value,
 }
 
 // The loop of a name, by the other two members.
@@ -107,7 +110,7 @@ fn loop_of<'a>(fields: &'a [Field]) -> Option<Copying<'a>>
 }
 
 /// The loop that an object of exactly a name, a count and an input is.
-pub(crate) fn copy_of<'a>(tree: &'a Value) -> Option<Copying<'a>>
+pub fn copy_of<'a>(tree: &'a Value) -> Option<Copying<'a>>
     ensures copy { option_map copying_of result ≡ trees.copy_in (json tree.now) }
     ensures nests { MatchOption result (Unit {0}) (λ c. NestsBelow (nesting (json tree.now)) c) }
 {
@@ -169,7 +172,7 @@ pub(crate) fn loops_inside(
 }
 
 /// The loops inside a loop of a name, which has the index 0.
-pub(crate) fn loops_named(
+pub fn loops_named(
     alloc: Global,
     loops: &[Looping],
     name: &Text,
@@ -197,7 +200,7 @@ pub(crate) fn loops_in_output(alloc: Global, loops: &[Looping]) -> Result<Vec<Lo
 }
 
 /// Lets the nearest loop be at the index.
-pub(crate) fn turn_to(loops: &mut Vec<Looping>, index: u32)
+pub fn turn_to(loops: &mut Vec<Looping>, index: u32)
     requires { 0 < length loops.old.items }
     ensures { (nearest : Looping) (around : List Looping)
         → loops.old.items ≡ nearest ∷ around

@@ -2,9 +2,10 @@
 //! in which some entries are not known yet.
 #![tactic(auto)]
 
-mod copying;
+pub mod copying;
 pub mod got;
 pub mod laws;
+mod looped;
 mod names;
 pub mod outputs;
 pub mod symbols;
@@ -21,6 +22,7 @@ pub use arm_env::env::{
 pub use arm_env::stop::Stop;
 pub use expression_values::value_of;
 pub use got::{Got, eval, eval_tree};
+pub use looped::looped_value;
 pub use outputs::{Content, output_value};
 pub use titles::{Titles, titled_value, titled_value_of};
-pub use tree::tree_value;
+pub use tree::{counting, tree_value};

@@ -278,9 +278,9 @@ fn copied<'a, K: Entries>(
     }
 }
 
-/// The count of a loop.
+/// The count of a loop, from 0 to 800, which is the value of a tree. Any other value counts as none.
 #[cycle(tree)]
-pub(crate) fn counting<'a, K: Entries>(
+pub fn counting<'a, K: Entries>(
     alloc: Global,
     entries: &'a K,
     around: &Around,
@@ -296,10 +296,10 @@ pub(crate) fn counting<'a, K: Entries>(
     }
 }
 
-// The values of a loop's input at each index below the count, where each has one. All are looked
-// at.
+/// The values of a loop's input at each index below the count, where each has one. All are looked
+/// at.
 #[cycle(tree)]
-fn turns<'a, K: Entries>(
+pub(crate) fn turns<'a, K: Entries>(
     alloc: Global,
     entries: &'a K,
     around: &Around,

@@ -1,0 +1,2 @@
+mod StatesLemmas
+mod ProperLemmas

@@ -1,0 +1,4 @@
+pub mod Verbs
+pub mod Asks
+pub mod Calls
+pub mod Bodies

@@ -1,0 +1,3 @@
+pub mod FreshLemmas
+pub mod SymbolLemmas
+pub mod OutputLemmas

@@ -1,0 +1,4 @@
+pub mod Entries
+pub mod Outputs
+pub mod Repeated
+pub mod Names

@@ -1,0 +1,43 @@
+use Rattle.std.proofs.Common.{◌≡◌, ◌<◌, map, ap, sym, ◌∙◌, drop, [], length, arith}
+use Rattle.std.proofs.lemmas.List.{drop_all}
+use Rattle.bicep_found.specs.Found.{all_found}
+use Rattle.bicep_found.proofs.GatherLemmas.{after, after-none, more_some, none_some, all_given, next_item, at_rest}
+use Rattle.bicep_names.specs.Scope.{scope}
+use Rattle.bicep_declared.specs.Declare.{part_declared}
+use Rattle.bicep_declared.specs.View.{declared_tree, declarations_tree, site_tree}
+use Rattle.bicep_declared.proofs.FileLemmas.{declared_at, of_equal, all_after}
+use Rattle.bicep_declared.proofs.files.declare_all.Goals as goal
+
+pub loop-site-init : goal.loop-site-init
+loop-site-init c =
+    let sc = scope c.args.symbols.now c.args.outputs.now in
+    let all = all_found (map (declared_at sc) c.args.sites.now) in
+    after-none all ∙ ap (λ xs. after (map declared_tree xs) all) (sym c.new-found.ensures.items)
+
+pub returns-in-Err : goal.returns-in-Err
+returns-in-Err c =
+    let sc = scope c.args.symbols.now c.args.outputs.now in
+    let i : c.loop-site.site-index < length c.args.sites.now = omega arith in
+    of_equal declarations_tree _ _ _ (all_after (part_declared sc) site_tree c.args.sites.now)
+    (none_some declared_tree _ _ _ c.push_some.new.values.items declarations_tree (λ x. x) _ _ _ _
+    (at_rest (declared_at sc) _ _ _ _ c.loop-site.invariant
+    (next_item c.args.sites.now c.loop-site.site-index c.site-item.result i c.site-item.is))
+    c.declared-part.ensures (c.in-Err.ensures {u = tt}) c.lacks.ensures)
+
+pub loop-site-preserved : goal.loop-site-preserved
+loop-site-preserved c =
+    let sc = scope c.args.symbols.now c.args.outputs.now in
+    let i : c.loop-site.site-index < length c.args.sites.now = omega arith in
+    more_some declared_tree _ _ _ _ _ _ tt
+    (at_rest (declared_at sc) _ _ _ _ c.loop-site.invariant
+    (next_item c.args.sites.now c.loop-site.site-index c.site-item.result i c.site-item.is))
+    c.declared-part.ensures (c.in-Ok.ensures {u = tt})
+
+pub returns : goal.returns
+returns c =
+    let sc = scope c.args.symbols.now c.args.outputs.now in
+    let e : drop c.loop-site.site-index c.args.sites.now ≡ [] =
+    drop_all c.loop-site.site-index c.args.sites.now (omega arith) in
+    all_after (part_declared sc) site_tree c.args.sites.now
+    ∙ all_given declared_tree (λ x. x) _ c.loop-site.found.items
+    (at_rest (declared_at sc) _ _ _ _ c.loop-site.invariant e)

@@ -1,0 +1,4 @@
+pub mod Declarations
+pub mod Sites
+pub mod Declare
+pub mod View

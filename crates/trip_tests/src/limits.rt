@@ -1,6 +1,6 @@
 // The length of an expression.
 
-use arm_template::{TemplateFault, Which, read_template};
+use arm_template::{Template, TemplateFault, Which, read_template};
 use arm_value::Value;
 use std::alloc::Global;
 use std::test::Fail;
@@ -19,15 +19,20 @@ fn spelled(alloc: Global, count: usize) -> Result<String, Fail> {
     Ok(text)
 }
 
-// The number that is beyond the limit of an expression's characters, or 0 where the template is read.
-fn length_told(alloc: Global, text: &str) -> Result<u64, Fail> {
-    let Ok(value) = Value::from_json(alloc, text.as_bytes()) else {
-        return Err(Fail::new(format_args!("no value")));
-    };
-    match read_template(alloc, &value) {
+// The number that is beyond the limit of an expression's characters, or 0 where a template was read.
+fn number_told(found: Result<Template, TemplateFault>) -> Result<u64, Fail> {
+    match found {
         Ok(_) => Ok(0),
         Err(TemplateFault::Limit(Which::Expression, length)) => Ok(length),
         Err(fault) => Err(Fail::new(format_args!("{fault}"))),
+    }
+}
+
+// The same of the template that the text states.
+fn length_told(alloc: Global, text: &str) -> Result<u64, Fail> {
+    match Value::from_json(alloc, text.as_bytes()) {
+        Ok(value) => number_told(read_template(alloc, &value)),
+        Err(_) => Err(Fail::new(format_args!("no value"))),
     }
 }
 

@@ -60,13 +60,33 @@ fn compare(alloc: Global, asked: &str, found: &Value, wanted: &str) -> Result<()
     Err(Fail::new(format_args!("{asked} gives {text}")))
 }
 
+// Drops what is owned beside a failure.
+fn failed<T: Drop>(_owned: T, fail: Fail) -> Result<Value, Fail> {
+    Err(fail)
+}
+
+// What is written of the template that the value states; fails where it is otherwise than wanted.
+fn written_so(alloc: Global, asked: &str, value: &Value, wanted: &str) -> Result<Value, Fail> {
+    let found = written(alloc, asked, value)?;
+    match compare(alloc, asked, &found, wanted) {
+        Ok(()) => Ok(found),
+        Err(fail) => failed(found, fail),
+    }
+}
+
+// The same of the template that the text states.
+fn written_once(alloc: Global, asked: &str, wanted: &str) -> Result<Value, Fail> {
+    let value = value_of(alloc, asked)?;
+    written_so(alloc, asked, &value, wanted)
+}
+
 // Reads and writes a template twice.
 fn compare_trip(alloc: Global, asked: &str, wanted: &str) -> Result<(), Fail> {
-    let value = value_of(alloc, asked)?;
-    let once = written(alloc, asked, &value)?;
-    compare(alloc, asked, &once, wanted)?;
-    let twice = written(alloc, wanted, &once)?;
-    compare(alloc, wanted, &twice, wanted)
+    let once = written_once(alloc, asked, wanted)?;
+    match written_so(alloc, wanted, &once, wanted) {
+        Ok(_twice) => Ok(()),
+        Err(fail) => Err(fail),
+    }
 }
 
 /// Compares each row of a table: a template, which may go on over several lines, then a line `->` and what is written

@@ -7,7 +7,7 @@ ghost use Rattle.deploy_http.specs.declared.fault.HttpFault.{HttpFault};
 ghost use Rattle.deploy_http.specs.declared.request.Request.{Request};
 
 /// An input begins with one request at most, and one that begins with a request is not refused. An input is refused for
-/// one cause. An input that is neither has no bytes. More bytes leave a request where it is.
+/// one cause. An empty input begins with no request, and is not refused. More bytes leave a request where it is.
 pub fn one_request()
     ensures one { (input left other : List ℕ) (r s : Requested) → IsRequest input r left
         → IsRequest input s other → (r ≡ s) × (left ≡ other) }

@@ -162,6 +162,14 @@ refused_one input coming later f g (by_body e bad) (by_head y) =
 refused_one input coming later f g (by_body e bad) (by_end d ends k) = e ∙ sym d
 refused_one input coming later f g (by_body e bad) (by_body d worse) = e ∙ sym d
 
+-- an input that ends too early is refused only at its end
+pub refused_early : (input coming : List ℕ) (f : HttpFault) → IsRefused input f coming → EndsEarly input
+    → coming ≡ []
+refused_early input coming f (by_head x) ends = absurd (head_early input f x ends)
+refused_early input coming f (by_end d stops c) ends = c
+refused_early input coming f (by_body d bad) ends =
+    absurd (early_spelled input bad.call bad.body bad.close bad.left ends bad.spells)
+
 -- an input that begins with a request is not refused
 pub request_apart : (input left coming : List ℕ) (r : Requested) (f : HttpFault) → IsRequest input r left
     → IsRefused input f coming → ⊥

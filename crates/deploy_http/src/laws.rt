@@ -2,17 +2,20 @@
 
 ghost use Rattle.std.specs.Prelude.{◌≡◌, ℕ, true, List, [], ◌++◌, Option, Result, is_ok};
 ghost use Rattle.deploy_http.specs.Conversations.{Ending, IsDecided, RequestsOf, seen};
-ghost use Rattle.deploy_http.specs.Requests.{IsAnswer, IsRefused, IsRequest, Requested};
+ghost use Rattle.deploy_http.specs.Requests.{EndsEarly, IsAnswer, IsRefused, IsRequest, Requested};
 ghost use Rattle.deploy_http.specs.declared.fault.HttpFault.{HttpFault};
 ghost use Rattle.deploy_http.specs.declared.request.Request.{Request};
 
 /// An input begins with one request at most, and one that begins with a request is not refused. An input is refused for
-/// one cause. An empty input begins with no request, and is not refused. More bytes leave a request where it is.
+/// one cause, and for its early end only where nothing is yet to come. An empty input begins with no request, and is
+/// not refused. More bytes leave a request where it is.
 pub fn one_request()
     ensures one { (input left other : List ℕ) (r s : Requested) → IsRequest input r left
         → IsRequest input s other → (r ≡ s) × (left ≡ other) }
     ensures refusal { (input coming later : List ℕ) (f g : HttpFault) → IsRefused input f coming
         → IsRefused input g later → f ≡ g }
+    ensures early { (input coming : List ℕ) (f : HttpFault) → IsRefused input f coming
+        → EndsEarly input → coming ≡ [] }
     ensures apart { (input left coming : List ℕ) (r : Requested) (f : HttpFault) → IsRequest input r left
         → ¬ (IsRefused input f coming) }
     ensures some { (input left : List ℕ) (r : Requested) → IsRequest input r left → ¬ (input ≡ []) }

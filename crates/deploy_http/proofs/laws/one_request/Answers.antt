@@ -1,5 +1,5 @@
 use Rattle.deploy_http.proofs.OneLemmas.{request_one, refused_one, request_apart, request_some, refused_some}
-use Rattle.deploy_http.proofs.OneLemmas.{request_further}
+use Rattle.deploy_http.proofs.OneLemmas.{refused_early, request_further}
 use Rattle.deploy_http.proofs.laws.one_request.Goals as goal
 
 pub returns-clause-one : goal.returns-clause-one
@@ -7,6 +7,9 @@ returns-clause-one c input left other r s x y = request_one input left other r s
 
 pub returns-clause-refusal : goal.returns-clause-refusal
 returns-clause-refusal c input coming later f g x y = refused_one input coming later f g x y
+
+pub returns-clause-early : goal.returns-clause-early
+returns-clause-early c input coming f x ends = refused_early input coming f x ends
 
 pub returns-clause-apart : goal.returns-clause-apart
 returns-clause-apart c input left coming r f x y = request_apart input left coming r f x y

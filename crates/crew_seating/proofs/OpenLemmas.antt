@@ -1,5 +1,5 @@
 -- Channels are opened one after another.
-use Rattle.std.proofs.Common.{arith, ◌≡◌, ◌<◌, ◌≤◌, ◌+◌, ⊎_elim, eqb, ◌≢◌, true, false, ℕ, zero, suc, List, [], ◌∷◌, ◌++◌}
+use Rattle.std.proofs.Common.{arith, ◌≡◌, ◌<◌, ◌+◌, ⊎_elim, eqb, ◌≢◌, true, false, ℕ, zero, suc, List, [], ◌∷◌, ◌++◌}
 use Rattle.std.proofs.Common.{refl, sym, ap, ◌∙◌, subst, length, get_or}
 use Rattle.std.proofs.lemmas.Bool.Decides.{eqb_tells}
 use Rattle.crew_channels.specs.Rings.{DoneRing}
@@ -29,7 +29,8 @@ open_none to = record {
 }
 
 -- one more seat has its channel
-pub open_more : (to : DoneRing) (n : ℕ) (cs : List SeatChannel) (ps : List SeatPasses) (c : SeatChannel) (p : SeatPasses)
+pub open_more : (to : DoneRing) (n : ℕ) (cs : List SeatChannel) (ps : List SeatPasses) (c : SeatChannel)
+    (p : SeatPasses)
     → AreOpen to n cs ps → IsOpenSeat to n c p → AreOpen to (n + 1) (cs ++ c ∷ []) (ps ++ p ∷ [])
 open_more to n cs ps c p was new = record {
   channels_len = length_more cs c ∙ ap (λ x. x + 1) was.channels_len;

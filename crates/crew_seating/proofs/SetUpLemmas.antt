@@ -1,14 +1,13 @@
 -- Seats are at their channels.
-use Rattle.std.proofs.Common.{arith, ◌≡◌, ◌<◌, ℕ, true, false, List, [], refl, sym, ap, ◌∙◌, subst, length, get_or, vec_items}
-use Rattle.crossbeam_channel.specs.Claims.{Pass, view, IsSeatAt}
-use Rattle.crossbeam_channel.specs.Ends.{sends_on, receives_on}
+use Rattle.std.proofs.Common.{◌≡◌, ◌<◌, ℕ, true, false, List, [], sym, ap, ◌∙◌, subst, length, get_or, vec_items}
+use Rattle.crossbeam_channel.specs.Claims.{view, IsSeatAt}
+use Rattle.crossbeam_channel.specs.Ends.{sends_on}
 use Rattle.crew_channels.specs.Orders.{orders, jobs_in}
 use Rattle.crew_channels.specs.Results.{results}
 use Rattle.crew_channels.specs.Rings.{DoneRing}
 use Rattle.crew_channels.specs.declared.orders.Orders.{Orders}
 use Rattle.crew_channels.specs.declared.results.Results.{Results}
 use Rattle.crew_workers.specs.Posts.{IsStationed}
-use Rattle.crew_workers.specs.Seated.{IsSeated}
 use Rattle.crew_workers.specs.declared.channel.SeatChannel.{SeatChannel}
 use Rattle.crew_workers.specs.declared.post.Station.{Station}
 use Rattle.seat_calls.specs.Dones.{jobs_of}

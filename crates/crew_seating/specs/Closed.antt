@@ -15,7 +15,8 @@ IsDriver to pass = IsSeatAt to pass × ((view pass).receives ≡ true)
 
 -- what the seat k has put was received but for some that is left, and is of the first jobs that it was sent
 abbrev pub Told : List Done → List Work → ℕ → List Done → Type 0
-Told got sent k put = (left : List Done) × (rest : List Work) × (of k (got ++ left) ≡ put) × (sent ≡ jobs_of put ++ rest)
+Told got sent k put = (left : List Done) × (rest : List Work) × (of k (got ++ left) ≡ put)
+    × (sent ≡ jobs_of put ++ rest)
 
 -- the same of a seat that has come back
 abbrev pub HasLeft : {P : Type 0} → List Done → Station P → Type 0

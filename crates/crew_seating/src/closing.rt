@@ -10,7 +10,7 @@ ghost use Rattle.crew_seating.specs.Closed.{HasLeft, HasNone, IsDriver};
 ghost use Rattle.crew_seating.specs.Opened.{IsPaired};
 
 use crew_channels::{DonePass, DoneSender, rejoin_orders, rejoin_results};
-use crew_workers::{SeatChannel, Station, Worker};
+use crew_workers::{SeatChannel, Station, Worker, put};
 use provider_trait::Provider;
 use seat_calls::Seat;
 
@@ -75,9 +75,7 @@ pub fn close<P: Provider>(
     for station in stations {
         let at = seats.len();
         let seat = close_one(&channels[at], to, &mut driver, station);
-        let Ok(()) = seats.push(seat) else {
-            unreachable!()
-        };
+        put(&mut seats, seat);
     }
     seats
 }

@@ -1,6 +1,8 @@
 // The channels of a crew, with the passes of all seats.
 
-ghost use Rattle.std.specs.Prelude.{◌≡◌, ◌<◌, ◌+◌, [], true, false, IfOk, OnOk};
+ghost use Rattle.std.specs.Prelude.{◌≡◌, ◌<◌, ◌+◌, ◌++◌, ◌∷◌, [], true, false, IfOk, OnOk, vec_len};
+ghost use Rattle.std.specs.Prelude.{vec_capacity};
+ghost use Rattle.std.specs.VecDeque.{deque_len, deque_capacity};
 ghost use Rattle.crossbeam_channel.specs.Claims.{view, IsSeatAt};
 ghost use Rattle.crossbeam_channel.specs.Ends.{sends_on};
 ghost use Rattle.crew_channels.specs.Results.{results};
@@ -108,19 +110,40 @@ fn open_seats(
     ensures made { OnOk result (view pass.new ≡ results true false seats 0 [] []) }
     ensures seats { IfOk result (λ r. AreOpen (sends_on to.now) seats r.0.items r.1.items) }
 {
-    let mut channels = Vec::new(alloc);
-    let mut passes = VecDeque::new(alloc);
+    let mut channels = Vec::with_capacity(alloc, seats as usize)?;
+    let Ok(room) = VecDeque::with_capacity(alloc, seats as usize) else {
+        return run_out(channels);
+    };
+    let mut passes = room;
     for number in 0..seats {
-        let OpenSeat {
-            channel,
-            passes: own,
-        } = open_seat(alloc, to, pass, number)?;
-        let Ok(()) = channels.push(channel) else {
-            return Err(AllocError);
-        };
-        let Ok(()) = passes.push_back(own) else {
-            return Err(AllocError);
-        };
+        match open_seat(alloc, to, pass, number) {
+            Ok(seat) => add_seat(&mut channels, &mut passes, seat),
+            Err(_) => return run_out((channels, passes)),
+        }
     }
     Ok((channels, passes))
+}
+
+// Adds a seat to lists that have room for it.
+fn add_seat(channels: &mut Vec<SeatChannel>, passes: &mut VecDeque<SeatPasses>, seat: OpenSeat)
+    requires channels { vec_len channels.old < vec_capacity channels.old }
+    requires passes { deque_len passes.old < deque_capacity passes.old }
+    ensures channels { channels.new.items ≡ channels.old.items ++ seat.channel ∷ [] }
+    ensures passes { passes.new.items ≡ passes.old.items ++ seat.passes ∷ [] }
+    ensures capacity { (vec_capacity channels.new ≡ vec_capacity channels.old)
+        × (deque_capacity passes.new ≡ deque_capacity passes.old) }
+{
+    let OpenSeat {
+        channel,
+        passes: own,
+    } = seat;
+    channels.push_reserved(channel);
+    passes.push_back_reserved(own);
+}
+
+// Out of memory; the part is dropped.
+fn run_out<T: Drop, R>(_part: T) -> Result<R, OutOfMemory>
+    ensures { IfOk result (λ _. ⊥) }
+{
+    Err(AllocError)
 }

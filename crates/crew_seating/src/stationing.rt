@@ -5,7 +5,7 @@ ghost use Rattle.std.specs.Prelude.{slice_index_or, length};
 ghost use Rattle.crew_seating.specs.Opened.{IsStationOf};
 
 use crate::ends::SeatPasses;
-use crew_workers::{Station, Worker};
+use crew_workers::{Station, Worker, let_go, put, take_first};
 use provider_trait::Provider;
 use seat_calls::Seat;
 use std::collections::VecDeque;
@@ -27,12 +27,8 @@ pub fn station_all<P: Provider>(
     let mut stations = room;
     let mut left = passes;
     for seat in seats {
-        let Some(passes) = left.pop_front() else {
-            unreachable!()
-        };
-        let Ok(()) = stations.push(station(seat, passes)) else {
-            unreachable!()
-        };
+        let passes = take_first(&mut left);
+        put(&mut stations, station(seat, passes));
     }
     stations
 }
@@ -41,7 +37,8 @@ pub fn station_all<P: Provider>(
 fn station<P: Provider>(seat: Seat<P>, passes: SeatPasses) -> Station<P>
     ensures { IsStationOf seat passes result }
 {
-    let Seat { provider, .. } = seat;
+    let Seat { provider, job, got } = seat;
+    let_go((job, got));
     let SeatPasses {
         number,
         driver,

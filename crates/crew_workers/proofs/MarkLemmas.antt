@@ -1,6 +1,6 @@
 -- What stays as it is of each seat while it is at work, and the threads of the seats.
 use Rattle.std.proofs.Common.{arith, ◌≡◌, ◌<◌, ◌+◌, ◌≢◌, ⊎_elim, eqb, true, false, ℕ, zero, suc, List, [], ◌∷◌, ◌++◌}
-use Rattle.std.proofs.Common.{refl, sym, ap, ◌∙◌, subst, length, set, get_or, Option, None, Some}
+use Rattle.std.proofs.Common.{refl, sym, ap, ◌∙◌, subst, length, set, get_or, Option}
 use Rattle.std.proofs.lemmas.Bool.Decides.{eqb_tells}
 use Rattle.crew_workers.specs.Posts.{before_of, promise_of, marks}
 use Rattle.crew_workers.specs.Threads.{HasThread, HasThreads}
@@ -12,12 +12,12 @@ length_more : {A : Type 0} (l : List A) (x : A) → length (l ++ x ∷ []) ≡ l
 length_more [] x = refl
 length_more (y ∷ l) x = let r = length_more l x in omega arith
 
-get_old : {A : Type 0} (l : List A) (x : A) (k : ℕ) (d : A) → k < length l → get_or (l ++ x ∷ []) k d ≡ get_or l k d
+pub get_old : {A : Type 0} (l : List A) (x : A) (k : ℕ) (d : A) → k < length l → get_or (l ++ x ∷ []) k d ≡ get_or l k d
 get_old [] x k d h = absurd (omega arith)
 get_old (y ∷ l) x zero d h = refl
 get_old (y ∷ l) x (suc k) d h = get_old l x k d (omega arith)
 
-get_new : {A : Type 0} (l : List A) (x d : A) → get_or (l ++ x ∷ []) (length l) d ≡ x
+pub get_new : {A : Type 0} (l : List A) (x d : A) → get_or (l ++ x ∷ []) (length l) d ≡ x
 get_new [] x d = refl
 get_new (y ∷ l) x d = get_new l x d
 

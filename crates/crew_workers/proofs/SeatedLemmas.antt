@@ -1,5 +1,5 @@
 -- A worker stays seated at each of its orders.
-use Rattle.std.proofs.Common.{◌≡◌, ℕ, true, false, List, [], ◌∷◌, ◌++◌, sym, ap, ◌∙◌, subst}
+use Rattle.std.proofs.Common.{◌≡◌, true, false, List, [], ◌∷◌, ◌++◌, sym, ap, ◌∙◌, subst}
 use Rattle.crossbeam_channel.specs.Claims.{Pass, view, IsSeatAt}
 use Rattle.crew_channels.specs.Orders.{orders, jobs_in}
 use Rattle.crew_channels.specs.Results.{results}

@@ -1,5 +1,5 @@
 -- A worker with what it knows of the channels.
-use Rattle.std.specs.Prelude.{◌≡◌, ℕ, true, false, List, []}
+use Rattle.std.specs.Prelude.{◌≡◌, true, false, List, []}
 use Rattle.crossbeam_channel.specs.Claims.{view, IsSeatAt}
 use Rattle.crew_channels.specs.Orders.{orders, jobs_in}
 use Rattle.crew_channels.specs.Results.{results}

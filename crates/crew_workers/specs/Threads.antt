@@ -24,7 +24,8 @@ HasThread None (Running handle) = ⊥
 HasThread None NotStarted = Unit {0}
 
 -- each seat has its thread, in their order
-pub record HasThreads {P : Type 0} (marks : List (P × Option (SeatPromise P))) (threads : List (SeatThread P)) : Type 0 where
+pub record HasThreads {P : Type 0} (marks : List (P × Option (SeatPromise P)))
+    (threads : List (SeatThread P)) : Type 0 where
   pub len : length threads ≡ length marks
   pub each : (k : ℕ) (m : P × Option (SeatPromise P)) (t : SeatThread P) → k < length marks
       → HasThread (slice_index_or marks k m).1 (slice_index_or threads k t)

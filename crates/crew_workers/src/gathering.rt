@@ -6,6 +6,7 @@ ghost use Rattle.crew_workers.specs.Threads.{HasThreads, IsRoom};
 ghost use Rattle.seat_calls.specs.Dones.{Made};
 
 use crate::post::{Post, Station};
+use crate::room::{put, take_first};
 use crate::seat_thread::{SeatThread, finish};
 use seat_calls::Serves;
 use std::collections::VecDeque;
@@ -25,13 +26,9 @@ pub(crate) fn gather<R: Threads, P: Serves>(
     let mut stations = room;
     let mut left = threads;
     for post in posts {
-        let Some(thread) = left.pop_front() else {
-            unreachable!()
-        };
+        let thread = take_first(&mut left);
         let station = finish(rt, post, thread);
-        let Ok(()) = stations.push(station) else {
-            unreachable!()
-        };
+        put(&mut stations, station);
     }
     stations
 }

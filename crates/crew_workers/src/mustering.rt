@@ -1,6 +1,7 @@
 // The workers of all seats are started.
 
-ghost use Rattle.std.specs.Prelude.{◌≡◌, [], length, vec_len, vec_items, vec_capacity};
+ghost use Rattle.std.specs.Prelude.{◌≡◌, ◌<◌, ◌+◌, ◌++◌, ◌∷◌, [], ℕ, length, vec_len, vec_items, vec_capacity};
+ghost use Rattle.std.specs.Prelude.{slice_index_or};
 ghost use Rattle.std.specs.VecDeque.{deque_len, deque_capacity};
 ghost use Rattle.crossbeam_channel.specs.Ends.{sends_on};
 ghost use Rattle.crew_workers.specs.Posts.{AreStationed, ArePosted, marks};
@@ -9,6 +10,7 @@ ghost use Rattle.seat_calls.specs.Dones.{Made};
 
 use crate::channel::SeatChannel;
 use crate::post::{Post, Station};
+use crate::room::put;
 use crate::seat_thread::{SeatThread, Started, start};
 use crew_channels::DoneSender;
 use seat_calls::Serves;
@@ -43,13 +45,32 @@ pub(crate) fn muster<'s, E, R: Threads + Wait + Sync, P: Serves + Send + 's>(
     let mut threads = threads_room;
     for station in stations {
         let at = posts.len();
-        let Started { post, thread } = start(rt, alloc, scope, &channels[at], to, station);
-        let Ok(()) = posts.push(post) else {
-            unreachable!()
-        };
-        let Ok(()) = threads.push_back(thread) else {
-            unreachable!()
-        };
+        let started = start(rt, alloc, scope, &channels[at], to, station);
+        add(&mut posts, &mut threads, started);
     }
     (posts, threads)
+}
+
+// Adds a seat that was started to lists that have room for it.
+fn add<P: Serves>(
+    posts: &mut Vec<Post<P>>,
+    threads: &mut VecDeque<SeatThread<P>>,
+    started: Started<P>,
+)
+    requires posts { vec_len posts.old < vec_capacity posts.old }
+    requires threads { deque_len threads.old < deque_capacity threads.old }
+    ensures items { vec_items posts.new ≡ vec_items posts.old ++ started.post ∷ [] }
+    ensures len { vec_len posts.new ≡ vec_len posts.old + 1 }
+    ensures before { (k : ℕ) (d : _) → k < vec_len posts.old
+        → slice_index_or (vec_items posts.new) k d ≡ slice_index_or (vec_items posts.old) k d }
+    ensures last { (d : _) → slice_index_or (vec_items posts.new) (vec_len posts.old) d
+        ≡ started.post }
+    ensures threads { threads.new.items ≡ threads.old.items ++ started.thread ∷ [] }
+    ensures threads_len { deque_len threads.new ≡ deque_len threads.old + 1 }
+    ensures capacity { (vec_capacity posts.new ≡ vec_capacity posts.old)
+        × (deque_capacity threads.new ≡ deque_capacity threads.old) }
+{
+    let Started { post, thread } = started;
+    put(posts, post);
+    threads.push_back_reserved(thread);
 }

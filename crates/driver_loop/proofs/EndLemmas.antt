@@ -1,19 +1,21 @@
 -- After the first fault nothing is begun, and the fault that is told is the first.
-use Rattle.std.proofs.Common.{arith, ◌≡◌, ◌≤◌, ℕ, Bool, List, [], ◌∷◌, ◌++◌, refl, sym, ap, ◌∙◌, subst, append-nil}
-use Rattle.std.proofs.Common.{append_assoc, Option, None, Some}
+use Rattle.std.proofs.Common.{arith, ◌≡◌, ◌≤◌, ℕ, Bool, true, false, List, [], ◌∷◌, ◌++◌, refl, sym, ap, ◌∙◌, subst}
+use Rattle.std.proofs.Common.{append-nil, append_assoc, Option, None, Some}
 use Rattle.arm_edges.specs.Faults.{Rose}
 use Rattle.dealer_trait.specs.declared.book_fault.BookFault.{BookFault}
+use Rattle.dealer_trait.specs.declared.book_fault.BookFault.TheVariants.{Full, DiskFault, MustReopen}
 use Rattle.driver_loop.specs.Actions.{taken, each, first_fault, fault_by, or_else, note_by, refusal_by, notes_of}
 use Rattle.driver_loop.specs.Actions.{refusals_of, AreHands, AreTakes}
 use Rattle.driver_loop.specs.Ends.{BeginsNoMore, Blames, IsNoneOrMemory, Asks}
 use Rattle.driver_loop.specs.Moments.{Pages}
-use Rattle.driver_loop.specs.Runs.{Wrote, Rises, first_in}
+use Rattle.driver_loop.specs.Runs.{Wrote, Rises, BreaksBy, first_in, has_disk_fault}
 use Rattle.driver_loop.specs.Turns.{KnowsFault}
 use Rattle.driver_loop.specs.declared.action.Action.{Action}
 use Rattle.driver_loop.specs.declared.action.Action.TheVariants.{Hand, Take}
 use Rattle.driver_loop.specs.declared.fault.DriveFault.{DriveFault}
 use Rattle.driver_loop.specs.declared.fault.DriveFault.TheVariants.{Provider, Book, OutOfMemory}
 use Rattle.driver_loop.proofs.EachLemmas.{each_append, each_chain, fault_append, takes_append}
+use Rattle.driver_loop.proofs.SettleLemmas.{no_disk_fault, breaks_none}
 use Rattle.seat_calls.specs.declared.done.Done.{Done}
 
 hands_fault : (l : List Action) → AreHands l → first_fault l ≡ None
@@ -156,6 +158,21 @@ firsts_more None [] m = refl
 firsts_more None (x ∷ l) m = refl
 firsts_more (Some f) l m = refl
 
+rose_more : (l m : List BookFault) (a b c : ℕ) → a ≤ b → b ≤ c → (has_disk_fault l ≡ true → Rose a b)
+    → (has_disk_fault m ≡ true → Rose b c) → has_disk_fault (l ++ m) ≡ true → Rose a c
+unfolding has_disk_fault
+rose_more [] m a b c low high f g e = let r = g e in omega arith
+rose_more (Full length needed ∷ l) m a b c low high f g e = rose_more l m a b c low high f g e
+rose_more (DiskFault ∷ l) m a b c low high f g e = let r = f refl in omega arith
+rose_more (MustReopen ∷ l) m a b c low high f g e = rose_more l m a b c low high f g e
+
+breaks_more : (l m : List BookFault) (a b c : Bool) → BreaksBy a l b → BreaksBy b m c → BreaksBy a (l ++ m) c
+unfolding BreaksBy
+breaks_more [] m a b c p q = subst (λ x. BreaksBy x m c) p q
+breaks_more (Full length needed ∷ l) m a b c p q = (p.0, breaks_more l m false b c p.1 q)
+breaks_more (DiskFault ∷ l) m a b c p q = (p.0, breaks_more l m true b c p.1 q)
+breaks_more (MustReopen ∷ l) m a b c p q = (p.0, breaks_more l m true b c p.1 q)
+
 pub wrote_more : (tells : Bool) (p q r : Pages) (l m : List Action) → Wrote tells p q l → Wrote tells q r m
     → Wrote tells p r (l ++ m)
 wrote_more tells p q r l m a b = record {
@@ -167,6 +184,13 @@ wrote_more tells p q r l m a b = record {
       b.first ∙ ap (λ x. or_else x (first_in (refusals_of m))) a.first
       ∙ firsts_more p.first (refusals_of l) (refusals_of m)
       ∙ ap (λ x. or_else p.first (first_in x)) (sym (each_append refusal_by l m));
+  kept = let a0 = a.kept in let b0 = b.kept in omega arith;
+  rose =
+      subst (λ x. has_disk_fault x ≡ true → Rose p.faults r.faults) (sym (each_append refusal_by l m))
+      (rose_more (refusals_of l) (refusals_of m) p.faults q.faults r.faults a.kept b.kept a.rose b.rose);
+  breaks =
+      subst (λ x. BreaksBy p.broken x r.broken) (sym (each_append refusal_by l m))
+      (breaks_more (refusals_of l) (refusals_of m) p.broken q.broken r.broken a.breaks b.breaks);
 }
 
 wrote_nothing : (tells : Bool) (p : Pages) (m : List Action) → notes_of m ≡ [] → refusals_of m ≡ [] → Wrote tells p p m
@@ -174,6 +198,9 @@ wrote_nothing tells p m n r = record {
   report = λ t. sym (append-nil p.notes) ∙ ap (λ x. p.notes ++ x) (sym n);
   count = subst (λ x. Rises p.refusals p.refusals x) (sym r) refl;
   first = same p.first ∙ ap (λ x. or_else p.first (first_in x)) (sym r);
+  kept = omega arith;
+  rose = no_disk_fault (refusals_of m) r;
+  breaks = subst (λ x. BreaksBy p.broken x p.broken) (sym r) (breaks_none p.broken p.broken refl);
 }
   where
     same : (f : Option BookFault) → f ≡ or_else f None

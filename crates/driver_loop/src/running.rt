@@ -38,8 +38,8 @@ pub fn run<R: Wait, G: Dealer, C: Crew, B: Book>(
     ensures drove { Drove (G.is_end board.new) B.tells
         (moment (G.steps board.old) (C.received crew.old) (C.sent crew.old) opens.old)
         (moment (G.steps board.new) (C.received crew.new) (C.sent crew.new) opens.new)
-        (pages (B.notes book.old) (B.refusals book.old) (B.first book.old))
-        (pages (B.notes book.new) (B.refusals book.new) (B.first book.new)) result }
+        (pages B.notes B.refusals B.first B.faults B.is_broken book.old)
+        (pages B.notes B.refusals B.first B.faults B.is_broken book.new) result }
 {
     let mut fault = None;
     for _ in rt.forever() {
@@ -72,8 +72,8 @@ fn turn<R: Wait, G: Dealer, C: Crew, B: Book>(
     ensures turned { Turns (G.is_end board.new) B.tells
         (moment (G.steps board.old) (C.received crew.old) (C.sent crew.old) opens.old)
         (moment (G.steps board.new) (C.received crew.new) (C.sent crew.new) opens.new)
-        (pages (B.notes book.old) (B.refusals book.old) (B.first book.old))
-        (pages (B.notes book.new) (B.refusals book.new) (B.first book.new))
+        (pages B.notes B.refusals B.first B.faults B.is_broken book.old)
+        (pages B.notes B.refusals B.first B.faults B.is_broken book.new)
         fault.old fault.new result }
 {
     let ended = ask(rt, alloc, board, crew, opens, fault);
@@ -106,8 +106,8 @@ fn take<R: Wait, G: Dealer, C: Crew, B: Book>(
     ensures turned { Turns (G.is_end board.new) B.tells
         (moment (G.steps board.old) (C.received crew.old) (C.sent crew.old) opens.old)
         (moment (G.steps board.new) (C.received crew.new) (C.sent crew.new) opens.new)
-        (pages (B.notes book.old) (B.refusals book.old) (B.first book.old))
-        (pages (B.notes book.new) (B.refusals book.new) (B.first book.new))
+        (pages B.notes B.refusals B.first B.faults B.is_broken book.old)
+        (pages B.notes B.refusals B.first B.faults B.is_broken book.new)
         fault.old fault.new result }
 {
     let done = crew.receive(rt);

@@ -28,8 +28,8 @@ pub fn settle<G: Dealer, B: Book>(
     ensures tied { Tied (G.steps board.new) opens.new }
     ensures settled { (refused : Option BookFault)
         × (G.steps board.new ≡ G.steps board.old ++ end_of done.job.task done.got refused ∷ [])
-        × Wrote B.tells (pages (B.notes book.old) (B.refusals book.old) (B.first book.old))
-        (pages (B.notes book.new) (B.refusals book.new) (B.first book.new)) (taken done refused ∷ [])
+        × Wrote B.tells (pages B.notes B.refusals B.first B.faults B.is_broken book.old)
+        (pages B.notes B.refusals B.first B.faults B.is_broken book.new) (taken done refused ∷ [])
         × (result ≡ fault_by (taken done refused)) }
 {
     opens[done.worker as usize] = None;
@@ -39,8 +39,8 @@ pub fn settle<G: Dealer, B: Book>(
 
 // Asks the book to note an answer. Returns its refusal, where it refused one.
 fn note_done<B: Book>(book: &mut B, done: &Done) -> Option<BookFault>
-    ensures { Wrote B.tells (pages (B.notes book.old) (B.refusals book.old) (B.first book.old))
-        (pages (B.notes book.new) (B.refusals book.new) (B.first book.new))
+    ensures { Wrote B.tells (pages B.notes B.refusals B.first B.faults B.is_broken book.old)
+        (pages B.notes B.refusals B.first B.faults B.is_broken book.new)
         (taken done.now result ∷ []) }
 {
     match &done.got {

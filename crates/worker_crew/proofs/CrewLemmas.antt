@@ -1,5 +1,6 @@
 -- From seats at their channels to seats that have come back.
-use Rattle.std.proofs.Common.{arith, ◌≡◌, ◌<◌, ◌≤◌, Bool, true, false, ℕ, zero, suc, List, [], ◌∷◌, refl, sym, ap, ◌∙◌, subst}
+use Rattle.std.proofs.Common.{arith, ◌≡◌, ◌<◌, ◌≤◌, Bool, true, false, ℕ, zero, suc, List, [], ◌∷◌, refl, sym, ap, ◌∙◌}
+use Rattle.std.proofs.Common.{subst}
 use Rattle.std.proofs.Common.{⊎_elim, leb, length, get_or, vec_items, Option, None, Some}
 use Rattle.std.proofs.lemmas.Bool.Decides.{leb_tells}
 use Rattle.crossbeam_channel.specs.Claims.{Pass, view, IsSeatAt}
@@ -24,10 +25,10 @@ use Rattle.driver_loop.specs.declared.open_job.OpenJob.{OpenJob}
 use Rattle.provider_trait.specs.Work.{Work}
 use Rattle.seat_calls.specs.declared.done.Done.{Done}
 use Rattle.seat_calls.specs.declared.seat.Seat.{Seat}
-use Rattle.crew_seating.specs.Closed.{Told, HasLeft, HasNone, IsDriver}
+use Rattle.crew_seating.specs.Closed.{Told, HasLeft, HasNone}
 use Rattle.worker_crew.specs.Driven.{HasNoJobs, HasFinished, CallsAt}
 use Rattle.crew_seating.specs.Opened.{AreSetUp, IsPaired}
-use Rattle.worker_crew.specs.Rigs.{IsRigged, sent_at, sent_to}
+use Rattle.worker_crew.specs.Rigs.{IsRigged, sent_at}
 use Rattle.worker_crew.specs.Tasks.{HasRunLoop}
 use Rattle.crew_seating.specs.declared.ends.Ends.{Ends}
 use Rattle.worker_crew.proofs.FinishLemmas.{driven, not_strayed}
@@ -82,12 +83,14 @@ module _ {P : Type 0} (made : P → P → List Done → Type 0) (ends : Ends) (p
           × IsPaired (get_or (vec_items ends.channels) k e)
       stationed_last f k d e low =
           let below = subst (λ n. k < n) given.len low in (
-            stationed_back made (get_or (vec_items ends.channels) k e) (sends_on ends.to) (get_or left k f) (get_or back k d)
+            stationed_back made (get_or (vec_items ends.channels) k e) (sends_on ends.to) (get_or left k f)
+                (get_or back k d)
                 (rigged.posted k e f below).0 (given.each k d f below),
             rigged.paired k e below,
           )
 
-      numbered_last : Post P → SeatChannel → (k : ℕ) (d : Station P) → k < length left → (get_or back k d).worker.number ≡ k
+      numbered_last : Post P → SeatChannel → (k : ℕ) (d : Station P) → k < length left
+          → (get_or back k d).worker.number ≡ k
       numbered_last f e k d low =
           (same_back made (get_or left k f).place (get_or back k d).worker (given.each k d f low).1).0
           ∙ (rigged.posted k e f low).1
@@ -112,7 +115,8 @@ module _ {P : Type 0} (made : P → P → List Done → Type 0) (ends : Ends) (p
         count : length stations ≡ length left
         count = sym (len ∙ posted.len)
 
-        did : (end : Type 0) (tells : Bool) (s s' : List DealerStep) (p p' : Pages) → Post P → Post P → SeatChannel → Station P
+        did : (end : Type 0) (tells : Bool) (s s' : List DealerStep) (p p' : Pages) → Post P → Post P → SeatChannel
+            → Station P
             → Seat P → P → (k : ℕ) → k < length stations
             → (put : List Done) × Told (view after).got (sent_at left k) k put
             × CallsAt made end tells s s' p p' stations seats k put
@@ -124,7 +128,8 @@ module _ {P : Type 0} (made : P → P → List Done → Type 0) (ends : Ends) (p
               (view x.worker.results).sent,
               subst (λ (y : List Work × ℕ). Told (view after).got y.0 y.1 (view x.worker.results).sent)
                   (λ i. (
-                    (ap (λ (o : Pass Order Orders). jobs_in (view o).sent) (given.each k d f below).0 ∙ sym (sent_get left k f below)) i,
+                    (ap (λ (o : Pass Order Orders). jobs_in (view o).sent) (given.each k d f below).0
+                        ∙ sym (sent_get left k f below)) i,
                     numbered_last f e k d below i,
                   )) c.2,
               λ h u.
@@ -134,33 +139,41 @@ module _ {P : Type 0} (made : P → P → List Done → Type 0) (ends : Ends) (p
             )
 
         -- how it has ended
-        pub finishes : (end : Type 0) (tells : Bool) (s s' : List DealerStep) (p p' : Pages) (opens : List (Option OpenJob))
+        pub finishes : (end : Type 0) (tells : Bool) (s s' : List DealerStep) (p p' : Pages)
+            (opens : List (Option OpenJob))
             → Post P → Post P → SeatChannel → Station P → Seat P → P → ((k : ℕ) → open_at opens k ≡ None)
             → (ended : Ended)
-            → HasRunLoop end tells (moment s (view pass).got (sent_at all) opens) s' (view after).got (sent_at left) p p' ended
+            → HasRunLoop end tells (moment s (view pass).got (sent_at all) opens) s' (view after).got
+            (sent_at left) p p' ended
             → HasFinished made end tells s s' p p' stations seats ended
         finishes end tells s s' p p' opens f g e d t b free Well ran = (
           many ∙ given.len ∙ sym count,
           no_jobs d,
           ran.3.0,
-          driven end tells (moment s (view pass).got (sent_at all) opens) s' (view after).got (sent_at left) ran.1 ran.0 p p'
+          driven end tells (moment s (view pass).got (sent_at all) opens) s' (view after).got
+              (sent_at left) ran.1 ran.0 p p'
               (length stations) (CallsAt made end tells s s' p p' stations seats)
               (ap (λ (x : Results). x.got) up.new_results) (unsent_first d e g) ran.2 free
-              (did end tells s s' p p' f g e d t b) (λ k late. others k (subst (λ n. n ≤ k) (count ∙ sym rigged.known) late))
+              (did end tells s s' p p' f g e d t b)
+              (λ k late. others k (subst (λ n. n ≤ k) (count ∙ sym rigged.known) late))
               None ran.3.1,
         )
         finishes end tells s s' p p' opens f g e d t b free (Failed fault) ran = (
           many ∙ given.len ∙ sym count,
           no_jobs d,
-          driven end tells (moment s (view pass).got (sent_at all) opens) s' (view after).got (sent_at left) ran.1 ran.0 p p'
+          driven end tells (moment s (view pass).got (sent_at all) opens) s' (view after).got
+              (sent_at left) ran.1 ran.0 p p'
               (length stations) (CallsAt made end tells s s' p p' stations seats)
               (ap (λ (x : Results). x.got) up.new_results) (unsent_first d e g) ran.2 free
-              (did end tells s s' p p' f g e d t b) (λ k late. others k (subst (λ n. n ≤ k) (count ∙ sym rigged.known) late))
+              (did end tells s s' p p' f g e d t b)
+              (λ k late. others k (subst (λ n. n ≤ k) (count ∙ sym rigged.known) late))
               (Some fault) ran.3,
         )
         finishes end tells s s' p p' opens f g e d t b free Stray ran =
-            not_strayed end tells (moment s (view pass).got (sent_at all) opens) s' (view after).got (sent_at left) ran.1 ran.0
+            not_strayed end tells (moment s (view pass).got (sent_at all) opens) s' (view after).got
+            (sent_at left) ran.1 ran.0
             p p' (length stations) (CallsAt made end tells s s' p p' stations seats)
             (ap (λ (x : Results). x.got) up.new_results) (unsent_first d e g) ran.2 free
-            (did end tells s s' p p' f g e d t b) (λ k late. others k (subst (λ n. n ≤ k) (count ∙ sym rigged.known) late))
+            (did end tells s s' p p' f g e d t b)
+            (λ k late. others k (subst (λ n. n ≤ k) (count ∙ sym rigged.known) late))
             ran.3

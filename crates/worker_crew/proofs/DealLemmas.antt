@@ -5,7 +5,8 @@ use Rattle.dealer_trait.specs.Notes.{note_of}
 use Rattle.dealer_trait.specs.declared.book_fault.BookFault.{BookFault}
 use Rattle.dealer_trait.specs.declared.dealer_step.DealerStep.{DealerStep}
 use Rattle.dealer_trait.specs.declared.note.Note.{Note}
-use Rattle.driver_loop.specs.Actions.{each, end_of, if_own, step_by, steps_of, hands_of, noted, notes_of, first_fault, fault_of}
+use Rattle.driver_loop.specs.Actions.{each, end_of, if_own, step_by, steps_of, hands_of, noted, notes_of, first_fault}
+use Rattle.driver_loop.specs.Actions.{fault_of}
 use Rattle.driver_loop.specs.Actions.{or_else, AreTakes}
 use Rattle.driver_loop.specs.Ends.{BeginsNoMore}
 use Rattle.driver_loop.specs.declared.action.Action.{Action}
@@ -18,7 +19,8 @@ use Rattle.provider_trait.specs.declared.answer.ProviderFault.{ProviderFault}
 use Rattle.worker_crew.specs.Deals.{begun_by, begins, answer_by, answers, HasNoBack, HasNoBegin, BeginsNoneAfterBack}
 use Rattle.worker_crew.specs.Deals.{kept_of, kept, answers_to, notes_to}
 
-not_begun : (k task : ℕ) (got : Result Answer ProviderFault) (r : Option BookFault) → begun_by k (end_of task got r) ≡ []
+not_begun : (k task : ℕ) (got : Result Answer ProviderFault) (r : Option BookFault)
+    → begun_by k (end_of task got r) ≡ []
 not_begun k task (Ok a) None = refl
 not_begun k task (Ok a) (Some f) = refl
 not_begun k task (Err f) r = refl
@@ -32,7 +34,8 @@ begins_hands k (Take d r ∷ l) =
     ap (λ t. t ++ begins k (steps_of l)) (not_begun k d.job.task d.got r) ∙ begins_hands k l
 
 answer_more : (job : Work) (got : Result Answer ProviderFault) (r : Option BookFault) (x : List (ℕ × Answer))
-    (y : List (Work × Answer)) → x ≡ answers_to y → answer_by (end_of job.task got r) ++ x ≡ answers_to (kept_of job got r ++ y)
+    (y : List (Work × Answer)) → x ≡ answers_to y
+    → answer_by (end_of job.task got r) ++ x ≡ answers_to (kept_of job got r ++ y)
 unfolding answers_to
 answer_more job (Ok a) None x y e = ap (λ t. (job.task, a) ∷ t) e
 answer_more job (Ok a) (Some f) x y e = e
@@ -73,7 +76,8 @@ no_back [] e = tt
 no_back (Hand j ∷ l) e = no_back l e
 no_back (Take d r ∷ l) e = no_back_more d.job.task d.worker d.got r (first_fault l) (steps_of l) (no_back l) e
 
-no_begin_more : (task : ℕ) (got : Result Answer ProviderFault) (r : Option BookFault) (l : List DealerStep) → HasNoBegin l
+no_begin_more : (task : ℕ) (got : Result Answer ProviderFault) (r : Option BookFault) (l : List DealerStep)
+    → HasNoBegin l
     → HasNoBegin (end_of task got r ∷ l)
 unfolding HasNoBegin
 no_begin_more task (Ok a) None l h = h

@@ -1,18 +1,20 @@
 -- How a drive ends, over the seats of its caller.
-use Rattle.std.proofs.Common.{◌≡◌, ◌<◌, ℕ, Bool, true, List, [], ◌∷◌, ◌++◌, refl, sym, ap, ◌∙◌, subst, length, get_or}
-use Rattle.std.proofs.Common.{Option, None, Some, Ok, Err, append-nil}
+use Rattle.std.proofs.Common.{◌≡◌, ◌<◌, ℕ, Bool, true, false, List, [], ◌∷◌, ◌++◌, refl, sym, ap, ◌∙◌, subst, length}
+use Rattle.std.proofs.Common.{get_or}
+use Rattle.std.proofs.Common.{Option, None, Some, Err, append-nil}
+use Rattle.std.specs.Prelude.{IfSome}
 use Rattle.std.proofs.lemmas.List.{get_or_default}
 use Rattle.arm_edges.specs.Faults.{Rose}
 use Rattle.crew_workers.specs.declared.post.Station.{Station}
 use Rattle.dealer_trait.specs.Steps.{NoneBegun}
 use Rattle.dealer_trait.specs.declared.book_fault.BookFault.{BookFault}
+use Rattle.dealer_trait.specs.declared.book_fault.BookFault.TheVariants.{Full, DiskFault, MustReopen}
 use Rattle.dealer_trait.specs.declared.dealer_step.DealerStep.{DealerStep}
-use Rattle.driver_loop.specs.Actions.{step_by, note_by, refusal_by, refusals_of, or_else, hands_of, hand_by, dones_of, done_by}
+use Rattle.driver_loop.specs.Actions.{step_by, refusals_of, or_else, hand_by, dones_of, done_by}
 use Rattle.driver_loop.specs.Courses.{IsOfJob}
-use Rattle.driver_loop.specs.Ends.{Asks}
 use Rattle.driver_loop.specs.Moments.{Pages}
 use Rattle.driver_loop.specs.declared.fault.DriveFault.{DriveFault}
-use Rattle.driver_loop.specs.Runs.{Rises, first_in}
+use Rattle.driver_loop.specs.Runs.{Rises, BreaksBy, first_in, has_disk_fault}
 use Rattle.driver_loop.specs.declared.fault.DriveFault.TheVariants.{Provider, Book, OutOfMemory}
 use Rattle.driver_loop.specs.declared.fault.Ended.{Ended}
 use Rattle.driver_loop.specs.declared.fault.Ended.TheVariants.{Well, Failed, Stray}
@@ -21,12 +23,13 @@ use Rattle.driver_loop.proofs.EachLemmas.{each_none}
 use Rattle.driver_loop.proofs.EndLemmas.{knows_none, begins_no_more, wrote_hands}
 use Rattle.provider_trait.specs.declared.call.Call.{Call}
 use Rattle.seat_calls.specs.Called.{Kind}
-use Rattle.seat_calls.specs.Dones.{of, jobs_of, has_failure, Made}
+use Rattle.seat_calls.specs.Dones.{of, jobs_of, Made}
 use Rattle.seat_calls.specs.declared.done.Done.{Done}
 use Rattle.seat_calls.specs.declared.seat.Seat.{Seat}
 use Rattle.seat_calls.proofs.DoneLemmas.{of_none, jobs_none, made_none}
 use Rattle.worker_crew.proofs.DealLemmas.{begins_hands, answers_kept, notes_kept, none_after_back}
-use Rattle.worker_crew.specs.Driven.{Driven, HasWorked, HasFinished, HasEnded, HasDriven, CallsAt, CallsOf, HasNoJobs, HasRefused}
+use Rattle.worker_crew.specs.Driven.{Driven, HasFinished, HasEnded, HasDriven, CallsAt, CallsOf, HasNoJobs}
+use Rattle.worker_crew.specs.Driven.{HasRefused, IsCause}
 
 -- the same calls, as another condition says them
 driven_as : (tells : Bool) (s s' : List DealerStep) (p p' : Pages) (n m : ℕ) (A B : ℕ → List Done → Type 0)
@@ -82,7 +85,8 @@ module _ {P : Type 0} (made : P → P → List Done → Type 0) (end : Type 0) (
   no_jobs Stray h = absurd h
 
 -- nothing was done, since memory ran out before
-pub driven_none : (tells : Bool) (s : List DealerStep) (p : Pages) (n : ℕ) (Calls : ℕ → List Done → Type 0) → NoneBegun s
+pub driven_none : (tells : Bool) (s : List DealerStep) (p : Pages) (n : ℕ) (Calls : ℕ → List Done → Type 0)
+    → NoneBegun s
     → ((k : ℕ) → k < n → Calls k []) → Driven tells s s p p n Calls (Some OutOfMemory)
 driven_none tells s p n Calls none calls = record {
   course = [];
@@ -126,14 +130,35 @@ pub blamed_rose : {P : Type 0} (may : Kind) (tell : Bool) (calls : P → List Ca
 blamed_rose may tell calls faults end tells s s' p p' old new k h =
     let f = h.1.failed k refl in (f.0, λ t u. ((h.1.worked k f.0).called t u).rose f.1)
 
-refused_one : (p p' : Pages) (l : List BookFault) (f : BookFault) → first_in l ≡ Some f → Rises p.refusals p'.refusals l
-    → p'.first ≡ or_else p.first (first_in l) → HasRefused p p' f
-refused_one p p' [] f e r w = cc
-refused_one p p' (x ∷ l) f e r w = (r.1, λ none. w ∙ ap (λ y. or_else y (Some x)) none ∙ e)
+stays_broken : (l : List BookFault) (is : Bool) → BreaksBy true l is → is ≡ true
+unfolding BreaksBy
+stays_broken [] is h = h
+stays_broken (Full bytes needed ∷ l) is h = let b : true ≡ false = h.0 in cc
+stays_broken (DiskFault ∷ l) is h = let b : true ≡ false = h.0 in cc
+stays_broken (MustReopen ∷ l) is h = stays_broken l is h.1
+
+cause : (p p' : Pages) (x : BookFault) (l : List BookFault) → (has_disk_fault (x ∷ l) ≡ true → Rose p.faults p'.faults)
+    → BreaksBy p.broken (x ∷ l) p'.broken → IsCause p p' x
+unfolding has_disk_fault BreaksBy
+cause p p' (Full bytes needed) l rose h = h.0
+cause p p' DiskFault l rose h = (h.0, rose refl, stays_broken l p'.broken h.1)
+cause p p' MustReopen l rose h = h.0
+
+-- what the refusals of a book show
+shown : (p p' : Pages) (l : List BookFault) (f : BookFault) → first_in l ≡ Some f → Rises p.refusals p'.refusals l
+    → p'.first ≡ or_else p.first (first_in l) → (has_disk_fault l ≡ true → Rose p.faults p'.faults)
+    → BreaksBy p.broken l p'.broken → HasRefused p p' f
+shown p p' [] f e r w d b = cc
+shown p p' (x ∷ l) f e r w d b = (
+  r.1,
+  (λ none. w ∙ ap (λ y. or_else y (Some x)) none ∙ e),
+  subst (λ (o : Option BookFault). IfSome o (IsCause p p')) e (cause p p' x l d b),
+)
 
 -- the book that is blamed has refused a note, and this is its first refusal
 pub blamed_refused : {P : Type 0} (made : P → P → List Done → Type 0) (end : Type 0) (tells : Bool)
     (s s' : List DealerStep) (p p' : Pages) (old new : List (Seat P)) (f : BookFault)
     → HasDriven made end tells s s' p p' old new (Err (Book f)) → HasRefused p p' f
 blamed_refused made end tells s s' p p' old new f h =
-    refused_one p p' (refusals_of h.1.course) f (h.1.refused f refl) h.1.wrote.count h.1.wrote.first
+    let w = h.1.wrote in
+    shown p p' (refusals_of h.1.course) f (h.1.refused f refl) w.count w.first w.rose w.breaks

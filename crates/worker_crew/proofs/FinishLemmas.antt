@@ -1,20 +1,20 @@
 -- What is known when all seats have come back.
-use Rattle.std.proofs.Common.{arith, Bool, true, false, ◌||◌, ◌≡◌, ◌<◌, ◌≤◌, ◌≢◌, ⊎_elim, eqb, leb, ℕ, List, [], ◌∷◌}
-use Rattle.std.proofs.Common.{◌++◌, refl, sym, ap, ◌∙◌, subst, Option, None, Some, length}
+use Rattle.std.proofs.Common.{Bool, true, false, ◌||◌, ◌≡◌, ◌<◌, ◌≤◌, ◌≢◌, ⊎_elim, eqb, leb, ℕ, List, [], ◌∷◌}
+use Rattle.std.proofs.Common.{◌++◌, refl, sym, ap, ◌∙◌, subst, Option, None, Some}
 use Rattle.std.proofs.lemmas.Bool.Decides.{eqb_tells, leb_tells}
 use Rattle.std.specs.Prelude.{Result, Ok, Err}
 use Rattle.dealer_trait.specs.declared.book_fault.BookFault.{BookFault}
 use Rattle.dealer_trait.specs.declared.dealer_step.DealerStep.{DealerStep}
 use Rattle.driver_loop.specs.Actions.{each, first_fault, fault_of, or_else, dones_of, hands_of, refusals_of, refused_by}
-use Rattle.driver_loop.specs.Courses.{Goes, Resembles, IsOfJob}
-use Rattle.driver_loop.specs.Ends.{Closed, Strayed, Drove, Blames}
+use Rattle.driver_loop.specs.Courses.{Goes, Resembles}
+use Rattle.driver_loop.specs.Ends.{Closed, Strayed, Blames}
 use Rattle.driver_loop.specs.Moments.{Moment, moment, Pages}
 use Rattle.driver_loop.specs.OpenJobs.{open_at, job_at, job_in}
 use Rattle.driver_loop.specs.Runs.{first_in}
 use Rattle.driver_loop.specs.declared.action.Action.{Action}
 use Rattle.driver_loop.specs.declared.action.Action.TheVariants.{Hand, Take}
 use Rattle.driver_loop.specs.declared.fault.DriveFault.{DriveFault}
-use Rattle.driver_loop.specs.declared.fault.DriveFault.TheVariants.{Provider, Book, OutOfMemory as IsOutOfMemory}
+use Rattle.driver_loop.specs.declared.fault.DriveFault.TheVariants.{Provider, Book}
 use Rattle.driver_loop.specs.declared.open_job.OpenJob.{OpenJob}
 use Rattle.driver_loop.proofs.StrictLemmas.{no_stray, all_strict}
 use Rattle.provider_trait.specs.Work.{Work}
@@ -77,7 +77,8 @@ seat_failed k (Take d r ∷ l) e = ⊎_elim
 no_failure : {A : Type 0} (l : List Done) → l ≡ [] → has_failure l ≡ true → A
 no_failure l n e = let b : false ≡ true = sym failure_none ∙ ap has_failure (sym n) ∙ e in cc
 
-module _ (end : Type 0) (tells : Bool) (m : Moment) (s : List DealerStep) (received : List Done) (sent q : ℕ → List Work)
+module _ (end : Type 0) (tells : Bool) (m : Moment) (s : List DealerStep) (received : List Done)
+    (sent q : ℕ → List Work)
     (o : List (Option OpenJob)) (p p' : Pages) (seats : ℕ) (Calls : ℕ → List Done → Type 0) (fresh : m.received ≡ [])
     (unsent : (k : ℕ) → m.sent k ≡ []) (same : (k : ℕ) → sent k ≡ q k) (free : (k : ℕ) → open_at m.opens k ≡ None)
     (did : (k : ℕ) → k < seats → (put : List Done) × Told received (sent k) k put × Calls k put)
@@ -85,7 +86,8 @@ module _ (end : Type 0) (tells : Bool) (m : Moment) (s : List DealerStep) (recei
   all : Answers seats sent received
   all = answers_by seats sent received (λ k low. let d = did k low in (d.0, d.1)) others
 
-  from : (k : ℕ) (l : List Action) (opens : List (Option OpenJob)) → Goes Resembles k (job_at m.opens k) l (job_at opens k)
+  from : (k : ℕ) (l : List Action) (opens : List (Option OpenJob))
+      → Goes Resembles k (job_at m.opens k) l (job_at opens k)
       → Goes Resembles k None l (job_at opens k)
   from k l opens g = subst (λ x. Goes Resembles k x l (job_at opens k)) (ap job_in (free k)) g
 

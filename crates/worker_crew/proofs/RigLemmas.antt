@@ -1,5 +1,5 @@
 -- The posts of a rig, one of which changes.
-use Rattle.std.proofs.Common.{arith, ◌≡◌, ◌≢◌, ◌<◌, ⊎_elim, cond, eqb, Bool, true, false, ℕ, zero, suc, List, [], ◌∷◌, ◌++◌}
+use Rattle.std.proofs.Common.{arith, ◌≡◌, ◌≢◌, ◌<◌, ⊎_elim, cond, eqb, true, false, ℕ, zero, suc, List, [], ◌∷◌, ◌++◌}
 use Rattle.std.proofs.Common.{refl, sym, ap, ◌∙◌, subst, append-nil, length, set, get_or, vec_items}
 use Rattle.std.proofs.Math.ListN.{length-set}
 use Rattle.std.proofs.lemmas.Bool.Decides.{eqb_tells}
@@ -61,7 +61,8 @@ module _ {P : Type 0} where
       (λ (x : (eqb k j ≡ false) × (k ≢ j)). sent_else l k j p (λ e. x.1 (sym e)))
       (eqb_tells k j)
 
-module _ {P : Type 0} (made : P → P → List Done → Type 0) (ends : Ends) (posts : List (Post P)) (pass : Pass Done Results)
+module _ {P : Type 0} (made : P → P → List Done → Type 0) (ends : Ends) (posts : List (Post P))
+    (pass : Pass Done Results)
     (rigged : IsRigged made ends posts pass) where
   -- the driver sends on the channel of each seat to the seat
   pub rigged_at : (k : ℕ) (e : SeatChannel) (d : Post P) → k < length posts → e ≡ get_or (vec_items ends.channels) k e

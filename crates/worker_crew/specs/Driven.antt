@@ -1,10 +1,11 @@
 -- What a drive has done.
-use Rattle.std.specs.Prelude.{◌≡◌, ◌<◌, ℕ, Bool, true, List, [], ◌++◌, length, Option, None, Some, Result, Ok, Err}
+use Rattle.std.specs.Prelude.{◌≡◌, ◌<◌, ℕ, Bool, true, false, List, ◌++◌, length, Option, None, Some, Result, Ok, Err}
 use Rattle.std.specs.Prelude.{slice_index_or}
 use Rattle.arm_edges.specs.Faults.{Rose}
 use Rattle.crew_workers.specs.declared.post.Station.{Station}
 use Rattle.dealer_trait.specs.Steps.{NoneBegun}
 use Rattle.dealer_trait.specs.declared.book_fault.BookFault.{BookFault}
+use Rattle.dealer_trait.specs.declared.book_fault.BookFault.TheVariants.{Full, DiskFault, MustReopen}
 use Rattle.dealer_trait.specs.declared.dealer_step.DealerStep.{DealerStep}
 use Rattle.driver_loop.specs.Actions.{steps_of, dones_of, hands_of, notes_of, refusals_of}
 use Rattle.driver_loop.specs.Courses.{Goes, IsOfJob}
@@ -48,7 +49,8 @@ pub record Driven (tells : Bool) (s s' : List DealerStep) (p p' : Pages) (seats 
   pub refused : (f : BookFault) → fault ≡ Some (Book f) → first_in (refusals_of course) ≡ Some f
   -- after the first job that was given back none was begun
   pub calm : BeginsNoneAfterBack (steps_of course)
-  -- each answer that the dealer was given is what a call gave and was noted: answers and notes are of these calls, in order
+  -- each answer that the dealer was given is what a call gave and was noted: answers and notes are of these calls, in
+  -- order
   pub answered : answers (steps_of course) ≡ answers_to (kept course)
   pub noted : notes_of course ≡ notes_to (kept course)
   -- no Begin is open
@@ -56,9 +58,15 @@ pub record Driven (tells : Bool) (s s' : List DealerStep) (p p' : Pages) (seats 
   -- what each seat has seen
   pub worked : (k : ℕ) → k < seats → HasWorked (Calls k) course k
 
--- the book has refused a note in this call, and this is its first refusal where it had refused none before
+-- why the book has refused a note: it had no room for it, its disk failed in this call, or it was broken before
+abbrev pub IsCause : Pages → Pages → BookFault → Type 0
+IsCause p p' (Full bytes needed) = p.broken ≡ false
+IsCause p p' DiskFault = (p.broken ≡ false) × Rose p.faults p'.faults × (p'.broken ≡ true)
+IsCause p p' MustReopen = p.broken ≡ true
+
+-- the book has refused a note in this call by this cause, and it is its first refusal where it had refused none before
 abbrev pub HasRefused : Pages → Pages → BookFault → Type 0
-HasRefused p p' f = Rose p.refusals p'.refusals × (p.first ≡ None → p'.first ≡ Some f)
+HasRefused p p' f = Rose p.refusals p'.refusals × (p.first ≡ None → p'.first ≡ Some f) × IsCause p p' f
 
 -- the provider of the seat k is blamed
 abbrev pub by_seat : ℕ → Result (Unit {0}) DriveFault
@@ -99,6 +107,7 @@ module _ {P : Type 0} (made : P → P → List Done → Type 0) (end : Type 0) (
 
   -- the seats are as many as before, in their order; where all went well the dealer has come to its end
   abbrev pub HasDriven : List (Seat P) → List (Seat P) → Result (Unit {0}) DriveFault → Type 0
-  HasDriven old new (Ok u) = (length new ≡ length old) × end × Driven tells s s' p p' (length old) (CallsOf old new) None
+  HasDriven old new (Ok u) = (length new ≡ length old) × end
+      × Driven tells s s' p p' (length old) (CallsOf old new) None
   HasDriven old new (Err fault) =
       (length new ≡ length old) × Driven tells s s' p p' (length old) (CallsOf old new) (Some fault)

@@ -1,6 +1,6 @@
 // The driver of a crew.
 
-ghost use Rattle.std.specs.Prelude.{◌≡◌, ◌<◌, ◌≤◌, ℕ, vec_len, vec_items};
+ghost use Rattle.std.specs.Prelude.{◌≡◌, ◌<◌, ◌≤◌, ℕ, IfOk, vec_len, vec_items};
 ghost use Rattle.std.specs.Prelude.{slice_index_or, vec_capacity};
 ghost use Rattle.arm_edges.specs.Faults.{Rose};
 ghost use Rattle.dealer_trait.specs.Steps.{NoneBegun};
@@ -13,9 +13,10 @@ ghost use Rattle.crew_seating.specs.Opened.{IsOpen};
 ghost use Rattle.worker_crew.specs.Rooms.{AreRooms};
 
 use crate::driving::drive_stations;
-use crate::rooms::{Rooms, open_rooms};
+use crate::rooms::{Rooms, open_rooms, run_out};
+use arm_value::OutOfMemory;
 use crew_seating::{Opened, open_channels, station_all};
-use crew_workers::Station;
+use crew_workers::{Station, let_go};
 use dealer_trait::{Book, Dealer};
 use driver_loop::{DriveFault, Ended};
 use provider_trait::Provider;
@@ -36,9 +37,10 @@ use std::thread::Threads;
 /// # Errors
 ///
 /// `Provider` with the number of a seat whose provider failed: its count of faults rose. `Book` with
-/// the first note that was refused in this call. `OutOfMemory` where memory for the seats' channels,
-/// the dealer or a provider ran out. After the first Back of this call nothing more is begun, and an
-/// error is returned after all open jobs have come in.
+/// the first note that was refused in this call: `DiskFault` only where the book's count of faults
+/// rose, `MustReopen` only where the book was broken before. `OutOfMemory` where memory for the seats'
+/// channels, the dealer or a provider ran out. After the first Back of this call nothing more is begun,
+/// and an error is returned after all open jobs have come in.
 pub fn drive<R: Threads + Wait + Sync, G: Dealer, P: Provider, B: Book>(
     rt: &R,
     alloc: Global,
@@ -52,15 +54,15 @@ pub fn drive<R: Threads + Wait + Sync, G: Dealer, P: Provider, B: Book>(
     ensures free { HasNoJobs (vec_items seats.new) }
     ensures drove { HasDriven (Made P.may P.tells P.calls P.faults) (G.is_end board.new) B.tells
         (G.steps board.old) (G.steps board.new)
-        (pages (B.notes book.old) (B.refusals book.old) (B.first book.old))
-        (pages (B.notes book.new) (B.refusals book.new) (B.first book.new))
+        (pages B.notes B.refusals B.first B.faults B.is_broken book.old)
+        (pages B.notes B.refusals B.first B.faults B.is_broken book.new)
         (vec_items seats.old) (vec_items seats.new) result }
     ensures failed { (k : ℕ) → result ≡ by_seat k → (k < vec_len seats.old)
         × ((s : _) (t : _) → Rose (P.faults (slice_index_or (vec_items seats.old) k s).provider)
         (P.faults (slice_index_or (vec_items seats.new) k t).provider)) }
     ensures refused { (f : BookFault) → result ≡ by_book f → HasRefused
-        (pages (B.notes book.old) (B.refusals book.old) (B.first book.old))
-        (pages (B.notes book.new) (B.refusals book.new) (B.first book.new)) f }
+        (pages B.notes B.refusals B.first B.faults B.is_broken book.old)
+        (pages B.notes B.refusals B.first B.faults B.is_broken book.new) f }
 {
     drive_all(rt, alloc, board, seats, book)
 }
@@ -79,27 +81,19 @@ fn drive_all<R: Threads + Wait + Sync, G: Dealer, P: Provider, B: Book>(
     ensures free { HasNoJobs (vec_items seats.new) }
     ensures drove { HasDriven (Made P.may P.tells P.calls P.faults) (G.is_end board.new) B.tells
         (G.steps board.old) (G.steps board.new)
-        (pages (B.notes book.old) (B.refusals book.old) (B.first book.old))
-        (pages (B.notes book.new) (B.refusals book.new) (B.first book.new))
+        (pages B.notes B.refusals B.first B.faults B.is_broken book.old)
+        (pages B.notes B.refusals B.first B.faults B.is_broken book.new)
         (vec_items seats.old) (vec_items seats.new) result }
 {
     let Ok(count) = u32::try_from(seats.len()) else {
         unreachable!()
     };
-    let Ok(opened) = open_channels(alloc, count) else {
-        return Err(DriveFault::OutOfMemory);
-    };
-    let Ok(rooms) = open_rooms(alloc, count) else {
-        let_go(opened);
-        return Err(DriveFault::OutOfMemory);
-    };
-    let Ok(stations) = Vec::with_capacity(alloc, count as usize) else {
-        let_go((opened, rooms));
+    let Ok((opened, stations, rooms)) = prepare(alloc, count) else {
         return Err(DriveFault::OutOfMemory);
     };
     let taken = mem::replace(seats, Vec::new(alloc));
     let (back, ended) = drive_seats(rt, alloc, board, book, taken, opened, stations, rooms);
-    *seats = back;
+    let_go(mem::replace(seats, back));
     match ended {
         Ended::Well => Ok(()),
         Ended::Failed(fault) => Err(fault),
@@ -107,8 +101,23 @@ fn drive_all<R: Threads + Wait + Sync, G: Dealer, P: Provider, B: Book>(
     }
 }
 
-// Drops a part that is whole.
-fn let_go<T: Drop>(_part: T) {}
+// What a drive takes before a seat is moved: channels that are open, and room for all seats.
+type Prepared<P> = (Opened, Vec<Station<P>>, Rooms<P>);
+
+fn prepare<P: Provider>(alloc: Global, seats: u32) -> Result<Prepared<P>, OutOfMemory>
+    requires { 0 < seats }
+    ensures { IfOk result (λ r. IsOpen seats r.0 × (vec_len r.1 ≡ 0) × (seats ≤ vec_capacity r.1)
+        × AreRooms seats r.2) }
+{
+    let opened = open_channels(alloc, seats)?;
+    let Ok(stations) = Vec::with_capacity(alloc, seats as usize) else {
+        return run_out(opened);
+    };
+    match open_rooms(alloc, seats) {
+        Ok(rooms) => Ok((opened, stations, rooms)),
+        Err(_) => run_out((opened, stations)),
+    }
+}
 
 // Drives the seats over channels that are open.
 fn drive_seats<R: Threads + Wait + Sync, G: Dealer, P: Provider, B: Book>(
@@ -129,8 +138,8 @@ fn drive_seats<R: Threads + Wait + Sync, G: Dealer, P: Provider, B: Book>(
     ensures free { HasNoJobs (vec_items result.0) }
     ensures drove { HasEnded (Made P.may P.tells P.calls P.faults) (G.is_end board.new) B.tells
         (G.steps board.old) (G.steps board.new)
-        (pages (B.notes book.old) (B.refusals book.old) (B.first book.old))
-        (pages (B.notes book.new) (B.refusals book.new) (B.first book.new))
+        (pages B.notes B.refusals B.first B.faults B.is_broken book.old)
+        (pages B.notes B.refusals B.first B.faults B.is_broken book.new)
         (vec_items seats) (vec_items result.0) result.1 }
 {
     let Opened {

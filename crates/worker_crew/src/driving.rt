@@ -45,8 +45,8 @@ pub(crate) fn drive_stations<R: Threads + Wait + Sync, G: Dealer, P: Provider, B
     requires none { NoneBegun (G.steps board.old) }
     ensures { HasFinished (Made P.may P.tells P.calls P.faults) (G.is_end board.new) B.tells
         (G.steps board.old) (G.steps board.new)
-        (pages (B.notes book.old) (B.refusals book.old) (B.first book.old))
-        (pages (B.notes book.new) (B.refusals book.new) (B.first book.new))
+        (pages B.notes B.refusals B.first B.faults B.is_broken book.old)
+        (pages B.notes B.refusals B.first B.faults B.is_broken book.new)
         (vec_items stations) (vec_items result.0) result.1 }
 {
     let (board_back, seats, ended) = drive_booked(
@@ -75,8 +75,8 @@ fn drive_booked<'a, R: Threads + Wait + Sync, G: Dealer, P: Provider, B: Book>(
     ensures name { result.0.ghost_name ≡ board.entry.ghost_name }
     ensures drove { HasFinished (Made P.may P.tells P.calls P.faults) (G.is_end result.0.now)
         B.tells (G.steps board.entry.now) (G.steps result.0.now)
-        (pages (B.notes book.old) (B.refusals book.old) (B.first book.old))
-        (pages (B.notes book.new) (B.refusals book.new) (B.first book.new))
+        (pages B.notes B.refusals B.first B.faults B.is_broken book.old)
+        (pages B.notes B.refusals B.first B.faults B.is_broken book.new)
         (vec_items stations) (vec_items result.1) result.2 }
 {
     let (board_back, book_back, seats, ended) = drive_lent(
@@ -106,8 +106,8 @@ fn drive_lent<'a, 'b, R: Threads + Wait + Sync, G: Dealer, P: Provider, B: Book>
         × (result.1.ghost_name ≡ book.entry.ghost_name) }
     ensures drove { HasFinished (Made P.may P.tells P.calls P.faults) (G.is_end result.0.now)
         B.tells (G.steps board.entry.now) (G.steps result.0.now)
-        (pages (B.notes book.entry.now) (B.refusals book.entry.now) (B.first book.entry.now))
-        (pages (B.notes result.1.now) (B.refusals result.1.now) (B.first result.1.now))
+        (pages B.notes B.refusals B.first B.faults B.is_broken book.entry.now)
+        (pages B.notes B.refusals B.first B.faults B.is_broken result.1.now)
         (vec_items stations) (vec_items result.2) result.3 }
 {
     let Rooms {

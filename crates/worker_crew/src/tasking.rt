@@ -50,8 +50,8 @@ impl<'a, 'b, 'c, G: Dealer, B: Book, P: Serves> Task<P> for Driving<'a, 'b, 'c, 
         × HasRunLoop (G.is_end r.0.now) B.tells
         (moment (G.steps t.board.now) (view t.results).got (sent_at posts) (vec_items t.opens))
         (G.steps r.0.now) (view r.2).got (sent_at left)
-        (pages (B.notes t.book.now) (B.refusals t.book.now) (B.first t.book.now))
-        (pages (B.notes r.1.now) (B.refusals r.1.now) (B.first r.1.now)) r.3 };
+        (pages B.notes B.refusals B.first B.faults B.is_broken t.book.now)
+        (pages B.notes B.refusals B.first B.faults B.is_broken r.1.now) r.3 };
 
     fn run<R: Wait>(
         self,
@@ -73,10 +73,8 @@ impl<'a, 'b, 'c, G: Dealer, B: Book, P: Serves> Task<P> for Driving<'a, 'b, 'c, 
             (moment (G.steps self.entry.board.now) (view self.entry.results).got
             (sent_at (vec_items posts)) (vec_items self.entry.opens))
             (G.steps result.0.0.now) (view result.0.2).got (sent_at (vec_items result.1))
-            (pages (B.notes self.entry.book.now) (B.refusals self.entry.book.now)
-            (B.first self.entry.book.now))
-            (pages (B.notes result.0.1.now) (B.refusals result.0.1.now)
-            (B.first result.0.1.now)) result.0.3 }
+            (pages B.notes B.refusals B.first B.faults B.is_broken self.entry.book.now)
+            (pages B.notes B.refusals B.first B.faults B.is_broken result.0.1.now) result.0.3 }
     {
         let Driving {
             alloc,

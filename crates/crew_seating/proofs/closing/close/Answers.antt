@@ -1,5 +1,6 @@
-use Rattle.std.proofs.Common.{rules, arith, ◌≡◌, ◌+◌, ◌≤◌, ◌<◌, ℕ, None, suc, get_or, vec_items, vec_len, below_more, sym, ap, ◌∙◌}
-use Rattle.std.proofs.Common.{subst, List, length}
+use Rattle.std.proofs.Common.{rules, arith, ◌≡◌, ◌+◌, ◌≤◌, None, suc, get_or, vec_items, vec_len, below_more, sym, ap}
+use Rattle.std.proofs.Common.{◌∙◌}
+use Rattle.std.proofs.Common.{subst, List}
 use Rattle.std.proofs.lemmas.List.{get_or_default}
 use Rattle.crossbeam_channel.specs.Claims.{view}
 use Rattle.crossbeam_channel.specs.Ends.{sends_on}
@@ -29,7 +30,8 @@ its_station : (g : _) (c : After-index-channels-at g) (d : Station g.row.P.Denot
 its_station g c d = let h = c.loop-station.invariant.2 0 d in grind rules
 
 ready : (g : _) (c : After-index-channels-at g)
-    → IsStationed (Made g.P.Provider.may g.P.Provider.tells g.P.Provider.calls g.P.Provider.faults) c.index-channels-at.result
+    → IsStationed (Made g.P.Provider.may g.P.Provider.tells g.P.Provider.calls g.P.Provider.faults)
+    c.index-channels-at.result
     (sends_on c.args.to.now) c.in-Some.station × IsPaired c.index-channels-at.result
 ready g c =
     subst (λ (y : SeatChannel × Station g.row.P.Denot).
@@ -50,9 +52,9 @@ close_one-seat-requires-clause-paired g c κs within =
 pub loop-station-preserved : goal.loop-station-preserved
 loop-station-preserved g c =
     let was = c.loop-station.invariant in let done = vec_len c.loop-station.seats in
-    let pushed = c.push in let all = vec_items pushed.new.self in
+    let pushed = c.put in let all = vec_items pushed.new.list in
     let steps = c.in-Some.ensures.steps.0 in let less = c.in-Some.ensures.steps.1 in
-    let grown : vec_len pushed.new.self ≡ done + 1 = search rules in
+    let grown : vec_len pushed.new.list ≡ done + 1 = search rules in
     let here = (goal.at.loop-station-preserved g c).After-index-channels-at in
     let o = c.close_one-seat.ensures in
     let got = (view c.args.pass).got in
@@ -68,10 +70,10 @@ loop-station-preserved g c =
       (λ i d s below.
           below_more (λ j. So (get_or (vec_items c.args.stations) j d) (get_or all j s)) done
           (λ j low.
-          subst (λ y. So (get_or (vec_items c.args.stations) j d) y) (sym (pushed.ensures.by_index.0 j s low))
+          subst (λ y. So (get_or (vec_items c.args.stations) j d) y) (sym (pushed.ensures.before j s low))
           (was.5 j d s low))
           (subst (λ (y : Station g.row.P.Denot × Seat g.row.P.Denot). So y.0 y.1)
-          (λ i. (sym (its_station g here d) i, sym (pushed.ensures.by_index.1 s (search rules)) i))
+          (λ i. (sym (its_station g here d) i, sym (pushed.ensures.last s) i))
           (o.seat.0, o.seat.1, subst (λ (l : List Done). HasLeft l c.in-Some.station) was.4.1 o.left))
           i (omega arith)),
       λ k some late.

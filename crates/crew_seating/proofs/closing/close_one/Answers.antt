@@ -1,6 +1,5 @@
-use Rattle.std.proofs.Common.{rules, ◌++◌, sym, ap, ◌∙◌, subst}
+use Rattle.std.proofs.Common.{◌++◌, sym, ap, ◌∙◌, subst}
 use Rattle.crossbeam_channel.specs.Claims.{view, IsSeatAt}
-use Rattle.crossbeam_channel.specs.Ends.{sends_on}
 use Rattle.crew_channels.specs.declared.orders.Orders.{Orders}
 use Rattle.crew_channels.specs.declared.results.Results.{Results}
 use Rattle.seat_calls.specs.Dones.{of}
@@ -32,7 +31,8 @@ returns-clause-left g c =
     let r = c.rejoin_results.ensures.left in
     told_by (view c.args.station.orders).sent (view w.orders).got o.0 (view c.args.pass.now).got r.0
     (view w.results).sent w.number o.1
-    (ap (λ n. of n ((view c.args.pass.now).got ++ r.0)) (sym (ap (λ (x : Results). x.worker) seated.results_role)) ∙ r.1)
+    (ap (λ n. of n ((view c.args.pass.now).got ++ r.0)) (sym (ap (λ (x : Results). x.worker) seated.results_role))
+    ∙ r.1)
     seated.jobs
 
 pub returns-clause-others : goal.returns-clause-others

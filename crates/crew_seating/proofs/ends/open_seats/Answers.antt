@@ -1,4 +1,4 @@
-use Rattle.std.proofs.Common.{rules, ◌≡◌, ◌+◌, ◌∷◌, ◌++◌, [], sym, subst, List, vec_items}
+use Rattle.std.proofs.Common.{rules, ◌+◌, sym, subst, List, vec_items}
 use Rattle.crossbeam_channel.specs.Ends.{sends_on}
 use Rattle.crew_seating.specs.Opened.{AreOpen, IsOpenSeat}
 use Rattle.crew_seating.specs.declared.ends.SeatPasses.{SeatPasses}
@@ -11,21 +11,21 @@ loop-number-init c = (
   c.requires.0,
   c.requires.1,
   subst (λ (y : List SeatChannel × List SeatPasses). AreOpen (sends_on c.args.to.now) 0 y.0 y.1)
-      (λ i. (sym c.new-channels.ensures.items i, sym c.new-passes.ensures.items i)) (open_none (sends_on c.args.to.now)),
+      (λ i. (sym c.in_ok-channels.ensures.items i, sym c.in-Ok.ensures.items i)) (open_none (sends_on c.args.to.now)),
+  (search rules, search rules),
 )
 
 pub loop-number-preserved : goal.loop-number-preserved
 loop-number-preserved c =
     let was = c.loop-number.invariant in
-    let new = c.in_ok-channel.field-0.channel in
-    let own = c.in_ok-channel.field-0.passes in
-    let cs : vec_items c.push.new.self ≡ vec_items c.loop-number.channels ++ new ∷ [] = c.in-Ok.ensures.items in
-    let ps : c.push_back.new.self.items ≡ c.loop-number.passes.items ++ own ∷ [] = c.in-Ok-push_back.ensures.items in
-    let seat : IsOpenSeat (sends_on c.args.to.now) c.loop-number.number new own = search rules in (
+    let seat = c.in-Ok-open_seat.seat in
+    let open_so : IsOpenSeat (sends_on c.args.to.now) c.loop-number.number seat.channel seat.passes = search rules in (
       c.open_seat.ensures.pass,
       search rules,
       subst (λ (y : List SeatChannel × List SeatPasses).
-          AreOpen (sends_on c.args.to.now) (c.loop-number.number + 1) y.0 y.1) (λ i. (sym cs i, sym ps i))
+          AreOpen (sends_on c.args.to.now) (c.loop-number.number + 1) y.0 y.1)
+          (λ i. (sym c.add_seat.ensures.channels i, sym c.add_seat.ensures.passes i))
           (open_more (sends_on c.args.to.now) c.loop-number.number (vec_items c.loop-number.channels)
-          c.loop-number.passes.items new own was.2 seat),
+          c.loop-number.passes.items seat.channel seat.passes was.2 open_so),
+      (search rules, search rules),
     )

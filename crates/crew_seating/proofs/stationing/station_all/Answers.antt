@@ -1,4 +1,4 @@
-use Rattle.std.proofs.Common.{rules, arith, ◌≡◌, ◌+◌, ◌<◌, ℕ, zero, suc, List, [], ◌∷◌, length, get_or, vec_items, vec_len}
+use Rattle.std.proofs.Common.{rules, arith, ◌≡◌, ◌+◌, ◌<◌, suc, ◌∷◌, length, get_or, vec_items, vec_len}
 use Rattle.std.proofs.Common.{below_more, sym, ap, ◌∙◌, subst}
 use Rattle.std.specs.Vec.Iter.{into_iter_items}
 use Rattle.seat_calls.specs.declared.seat.Seat.{Seat}
@@ -25,15 +25,15 @@ loop-seat-init g c =
 pub loop-seat-preserved : goal.loop-seat-preserved
 loop-seat-preserved g c =
     let was = c.loop-seat.invariant in let done = vec_len c.loop-seat.stations in
-    let pushed = c.push in let all = vec_items pushed.new.self in
+    let pushed = c.put in let all = vec_items pushed.new.list in
     let steps = c.in-Some.ensures.steps.0 in let less = c.in-Some.ensures.steps.1 in
     let seats = vec_items c.args.seats in let passes = c.args.passes.items in
-    let grown : vec_len pushed.new.self ≡ done + 1 = search rules in
-    let front : c.loop-seat.left.items ≡ c.in-Some-pop_front.passes ∷ c.pop_front.new.self.items
-    = c.in-Some-pop_front.ensures.items in
+    let grown : vec_len pushed.new.list ≡ done + 1 = search rules in
+    let front : c.loop-seat.left.items ≡ c.take_first-passes.result ∷ c.take_first-passes.new.list.items
+    = c.take_first-passes.ensures in
     let many = ap length front in
     let its : (s : Seat g.row.P.Denot) → c.in-Some.seat ≡ get_or seats done s = λ s. let h = was.2 0 s in grind rules in
-    let own : (p : SeatPasses) → get_or passes done p ≡ c.in-Some-pop_front.passes
+    let own : (p : SeatPasses) → get_or passes done p ≡ c.take_first-passes.result
     = λ p.
     ap (λ n. get_or passes n p) (omega arith) ∙ sym (was.4 0 p (omega arith)) ∙ ap (λ l. get_or l 0 p) front in (
       search rules,
@@ -48,10 +48,10 @@ loop-seat-preserved g c =
       λ i s p d below.
           below_more (λ j. IsStationOf (get_or seats j s) (get_or passes j p) (get_or all j d)) done
           (λ j low.
-          subst (λ y. IsStationOf (get_or seats j s) (get_or passes j p) y) (sym (pushed.ensures.by_index.0 j d low))
+          subst (λ y. IsStationOf (get_or seats j s) (get_or passes j p) y) (sym (pushed.ensures.before j d low))
           (was.5 j s p d low))
           (subst (λ (y : Seat g.row.P.Denot × SeatPasses × Station g.row.P.Denot). IsStationOf y.0 y.1 y.2)
-          (λ i. (its s i, sym (own p) i, sym (pushed.ensures.by_index.1 d (search rules)) i)) c.station.ensures)
+          (λ i. (its s i, sym (own p) i, sym (pushed.ensures.last d) i)) c.station.ensures)
           i (omega arith),
     )
 

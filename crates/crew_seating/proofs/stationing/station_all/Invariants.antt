@@ -12,4 +12,5 @@ invariant-loop-seat g l =
     × (done + length l.left.items ≡ length l.fn.passes.items)
     × ((k : ℕ) (d : _) → k < length l.left.items → get_or l.left.items k d ≡ get_or l.fn.passes.items (done + k) d)
     × ((k : ℕ) (s : _) (p : _) (d : _) → k < done
-    → IsStationOf (get_or (vec_items l.fn.seats) k s) (get_or l.fn.passes.items k p) (get_or (vec_items l.stations) k d))
+    → IsStationOf (get_or (vec_items l.fn.seats) k s) (get_or l.fn.passes.items k p)
+    (get_or (vec_items l.stations) k d))

@@ -1,4 +1,5 @@
-use Rattle.std.proofs.Common.{rules, arith, ◌≡◌, ◌<◌, ◌+◌, ◌∷◌, List, length, suc, get_or, vec_items, vec_len, below_more, sym}
+use Rattle.std.proofs.Common.{rules, arith, ◌≡◌, ◌<◌, ◌+◌, ◌∷◌, List, length, suc, get_or, vec_items, vec_len}
+use Rattle.std.proofs.Common.{below_more, sym}
 use Rattle.std.proofs.Common.{ap, ◌∙◌, subst}
 use Rattle.std.specs.Vec.Iter.{into_iter_items}
 use Rattle.crew_workers.specs.Posts.{Gave, marks}
@@ -28,8 +29,8 @@ loop-post-init g c =
 pub finish-station-requires : goal.finish-station-requires
 finish-station-requires g c =
     let steps = c.in-Some.ensures.steps.0 in
-    let front : c.loop-post.left.items ≡ c.in-Some-pop_front.thread ∷ c.pop_front.new.self.items
-    = c.in-Some-pop_front.ensures.items in
+    let front : c.loop-post.left.items ≡ c.take_first-thread.result ∷ c.take_first-thread.new.list.items
+    = c.take_first-thread.ensures in
     record {
       thread =
           thread_first _ _ _ _
@@ -41,11 +42,11 @@ pub loop-post-preserved : goal.loop-post-preserved
 loop-post-preserved g c =
     let made = Made g.P.Serves.may g.P.Serves.tells g.P.Serves.calls g.P.Serves.faults in
     let was = c.loop-post.invariant in let done = vec_len c.loop-post.stations in
-    let pushed = c.push in let all = vec_items pushed.new.self in
+    let pushed = c.put in let all = vec_items pushed.new.list in
     let steps = c.in-Some.ensures.steps.0 in let less = c.in-Some.ensures.steps.1 in
-    let grown : vec_len pushed.new.self ≡ done + 1 = search rules in
-    let front : c.loop-post.left.items ≡ c.in-Some-pop_front.thread ∷ c.pop_front.new.self.items
-    = c.in-Some-pop_front.ensures.items in
+    let grown : vec_len pushed.new.list ≡ done + 1 = search rules in
+    let front : c.loop-post.left.items ≡ c.take_first-thread.result ∷ c.take_first-thread.new.list.items
+    = c.take_first-thread.ensures in
     let many = ap length front in
     let its : (f : Post g.row.P.Denot) → c.in-Some.post ≡ get_or (vec_items c.args.posts) done f
     = λ f. let h = was.2 0 f in grind rules in (
@@ -57,10 +58,10 @@ loop-post-preserved g c =
       (λ i d f below.
           below_more (λ j. Gave made (get_or (vec_items c.args.posts) j f) (get_or all j d)) done
           (λ j low.
-          subst (λ b. Gave made (get_or (vec_items c.args.posts) j f) b) (sym (pushed.ensures.by_index.0 j d low))
+          subst (λ b. Gave made (get_or (vec_items c.args.posts) j f) b) (sym (pushed.ensures.before j d low))
           (was.3 j d f low))
           (subst (λ (y : Post g.row.P.Denot × Station g.row.P.Denot). Gave made y.0 y.1)
-          (λ i. (its f i, sym (pushed.ensures.by_index.1 d (search rules)) i)) c.finish-station.ensures)
+          (λ i. (its f i, sym (pushed.ensures.last d) i)) c.finish-station.ensures)
           i (omega arith)),
       (let w = was.4 in omega arith),
       threads_rest _ _ _ _

@@ -1,4 +1,4 @@
-use Rattle.std.proofs.Common.{rules, arith, ◌≡◌, ℕ, ◌+◌, ◌<◌, suc, zero, List, [], ◌∷◌, ◌++◌, refl, length, get_or, vec_items}
+use Rattle.std.proofs.Common.{rules, arith, ◌≡◌, ◌+◌, ◌<◌, suc, List, [], ◌∷◌, ◌++◌, length, get_or, vec_items}
 use Rattle.std.proofs.Common.{vec_len, below_more, sym, ap, ◌∙◌, subst}
 use Rattle.std.proofs.lemmas.List.{get_or_default}
 use Rattle.std.specs.Vec.Iter.{into_iter_items}
@@ -27,8 +27,8 @@ its_station : (g : _) (c : After-index-channels-at g) (d : Station g.row.P.Denot
     → get_or (vec_items c.args.stations) (vec_len c.loop-station.posts) d ≡ c.in-Some.station
 its_station g c d = let h = c.loop-station.invariant.2 0 d in grind rules
 
-pub start-post-requires-clause-ready : goal.start-post-requires-clause-ready
-start-post-requires-clause-ready g c κs within =
+pub start-started-requires-clause-ready : goal.start-started-requires-clause-ready
+start-started-requires-clause-ready g c κs within =
     subst (λ (y : SeatChannel × Station g.row.P.Denot).
     IsStationed (Made g.P.Serves.may g.P.Serves.tells g.P.Serves.calls g.P.Serves.faults) y.0
     (sends_on c.args.to.now) y.1)
@@ -55,11 +55,11 @@ pub loop-station-preserved : goal.loop-station-preserved
 loop-station-preserved g c =
     let made = Made g.P.Serves.may g.P.Serves.tells g.P.Serves.calls g.P.Serves.faults in
     let was = c.loop-station.invariant in let done = vec_len c.loop-station.posts in
-    let pushed = c.push in let all = vec_items pushed.new.self in
+    let pushed = c.add in let all = vec_items pushed.new.posts in
     let steps = c.in-Some.ensures.steps.0 in let less = c.in-Some.ensures.steps.1 in
-    let grown : vec_len pushed.new.self ≡ done + 1 = search rules in
-    let posts_more : all ≡ vec_items c.loop-station.posts ++ c.start-post.result.post ∷ [] = search rules in
-    let threads_now : c.push_back.new.self.items ≡ c.loop-station.threads.items ++ c.start-post.result.thread ∷ []
+    let grown : vec_len pushed.new.posts ≡ done + 1 = search rules in
+    let posts_more : all ≡ vec_items c.loop-station.posts ++ c.start-started.result.post ∷ [] = search rules in
+    let threads_now : c.add.new.threads.items ≡ c.loop-station.threads.items ++ c.start-started.result.thread ∷ []
     = search rules in
     let here = (goal.at.loop-station-preserved g c).After-index-channels-at in
     let So : SeatChannel → Station g.row.P.Denot → Post g.row.P.Denot → Type 0
@@ -70,22 +70,24 @@ loop-station-preserved g c =
           sym (ap (λ l. get_or l (suc k) d) steps) ∙ was.2 (suc k) d (let e = less in omega arith)
           ∙ ap (λ n. get_or (vec_items c.args.stations) n d) (omega arith)),
       (λ i d e f below.
-          below_more (λ j. So (get_or c.args.channels.now j e) (get_or (vec_items c.args.stations) j d) (get_or all j f)) done
+          below_more (λ j. So (get_or c.args.channels.now j e) (get_or (vec_items c.args.stations) j d)
+          (get_or all j f)) done
           (λ j low.
           subst (λ p. So (get_or c.args.channels.now j e) (get_or (vec_items c.args.stations) j d) p)
-          (sym (pushed.ensures.by_index.0 j f low)) (was.3 j d e f low))
+          (sym (pushed.ensures.before j f low)) (was.3 j d e f low))
           (subst (λ (y : SeatChannel × Station g.row.P.Denot × Post g.row.P.Denot). So y.0 y.1 y.2)
           (λ i. (
             sym (its_channel g here e) i,
             sym (its_station g here d) i,
-            sym (pushed.ensures.by_index.1 f (search rules)) i,
-          )) (c.start-post.ensures.posted, c.start-post.ensures.start))
+            sym (pushed.ensures.last f) i,
+          )) (c.start-started.ensures.posted, c.start-started.ensures.start))
           i (omega arith)),
       (search rules, search rules),
       subst (λ (y : List (Post g.row.P.Denot) × List (SeatThread g.row.P.Denot)). HasThreads (marks y.0) y.1)
           (λ i. (sym posts_more i, sym threads_now i))
-          (threads_more (vec_items c.loop-station.posts) c.loop-station.threads.items c.start-post.result.post c.start-post.result.thread
-          was.5 c.start-post.ensures.thread),
+          (threads_more (vec_items c.loop-station.posts) c.loop-station.threads.items c.start-started.result.post
+          c.start-started.result.thread
+          was.5 c.start-started.ensures.thread),
     )
 
 pub returns-clause-threads : goal.returns-clause-threads

@@ -12,5 +12,5 @@ invariant-loop g l = (length l.opens ≡ length l.fn.opens)
     × GoesOn g.B.Book.tells
     (moment (g.G.Dealer.steps l.fn.board) (g.C.Crew.received l.fn.crew) (g.C.Crew.sent l.fn.crew) l.fn.opens)
     (moment (g.G.Dealer.steps l.board) (g.C.Crew.received l.crew) (g.C.Crew.sent l.crew) l.opens)
-    (pages (g.B.Book.notes l.fn.book) (g.B.Book.refusals l.fn.book) (g.B.Book.first l.fn.book))
-    (pages (g.B.Book.notes l.book) (g.B.Book.refusals l.book) (g.B.Book.first l.book)) l.fault
+    (pages g.B.Book.notes g.B.Book.refusals g.B.Book.first g.B.Book.faults g.B.Book.is_broken l.fn.book)
+    (pages g.B.Book.notes g.B.Book.refusals g.B.Book.first g.B.Book.faults g.B.Book.is_broken l.book) l.fault

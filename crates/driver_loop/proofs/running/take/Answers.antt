@@ -11,7 +11,7 @@ returns-then-not-is_of_open_job-clause-turned g c m0 p0 was =
     (g.C.Crew.sent c.receive-done.new.self) c.give_back.new.opens) in
     let r = c.receive-done.ensures in
     strays g.B.Book.tells m0 p0 m n
-    (pages (g.B.Book.notes c.args.book.now) (g.B.Book.refusals c.args.book.now) (g.B.Book.first c.args.book.now))
+    (pages g.B.Book.notes g.B.Book.refusals g.B.Book.first g.B.Book.faults g.B.Book.is_broken c.args.book.now)
     c.args.fault.now c.receive-done.result was
     c.requires.tied (c.is_of_open_job.ensures.no (search rules)) r.sent r.received
 
@@ -24,7 +24,7 @@ returns-clause-turned g c m0 p0 was =
     let r = c.receive-done.ensures in
     let s = c.settle.ensures in
     goes_take g.B.Book.tells m0 p0 m n
-    (pages (g.B.Book.notes c.args.book.now) (g.B.Book.refusals c.args.book.now) (g.B.Book.first c.args.book.now))
-    (pages (g.B.Book.notes c.settle.new.book) (g.B.Book.refusals c.settle.new.book)
-    (g.B.Book.first c.settle.new.book)) c.args.fault.now c.settle.result c.earlier.result c.receive-done.result was
+    (pages g.B.Book.notes g.B.Book.refusals g.B.Book.first g.B.Book.faults g.B.Book.is_broken c.args.book.now)
+    (pages g.B.Book.notes g.B.Book.refusals g.B.Book.first g.B.Book.faults g.B.Book.is_broken
+    c.settle.new.book) c.args.fault.now c.settle.result c.earlier.result c.receive-done.result was
     c.requires.tied (c.is_of_open_job.ensures.yes (search rules)) r.sent r.received s.opens s.settled c.earlier.ensures

@@ -10,8 +10,8 @@ returns-then-not-has_no_job-clause-turned g c m0 p0 was =
     (g.C.Crew.sent c.args.crew.now) c.args.opens.now) in
     let n = (moment (g.G.Dealer.steps c.ask-ended.new.board) (g.C.Crew.received c.ask-ended.new.crew)
     (g.C.Crew.sent c.ask-ended.new.crew) c.ask-ended.new.opens) in
-    let p = (pages (g.B.Book.notes c.args.book.now) (g.B.Book.refusals c.args.book.now)
-    (g.B.Book.first c.args.book.now)) in
+    let p = (pages g.B.Book.notes g.B.Book.refusals g.B.Book.first g.B.Book.faults g.B.Book.is_broken
+    c.args.book.now) in
     let asked : GoesOn g.B.Book.tells m0 n p0 p c.ask-ended.new.fault
     = goes_ask g.B.Book.tells m0 p0 m n p c.args.fault.now c.ask-ended.new.fault was c.ask-ended.ensures.ran in
     c.take.ensures.turned m0 p0 asked
@@ -22,8 +22,8 @@ returns-in-Some-clause-turned g c m0 p0 was =
     (g.C.Crew.sent c.args.crew.now) c.args.opens.now) in
     let n = (moment (g.G.Dealer.steps c.ask-ended.new.board) (g.C.Crew.received c.ask-ended.new.crew)
     (g.C.Crew.sent c.ask-ended.new.crew) c.ask-ended.new.opens) in
-    let p = (pages (g.B.Book.notes c.args.book.now) (g.B.Book.refusals c.args.book.now)
-    (g.B.Book.first c.args.book.now)) in
+    let p = (pages g.B.Book.notes g.B.Book.refusals g.B.Book.first g.B.Book.faults g.B.Book.is_broken
+    c.args.book.now) in
     let asked : GoesOn g.B.Book.tells m0 n p0 p c.ask-ended.new.fault
     = goes_ask g.B.Book.tells m0 p0 m n p c.args.fault.now c.ask-ended.new.fault was c.ask-ended.ensures.ran in
     closes g.B.Book.tells m0 p0 n p (Some c.in-Some.fault)
@@ -36,8 +36,8 @@ returns-then-ended-clause-turned g c m0 p0 was =
     (g.C.Crew.sent c.args.crew.now) c.args.opens.now) in
     let n = (moment (g.G.Dealer.steps c.ask-ended.new.board) (g.C.Crew.received c.ask-ended.new.crew)
     (g.C.Crew.sent c.ask-ended.new.crew) c.ask-ended.new.opens) in
-    let p = (pages (g.B.Book.notes c.args.book.now) (g.B.Book.refusals c.args.book.now)
-    (g.B.Book.first c.args.book.now)) in
+    let p = (pages g.B.Book.notes g.B.Book.refusals g.B.Book.first g.B.Book.faults g.B.Book.is_broken
+    c.args.book.now) in
     let asked : GoesOn g.B.Book.tells m0 n p0 p c.ask-ended.new.fault
     = goes_ask g.B.Book.tells m0 p0 m n p c.args.fault.now c.ask-ended.new.fault was c.ask-ended.ensures.ran in
     let e = c.ask-ended.ensures.end c.if-ended.true in (
@@ -52,8 +52,8 @@ returns-else-ended-clause-turned g c m0 p0 was =
     (g.C.Crew.sent c.args.crew.now) c.args.opens.now) in
     let n = (moment (g.G.Dealer.steps c.ask-ended.new.board) (g.C.Crew.received c.ask-ended.new.crew)
     (g.C.Crew.sent c.ask-ended.new.crew) c.ask-ended.new.opens) in
-    let p = (pages (g.B.Book.notes c.args.book.now) (g.B.Book.refusals c.args.book.now)
-    (g.B.Book.first c.args.book.now)) in
+    let p = (pages g.B.Book.notes g.B.Book.refusals g.B.Book.first g.B.Book.faults g.B.Book.is_broken
+    c.args.book.now) in
     let asked : GoesOn g.B.Book.tells m0 n p0 p c.ask-ended.new.fault
     = goes_ask g.B.Book.tells m0 p0 m n p c.args.fault.now c.ask-ended.new.fault was c.ask-ended.ensures.ran in
     asked

@@ -10,12 +10,13 @@ returns-clause-failed g c k is =
     let made = Made g.P.Provider.may g.P.Provider.tells g.P.Provider.calls g.P.Provider.faults in
     let old = c.args.book.now in
     let new = c.drive_all.new.book in
-    let p = pages (g.B.Book.notes old) (g.B.Book.refusals old) (g.B.Book.first old) in
-    let q = pages (g.B.Book.notes new) (g.B.Book.refusals new) (g.B.Book.first new) in
+    let p = pages g.B.Book.notes g.B.Book.refusals g.B.Book.first g.B.Book.faults g.B.Book.is_broken old in
+    let q = pages g.B.Book.notes g.B.Book.refusals g.B.Book.first g.B.Book.faults g.B.Book.is_broken new in
     let end = g.G.Dealer.is_end c.drive_all.new.board in
     let s = g.G.Dealer.steps c.args.board.now in
     let t = g.G.Dealer.steps c.drive_all.new.board in
-    let rose = blamed_rose g.P.Provider.may g.P.Provider.tells g.P.Provider.calls g.P.Provider.faults end g.B.Book.tells s t p q
+    let rose = blamed_rose g.P.Provider.may g.P.Provider.tells g.P.Provider.calls g.P.Provider.faults end
+    g.B.Book.tells s t p q
     (vec_items c.args.seats.now) (vec_items c.drive_all.new.seats) k
     (subst (λ r.
     HasDriven made end g.B.Book.tells s t p q (vec_items c.args.seats.now) (vec_items c.drive_all.new.seats) r) is
@@ -27,8 +28,8 @@ returns-clause-refused g c f is =
     let made = Made g.P.Provider.may g.P.Provider.tells g.P.Provider.calls g.P.Provider.faults in
     let old = c.args.book.now in
     let new = c.drive_all.new.book in
-    let p = pages (g.B.Book.notes old) (g.B.Book.refusals old) (g.B.Book.first old) in
-    let q = pages (g.B.Book.notes new) (g.B.Book.refusals new) (g.B.Book.first new) in
+    let p = pages g.B.Book.notes g.B.Book.refusals g.B.Book.first g.B.Book.faults g.B.Book.is_broken old in
+    let q = pages g.B.Book.notes g.B.Book.refusals g.B.Book.first g.B.Book.faults g.B.Book.is_broken new in
     let end = g.G.Dealer.is_end c.drive_all.new.board in
     let s = g.G.Dealer.steps c.args.board.now in
     let t = g.G.Dealer.steps c.drive_all.new.board in

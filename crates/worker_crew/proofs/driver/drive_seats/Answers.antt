@@ -1,4 +1,4 @@
-use Rattle.std.proofs.Common.{rules, arith, ◌≡◌, ◌<◌, ◌≤◌, ◌^◌, ℕ, sym, ◌∙◌, subst, length, vec_items, vec_len}
+use Rattle.std.proofs.Common.{arith, ◌≡◌, ◌<◌, ◌≤◌, ◌^◌, sym, ◌∙◌, subst, length, vec_items, vec_len}
 use Rattle.seat_calls.specs.Dones.{Made}
 use Rattle.seat_calls.proofs.DoneLemmas.{made_none}
 use Rattle.crew_seating.proofs.SetUpLemmas.{set_up_all}

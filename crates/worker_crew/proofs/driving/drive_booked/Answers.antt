@@ -12,6 +12,7 @@ returns-clause-drove g c =
     subst (λ b.
     HasFinished (Made g.P.Provider.may g.P.Provider.tells g.P.Provider.calls g.P.Provider.faults)
     (g.G.Dealer.is_end r.0.now) g.B.Book.tells (g.G.Dealer.steps c.args.board.now) (g.G.Dealer.steps r.0.now)
-    (pages (g.B.Book.notes c.args.book.now) (g.B.Book.refusals c.args.book.now) (g.B.Book.first c.args.book.now))
-    (pages (g.B.Book.notes b) (g.B.Book.refusals b) (g.B.Book.first b)) (vec_items c.args.stations) (vec_items r.2) r.3)
+    (pages g.B.Book.notes g.B.Book.refusals g.B.Book.first g.B.Book.faults g.B.Book.is_broken c.args.book.now)
+    (pages g.B.Book.notes g.B.Book.refusals g.B.Book.first g.B.Book.faults g.B.Book.is_broken
+    b) (vec_items c.args.stations) (vec_items r.2) r.3)
     book c.drive_lent-board_back.ensures.drove

@@ -1,5 +1,5 @@
-use Rattle.std.proofs.Common.{rules, arith, ◌≡◌, ◌<◌, ◌≤◌, ◌^◌, ℕ, List, None, replicate, sym, ap, ◌∙◌, refl, subst, length}
-use Rattle.std.proofs.Common.{get_or, vec_items, vec_len, vec_capacity}
+use Rattle.std.proofs.Common.{◌≡◌, ◌<◌, ◌≤◌, ◌^◌, List, None, sym, ap, ◌∙◌, subst, length}
+use Rattle.std.proofs.Common.{get_or, vec_items, vec_capacity}
 use Rattle.crossbeam_channel.specs.Claims.{IsSeatAt}
 use Rattle.crossbeam_channel.specs.Ends.{sends_on}
 use Rattle.crew_workers.specs.Posts.{ArePosted, IsStationed}
@@ -7,7 +7,6 @@ use Rattle.crew_workers.specs.declared.channel.SeatChannel.{SeatChannel}
 use Rattle.crew_workers.specs.declared.post.Post.{Post}
 use Rattle.crew_seating.specs.Opened.{IsPaired}
 use Rattle.driver_loop.specs.OpenJobs.{open_at}
-use Rattle.driver_loop.specs.declared.open_job.OpenJob.{OpenJob}
 use Rattle.driver_loop.proofs.TieLemmas.{tied_first}
 use Rattle.seat_calls.specs.Dones.{Made}
 use Rattle.worker_crew.proofs.CrewLemmas.{head_of, rigged_first, stationed_last, finishes}
@@ -70,7 +69,8 @@ close-requires-clause-stationed g c κs within k d e low =
     let there : ArePosted made (vec_items c.args.ends.now.channels) (sends_on c.args.ends.now.to)
     (vec_items c.args.stations) x.0
     = subst (λ (l : List SeatChannel).
-    ArePosted made l (sends_on c.args.ends.now.to) (vec_items c.args.stations) x.0) c.as_slice-channels.ensures.value x.2 in
+    ArePosted made l (sends_on c.args.ends.now.to) (vec_items c.args.stations) x.0) c.as_slice-channels.ensures.value
+    x.2 in
     subst (λ (l : List SeatChannel).
     IsStationed made (get_or l k e) (sends_on c.args.ends.now.to) (get_or (vec_items c.crew-backs.result.0) k d)
     × IsPaired (get_or l k e)) (sym c.as_slice-channels.ensures.value)
@@ -99,8 +99,10 @@ returns-clause-drove g c =
     let there : ArePosted made (vec_items c.args.ends.now.channels) (sends_on c.args.ends.now.to)
     (vec_items c.args.stations) x.0
     = subst (λ (l : List SeatChannel).
-    ArePosted made l (sends_on c.args.ends.now.to) (vec_items c.args.stations) x.0) c.as_slice-channels.ensures.value x.2 in
-    let many : length seats ≡ length back = sym c.close.result.ok.0 ∙ c.close.ensures.len ∙ c.crew-backs.result.0.ok.0 in
+    ArePosted made l (sends_on c.args.ends.now.to) (vec_items c.args.stations) x.0) c.as_slice-channels.ensures.value
+    x.2 in
+    let many : length seats ≡ length back = sym c.close.result.ok.0 ∙ c.close.ensures.len
+    ∙ c.crew-backs.result.0.ok.0 in
     let left_many : n ≡ length x.1 = sym up.len ∙ rigged.len in
     let chair = head_of seats (subst (λ m. 0 < m) (left_many ∙ sym x.5.len ∙ sym many) few) in
     finishes made c.args.ends.now c.args.results (vec_items c.args.stations) x.0 up there x.1 back r.2 rigged x.4 x.5

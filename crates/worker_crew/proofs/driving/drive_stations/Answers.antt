@@ -13,7 +13,8 @@ returns g c =
     subst (λ b.
     HasFinished (Made g.P.Provider.may g.P.Provider.tells g.P.Provider.calls g.P.Provider.faults)
     (g.G.Dealer.is_end b) g.B.Book.tells (g.G.Dealer.steps c.args.board.now) (g.G.Dealer.steps b)
-    (pages (g.B.Book.notes c.args.book.now) (g.B.Book.refusals c.args.book.now) (g.B.Book.first c.args.book.now))
-    (pages (g.B.Book.notes new) (g.B.Book.refusals new) (g.B.Book.first new)) (vec_items c.args.stations)
+    (pages g.B.Book.notes g.B.Book.refusals g.B.Book.first g.B.Book.faults g.B.Book.is_broken c.args.book.now)
+    (pages g.B.Book.notes g.B.Book.refusals g.B.Book.first g.B.Book.faults g.B.Book.is_broken
+    new) (vec_items c.args.stations)
     (vec_items r.1) r.2)
     board c.drive_booked-board_back.ensures.drove

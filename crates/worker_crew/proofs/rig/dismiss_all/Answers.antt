@@ -1,4 +1,4 @@
-use Rattle.std.proofs.Common.{rules, vec_items, vec_len, ◌<◌, length, ◌∙◌, sym, ap}
+use Rattle.std.proofs.Common.{rules, vec_items, ◌<◌, length, ◌∙◌, ap}
 use Rattle.crew_workers.specs.Posts.{number_of, before_of, promise_of}
 use Rattle.crew_workers.specs.declared.post.Place.{Place}
 use Rattle.crew_workers.specs.declared.post.Post.{Post}
@@ -28,6 +28,7 @@ loop-at-preserved g c =
           (ap (λ (x : Place g.row.P.Denot). number_of x) d.same),
       marks_set posts c.loop-at.at c.index_mut.result.now c.dismiss.new.post low
           (ap (λ (x : Place g.row.P.Denot). before_of x) (d.same ∙ ap (λ (x : Post g.row.P.Denot). x.place) value))
-          (ap (λ (x : Place g.row.P.Denot). promise_of x) (d.same ∙ ap (λ (x : Post g.row.P.Denot). x.place) value)) ∙ was.2,
+          (ap (λ (x : Place g.row.P.Denot). promise_of x) (d.same ∙ ap (λ (x : Post g.row.P.Denot). x.place) value))
+          ∙ was.2,
       λ k. sent_same posts c.loop-at.at c.index_mut.result.now c.dismiss.new.post low value d.sent k ∙ was.3 k,
     )

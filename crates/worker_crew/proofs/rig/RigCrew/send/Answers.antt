@@ -1,4 +1,4 @@
-use Rattle.std.proofs.Common.{rules, vec_items, sym, ap, ◌∙◌}
+use Rattle.std.proofs.Common.{rules, vec_items, ap, ◌∙◌}
 use Rattle.crossbeam_channel.specs.Claims.{view}
 use Rattle.crew_channels.specs.Orders.{jobs_in}
 use Rattle.crew_channels.proofs.OrderLemmas.{jobs_run}
@@ -21,7 +21,8 @@ pub returns-clause-ready : goal.returns-clause-ready
 returns-clause-ready g c =
     rigged_set (Made g.P.Serves.may g.P.Serves.tells g.P.Serves.calls g.P.Serves.faults) _
     (vec_items c.args.self.now.posts) _ c.requires.ready c.args.worker c.index.result.now c.index_mut.result.now
-    c.command.new.post (search rules) c.index_mut.ensures.value (search rules) c.command.ensures.posted c.command.ensures.same.0
+    c.command.new.post (search rules) c.index_mut.ensures.value
+    (search rules) c.command.ensures.posted c.command.ensures.same.0
 
 pub returns-clause-fixed : goal.returns-clause-fixed
 returns-clause-fixed g c =

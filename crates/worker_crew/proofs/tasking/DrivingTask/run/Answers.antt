@@ -1,4 +1,4 @@
-use Rattle.std.proofs.Common.{List, Option, sym, ap, ◌∙◌, refl, subst, length, vec_items}
+use Rattle.std.proofs.Common.{List, Option, ◌∙◌, refl, subst, vec_items}
 use Rattle.crossbeam_channel.specs.Claims.{view}
 use Rattle.driver_loop.specs.Ends.{Drove}
 use Rattle.driver_loop.specs.Moments.{moment, pages}
@@ -40,10 +40,10 @@ returns-clause-gives g c =
             (sent_at (vec_items c.args.posts)) opens)
             (moment (g.G.Dealer.steps c.run-ended.new.board) (view rig.results).got (sent_at (vec_items rig.posts))
             c.run-ended.new.opens)
-            (pages (g.B.Book.notes c.args.self.book.now) (g.B.Book.refusals c.args.self.book.now)
-            (g.B.Book.first c.args.self.book.now))
-            (pages (g.B.Book.notes c.run-ended.new.book) (g.B.Book.refusals c.run-ended.new.book)
-            (g.B.Book.first c.run-ended.new.book)) c.run-ended.result)
+            (pages g.B.Book.notes g.B.Book.refusals g.B.Book.first g.B.Book.faults g.B.Book.is_broken
+            c.args.self.book.now)
+            (pages g.B.Book.notes g.B.Book.refusals g.B.Book.first g.B.Book.faults g.B.Book.is_broken
+            c.run-ended.new.book) c.run-ended.result)
             c.as_mut_slice.ensures.value c.run-ended.ensures.drove,
       ),
     )

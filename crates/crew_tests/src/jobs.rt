@@ -1,7 +1,8 @@
-// Jobs and scripts for tests, and words for what calls returned.
+// Jobs for tests, and what their calls and answers are compared with.
 
 use arm_value::{Fields, Text, Value};
-use provider_trait::{Act, Answer, Job, JobParts, ProviderFault, Script, Step};
+use dealer_trait::DealerStep;
+use provider_trait::{Act, Answer, Call, Job, JobParts, ProviderFault, Script, Step};
 use std::alloc::Global;
 use std::test::Fail;
 
@@ -19,6 +20,15 @@ pub fn put_job(alloc: Global, task: u32) -> Result<Job, Fail> {
         body: Value::Object(Fields::new()),
     };
     Ok(Job::new(alloc, parts)?)
+}
+
+/// So many puts.
+pub fn put_jobs(alloc: Global, count: u32) -> Result<Vec<Job>, Fail> {
+    let mut jobs = Vec::new(alloc);
+    for task in 0..count {
+        jobs.push(put_job(alloc, task)?)?;
+    }
+    Ok(jobs)
 }
 
 /// A script that does what it is asked.
@@ -42,6 +52,54 @@ pub fn word(gave: &Result<Answer, ProviderFault>) -> &str {
         Err(ProviderFault::Fault) => "fault",
         Err(ProviderFault::OutOfMemory) => "memory",
     }
+}
+
+/// The steps of a dealer as text: `begin TASK WORKER`, `ANSWER TASK` or `back TASK`, each in a line.
+pub fn told(alloc: Global, steps: &[DealerStep]) -> Result<String, Fail> {
+    let mut text = String::new(alloc);
+    for step in steps {
+        let line = line(alloc, step)?;
+        text.push_str(line.as_str())?;
+    }
+    Ok(text)
+}
+
+fn line(alloc: Global, step: &DealerStep) -> Result<String, Fail> {
+    match step {
+        DealerStep::Begin(job) => {
+            let task = job.task();
+            let worker = job.worker();
+            Ok(format!(in alloc; "begin {task} {worker}\n")?)
+        }
+        DealerStep::Answer(task, Answer::Stored(_)) => Ok(format!(in alloc; "stored {task}\n")?),
+        DealerStep::Answer(task, Answer::Gone) => Ok(format!(in alloc; "gone {task}\n")?),
+        DealerStep::Answer(task, Answer::Refused(code)) => {
+            let code = code.as_str();
+            Ok(format!(in alloc; "{code} {task}\n")?)
+        }
+        DealerStep::Back(task) => Ok(format!(in alloc; "back {task}\n")?),
+    }
+}
+
+/// Whether these calls are the jobs that were begun with this worker's number, in order.
+pub fn are_begins(calls: &[Call], steps: &[DealerStep], worker: u32) -> bool {
+    let mut at = 0;
+    for step in steps {
+        if let DealerStep::Begin(job) = step {
+            if job.worker() == worker {
+                match calls.get(at) {
+                    Some(call) => {
+                        if call.job.task() != job.task() {
+                            return false;
+                        }
+                        at += 1;
+                    }
+                    None => return false,
+                }
+            }
+        }
+    }
+    at == calls.len()
 }
 
 /// Fails where something else is found than wanted.

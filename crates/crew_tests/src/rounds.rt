@@ -1,10 +1,10 @@
 // Rounds of calls.
 
 use crate::jobs::{compare, first, plain, put_job, word};
-use crate::waiting::Waiting;
+use crate::waiting::{SHORT, Waiting};
 use arm_value::Text;
 use driver_fakes::Pairing;
-use provider_trait::{Provider, Script, Step};
+use provider_trait::{Call, Provider, Script, Step};
 use seat_calls::{Seat, run_round};
 use std::alloc::Global;
 use std::test::Fail;
@@ -92,7 +92,7 @@ fn the_calls_of_a_round_overlap(rt: HostRuntime) -> Result<(), Fail> {
 
 // Two seats, of which the first waits for two calls of the other, each with a job.
 fn waiting_of(alloc: Global) -> Result<Vec<Seat<Waiting>>, Fail> {
-    let (one, other) = Waiting::pair(alloc)?;
+    let (one, other) = Waiting::pair(alloc, 2, SHORT)?;
     let mut seats = Vec::new(alloc);
     seats.push(busy(alloc, one, 0)?)?;
     seats.push(busy(alloc, other, 1)?)?;
@@ -105,4 +105,52 @@ fn a_round_waits_for_all_its_calls(rt: HostRuntime) -> Result<(), Fail> {
     run_round(&rt, rt.alloc(), seats.as_mut_slice());
     compare_got(seats.as_slice().get(0), "Alone")?;
     compare_got(seats.as_slice().get(1), "stored")
+}
+
+// Gives each of these seats a put, of tasks from this number on.
+fn busy_again(alloc: Global, seats: &mut [Seat<Script>], from: u32) -> Result<(), Fail> {
+    let mut task = from;
+    for seat in seats {
+        seat.job = Some(put_job(alloc, task)?);
+        task = task.saturating_add(1);
+    }
+    Ok(())
+}
+
+// Four seats without jobs.
+fn four(alloc: Global) -> Result<Vec<Seat<Script>>, Fail> {
+    let mut seats = Vec::new(alloc);
+    for _ in 0..4 {
+        seats.push(Seat::new(plain(alloc)))?;
+    }
+    Ok(seats)
+}
+
+// Whether the calls are of the tasks from this number on, each four after the last.
+fn are_every_fourth(calls: &[Call], from: u32) -> bool {
+    let mut wanted = from;
+    for call in calls {
+        if call.job.task() != wanted {
+            return false;
+        }
+        wanted = wanted.saturating_add(4);
+    }
+    true
+}
+
+#[test]
+fn each_seat_makes_the_calls_of_its_rounds(rt: HostRuntime) -> Result<(), Fail> {
+    let mut seats = four(rt.alloc())?;
+    for round in 0..25 {
+        busy_again(rt.alloc(), seats.as_mut_slice(), round * 4)?;
+        run_round(&rt, rt.alloc(), seats.as_mut_slice());
+    }
+    let mut first = 0;
+    for seat in seats.as_slice() {
+        let calls = seat.provider.calls();
+        assert_eq!(rt; calls.len(), 25);
+        assert!(rt; are_every_fourth(calls, first));
+        first = first.saturating_add(1);
+    }
+    Ok(())
 }

@@ -1,0 +1,12 @@
+pub mod TextLemmas
+pub mod ListingLemmas
+pub mod SpotLemmas
+pub mod KeyLemmas
+pub mod ScopeLemmas
+pub mod LaidLemmas
+pub mod FillLemmas
+pub mod FrameLemmas
+pub mod MarkLemmas
+pub mod FoundLemmas
+pub mod StepLemmas
+pub mod OpenLemmas

@@ -1,0 +1,16 @@
+use Rattle.plan_table.specs.declared.line.State.TheVariants as how
+use Rattle.plan_table.specs.Whole.{whole_of, scopes_of}
+use Rattle.plan_table.proofs.LaidLemmas.{opens_open}
+use Rattle.plan_table.proofs.MarkLemmas.{marked_laid, marked_rows}
+use Rattle.plan_table.proofs.table.Table.begin.Goals as goal
+
+pub returns-clause-laid : goal.returns-clause-laid
+returns-clause-laid c =
+    marked_laid (whole_of c.args.self.now) (scopes_of c.args.self.now) c.args.self.now.index
+    c.args.self.now.lines.items c.set_state.new.lines.items c.args.at how.Open c.requires.laid c.requires.listed
+    c.set_state.ensures (λ ks s. opens_open (scopes_of c.args.self.now) ks 0 s)
+
+pub returns-clause-marked : goal.returns-clause-marked
+returns-clause-marked c =
+    marked_rows (scopes_of c.args.self.now) c.args.self.now.lines.items c.set_state.new.lines.items c.args.at how.Open
+    c.requires.listed c.set_state.ensures

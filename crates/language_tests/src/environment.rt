@@ -4,7 +4,7 @@ use arm_env::cell::Cell;
 use arm_env::entries::Around;
 use arm_env::env::{Env, Looping, ModuleAt, Named, OutputAt, Seen, Slot, Spelled, StateAt};
 use arm_env::stop::Stop;
-use arm_eval::{Content, Got, eval, eval_tree, output_value};
+use arm_eval::{Content, Got, eval, eval_tree, looped_value, output_value};
 use arm_expr::{Expr, read};
 use arm_ids::{Key, Place};
 use arm_value::{OutOfMemory, Text, Value};
@@ -178,6 +178,8 @@ gone = absent
 soon = late"#;
 
 const STATES: &str = r#"A/b st1 = {"properties":{"p":{"q":[7]}},"tier":"hot"}
+A/b st10 = {"properties":{"p":{"q":[10]}}}
+A/b namer = {"properties":{"name":"st1"}}
 A/b soon = later
 A/b never = never"#;
 
@@ -256,7 +258,8 @@ pub fn expression(alloc: Global, text: &str) -> Result<Expr, Fail> {
     Ok(read(alloc, spelled.as_str())?)
 }
 
-fn check_expression(alloc: Global, env: &Env, text: &str, wanted: &str) -> Result<(), Fail> {
+/// Compares what `eval` says of an expression.
+pub fn check_expression(alloc: Global, env: &Env, text: &str, wanted: &str) -> Result<(), Fail> {
     let e = expression(alloc, text)?;
     let got = eval(alloc, env, &e)?;
     compare_got(alloc, text, &got, wanted)
@@ -378,12 +381,32 @@ fn check_output(alloc: Global, env: &Env, text: &str, wanted: &str) -> Result<()
     check_parts(alloc, env, &output, (text, wanted))
 }
 
+fn check_looped(alloc: Global, env: &Env, looped: &Value, line: (&str, &str)) -> Result<(), Fail> {
+    let Value::Text(name) = part(looped, "name")? else {
+        return Err(Fail::from("no name"));
+    };
+    let around = Around {
+        loops: env.loops.as_slice(),
+        place: env.place,
+    };
+    let count = part(looped, "count")?;
+    let found = looped_value(alloc, env, &around, name, count, part(looped, "input")?);
+    compare_found(alloc, line.0, &found, line.1)
+}
+
+fn check_loop(alloc: Global, env: &Env, text: &str, wanted: &str) -> Result<(), Fail> {
+    let looped = Value::from_json(alloc, text.as_bytes())?;
+    check_looped(alloc, env, &looped, (text, wanted))
+}
+
 /// What the texts of a table are.
 #[derive(Clone, Copy)]
 pub enum Texts {
     Expressions,
     Trees,
     Outputs,
+    /// Loops, each an object of a name, a count and an input.
+    Loops,
 }
 
 fn check_lines(alloc: Global, env: &Env, texts: Texts, table: &str) -> Result<(), Fail> {
@@ -393,6 +416,7 @@ fn check_lines(alloc: Global, env: &Env, texts: Texts, table: &str) -> Result<()
             Texts::Expressions => check_expression(alloc, env, text, wanted)?,
             Texts::Trees => check_tree(alloc, env, text, wanted)?,
             Texts::Outputs => check_output(alloc, env, text, wanted)?,
+            Texts::Loops => check_loop(alloc, env, text, wanted)?,
         }
     }
     Ok(())

@@ -1,24 +1,143 @@
-// References in templates of the second form, by symbolic names.
+// References in templates of both forms, and the titles of symbolic names.
 
-use crate::environment::{compare_found, empty, fill, place, push};
+use crate::environment::{add_loop, check_expression, compare_found, empty, fill, place, push};
 use arm_env::entries::Around;
-use arm_env::env::{Env, Symbol};
+use arm_env::env::{Env, Looping, Symbol};
 use arm_eval::symbols::Listed;
 use arm_eval::{Titles, titled_value};
 use arm_value::{Text, Value};
 use std::alloc::Global;
 use std::test::Fail;
 
-fn symbol(alloc: Global, name: &str, title: &str, looped: bool) -> Result<Symbol, Fail> {
+// A template of the first form, or of the second, where texts are symbolic names.
+#[derive(Clone, Copy)]
+enum Form {
+    One,
+    Two,
+}
+
+// After the arrow is the answer in the first form, and after a bar that in the second; one alone is
+// the answer in both.
+const REFERENCES: &str = r#"reference('st1').p.q -> [7] | none
+reference('ST1').p.q -> [7] | none
+reference('A/b/st1').p.q -> [7] | none
+reference('a/B/St1', '2024-01-01').p.q -> [7] | none
+reference('st1', 'x', 'Full').tier -> "hot" | none
+reference(resourceId('A/b', 'st1')).p.q -> [7]
+reference(resourceId('a/B', 'ST1')).p.q -> [7]
+reference('/subscriptions/s1/resourceGroups/g/providers/A/b/st1').p.q -> [7]
+reference(resourceId('A/b', 'st1'), 'x', 'Full').tier -> "hot"
+reference('one').p.q -> none | [7]
+reference('one', '2024-01-01').p.q -> none | [7]
+reference('one', 'x', 'full').tier -> none | "hot"
+reference('one', 'x', 'half') -> none
+reference('One').p.q -> none
+reference('one ') -> none
+reference('one[0]') -> none
+reference('one[1]') -> none
+reference('n[1]').p.q -> none | [7]
+reference('n[1]', 'x', 'Full').tier -> none | "hot"
+reference('n[10]').p.q -> none | [10]
+reference(concat('n[', add(4, 6), ']')).p.q -> none | [10]
+reference('n[0]') -> none
+reference('n[01]') -> none
+reference('n[010]') -> none
+reference('n[+1]') -> none
+reference('n[1') -> none
+reference('n[]') -> none
+reference('n') -> none
+reference('N[1]') -> none
+reference('soon') -> needs /subscriptions/s1/resourcegroups/g/providers/a/b/soon | none
+reference('waits') -> none | needs /subscriptions/s1/resourcegroups/g/providers/a/b/soon
+reference(resourceId('A/b', 'soon')) -> needs /subscriptions/s1/resourcegroups/g/providers/a/b/soon
+reference('late') -> none | late
+reference('gone') -> none
+reference('number') -> none
+reference('longer') -> none
+reference('through') -> none
+reference('by_id').p.q -> none | [7]
+reference('elsewhere') -> none
+reference('whole').outputs.x.value -> "hello" | none
+reference('deployed').outputs.x.value -> none | "hello"
+reference('deployed').outputs.y -> none | {"type":"int","value":5}
+reference(resourceId('Microsoft.Resources/deployments', 'whole')).outputs.x.value -> "hello"
+reference('twin') -> none
+reference('nobody') -> none
+reference('') -> none"#;
+
+// Inside the name of a resource a text is an id alone.
+const INSIDE: &str = r#"reference('one') -> none
+reference('n[1]') -> none
+reference('st1') -> none
+reference('whole') -> none
+reference(resourceId('A/b', 'st1')).p.q -> [7]"#;
+
+// A name, a type and a title in each line.
+const SYMBOLS: &str = "one A/b st1
+n A/b [concat('st', copyIndex())]
+waits A/b soon
+late A/b [parameters('soon')]
+gone A/b [parameters('gone')]
+number A/b [length(parameters('list'))]
+longer A/b st1/st1
+through A/b [reference('one').p.name]
+by_id A/b [reference(resourceId('A/b', 'namer')).name]
+elsewhere A/b [concat('st', sub(copyIndex('vms'), 4))]
+deployed Microsoft.Resources/deployments whole";
+
+fn symbol(alloc: Global, line: &str) -> Result<Symbol, Fail> {
+    let (name, rest) = line.split_once(' ').unwrap_or((line, ""));
+    let (kind, title) = rest.split_once(' ').unwrap_or((rest, ""));
     Ok(Symbol {
         name: Text::of(alloc, name)?,
-        kind: Text::of(alloc, "A/b")?,
+        kind: Text::of(alloc, kind)?,
         title: Text::of(alloc, title)?,
-        looped,
+        looped: name == "n",
     })
 }
 
-fn check_line(
+// Adds the symbols of the lines, of which `n` has a loop.
+fn add_symbols(alloc: Global, list: &mut Vec<Symbol>, table: &str) -> Result<(), Fail> {
+    for line in table.lines() {
+        push(list, symbol(alloc, line)?)?;
+    }
+    Ok(())
+}
+
+// The answer in the form.
+fn answer(wanted: &str, form: Form) -> &str {
+    let (one, two) = wanted.split_once(" | ").unwrap_or((wanted, wanted));
+    match form {
+        Form::One => one,
+        Form::Two => two,
+    }
+}
+
+fn check_lines(alloc: Global, env: &Env, form: Form, table: &str) -> Result<(), Fail> {
+    for line in table.lines() {
+        let (text, wanted) = line.split_once(" -> ").unwrap_or((line, ""));
+        check_expression(alloc, env, text, answer(wanted, form))?;
+    }
+    Ok(())
+}
+
+fn check_forms(alloc: Global, env: &mut Env) -> Result<(), Fail> {
+    fill(alloc, env)?;
+    check_lines(alloc, env, Form::One, REFERENCES)?;
+    add_symbols(alloc, &mut env.symbols, SYMBOLS)?;
+    check_lines(alloc, env, Form::Two, REFERENCES)?;
+    env.inside_name = true;
+    check_lines(alloc, env, Form::Two, INSIDE)
+}
+
+#[test]
+fn references_mean_what_their_form_says(rt: HostRuntime) -> Result<(), Fail> {
+    let place = place(rt.alloc(), "g")?;
+    let mut env = empty(rt.alloc(), &place);
+    check_forms(rt.alloc(), &mut env)
+}
+
+fn check_title(
     alloc: Global,
     env: &Env,
     titles: &Titles,
@@ -34,48 +153,25 @@ fn check_line(
     compare_found(alloc, text, &found, wanted)
 }
 
-fn check_lines(alloc: Global, env: &Env, titles: &Titles, table: &str) -> Result<(), Fail> {
+fn check_titles(alloc: Global, env: &Env, titles: &Titles, table: &str) -> Result<(), Fail> {
     for line in table.lines() {
         let (text, wanted) = line.split_once(" -> ").unwrap_or((line, ""));
-        check_line(alloc, env, titles, text, wanted)?;
+        check_title(alloc, env, titles, text, wanted)?;
     }
     Ok(())
 }
 
-const REFERENCES: &str = r#"reference('one').p.q -> [7]
-reference('one', 'x', 'Full').tier -> "hot"
-reference('One').p.q -> none
-reference('one[0]').p.q -> none
-reference('many[1]').p.q -> [7]
-reference('many[01]').p.q -> none
-reference('many').p.q -> none
-reference('many[0]') -> none
-reference('waits') -> needs /subscriptions/s1/resourcegroups/g/providers/a/b/soon
-reference('late') -> late
-reference('gone') -> none
-reference('inner') -> none
-reference('st1') -> none
-reference('A/b/st1') -> none
-reference(resourceId('A/b', 'st1')).p.q -> [7]
-reference(resourceId('Microsoft.Resources/deployments', 'whole')).outputs.x.value -> "hello""#;
+// A name, a type and a title in each line. The loop of `n` is named `each`, and a loop named
+// `group`, of index 10, is around the template; `vms` is a loop of the expressions.
+const LOOPED: &str = "n A/b [concat('st', copyIndex('EACH'))]
+around A/b [concat('st', copyIndex('group'))]
+elsewhere A/b [concat('st', sub(copyIndex('vms'), 4))]";
 
-// A name and a title in each line.
-const SYMBOLS: &str = "one st1
-many [concat('st', copyIndex('each'))]
-waits soon
-late [parameters('soon')]
-gone [parameters('gone')]
-inner [reference('one').p.name]";
-
-// The symbols of the lines, of which `many` has a loop.
-fn symbols(alloc: Global) -> Result<Vec<Symbol>, Fail> {
-    let mut list = Vec::new(alloc);
-    for line in SYMBOLS.lines() {
-        let (name, title) = line.split_once(' ').unwrap_or((line, ""));
-        push(&mut list, symbol(alloc, name, title, name == "many")?)?;
-    }
-    Ok(list)
-}
+const TITLES: &str = r#"reference('n[1]').p.q -> [7]
+reference('n[10]').p.q -> [10]
+reference('around').p.q -> [10]
+reference('elsewhere') -> none
+copyIndex('vms') -> 5"#;
 
 // The symbols, with the name of the loop of those that have one.
 fn listed<'a>(
@@ -91,24 +187,39 @@ fn listed<'a>(
     Ok(list)
 }
 
-fn check_all(alloc: Global, env: &Env) -> Result<(), Fail> {
-    let symbols = symbols(alloc)?;
+// Checks the titles of symbols, whose loop is named `each`, in the loops around the template.
+fn check_around(
+    alloc: Global,
+    env: &Env,
+    symbols: &[Symbol],
+    loops: &[Looping],
+) -> Result<(), Fail> {
     let each = Text::of(alloc, "each")?;
-    let listed = listed(alloc, symbols.as_slice(), &each)?;
+    let listed = listed(alloc, symbols, &each)?;
     let titles = Titles {
         symbols: listed.as_slice(),
-        loops: &[],
+        loops,
     };
-    check_lines(alloc, env, &titles, REFERENCES)
+    check_titles(alloc, env, &titles, TITLES)
+}
+
+fn check_listed(alloc: Global, env: &Env) -> Result<(), Fail> {
+    let mut symbols = Vec::new(alloc);
+    add_symbols(alloc, &mut symbols, LOOPED)?;
+    let mut loops = Vec::new(alloc);
+    add_loop(alloc, &mut loops, "group", 10, true)?;
+    check_around(alloc, env, &symbols, &loops)
 }
 
 fn fill_and_check(alloc: Global, env: &mut Env) -> Result<(), Fail> {
     fill(alloc, env)?;
-    check_all(alloc, env)
+    check_listed(alloc, env)
 }
 
 #[test]
-fn symbolic_names_stand_for_keys(rt: HostRuntime) -> Result<(), Fail> {
+fn a_title_is_read_in_its_own_loop_and_those_around_the_template(
+    rt: HostRuntime,
+) -> Result<(), Fail> {
     let place = place(rt.alloc(), "g")?;
     let mut env = empty(rt.alloc(), &place);
     fill_and_check(rt.alloc(), &mut env)

@@ -1,9 +1,9 @@
 //! Tests of template expressions: their spelling, what they look at, and their values.
 //!
 //! Most are tables of texts: a line has an expression, and after an arrow the wanted answer. They
-//! cover `arm_expr`, `arm_env`, `arm_eval` and the crates between these, which have no tests of their
-//! own, so that each is proved once. There is nothing here but tests, so there is no edit that must
-//! be refused.
+//! cover `arm_expr`, `arm_env`, `arm_eval`, `missing_values` and the crates between these, which have
+//! no tests of their own, so that each is proved once. There is nothing here but tests, so there is
+//! no edit that must be refused.
 #![tactic(auto)]
 
 #[cfg(test)]
@@ -16,6 +16,8 @@ mod expressions;
 mod forms;
 #[cfg(test)]
 mod limits;
+#[cfg(test)]
+mod missing;
 #[cfg(test)]
 mod names;
 #[cfg(test)]

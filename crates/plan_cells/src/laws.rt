@@ -27,8 +27,8 @@ pub fn known_is_so()
         → (c : Cell) (o : Option Json) → IsKnown m n c o → w c ≡ o }
 {}
 
-/// There is at most one table of all that is known at a moment, and each world in which what is known outright is so has what
-/// is in it.
+/// There is at most one table of all that is known at a moment, and each world in which what is known outright is so
+/// has what is in it.
 pub fn one_table()
     ensures alone { (m : Meaning) (n : Moment) (q r : Table) → IsTable m n q → IsTable m n r → (c : Cell) → q c ≡ r c }
     ensures worlds { (m : Meaning) (n : Moment) (q : Table) → IsTable m n q → (w : World) → IsWorld m w → IsTrueIn w n

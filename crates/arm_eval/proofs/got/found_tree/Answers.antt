@@ -13,19 +13,25 @@ use Rattle.arm_eval.proofs.got.found_tree.Goals as goal
 pub returns-then-has_symbols : goal.returns-then-has_symbols
 returns-then-has_symbols c =
     let p = known_in c.args.env.now in
+    let read = tree_value (json c.args.tree.now) in
     let h = titled (titles_of c.args.env.now) c.args.env.now.place.now in
     subst (λ (b : Bool). Gives json c.tree_by_symbols.result
-    (told p (if b then through h (tree_value (json c.args.tree.now) (around c.args.env.now)) else (tree_value (json c.args.tree.now) (around c.args.env.now)))))
+    (told p (if b then through h (read (around c.args.env.now)) else (read (around c.args.env.now)))))
     (sym c.if-has_symbols.true ∙ c.has_symbols.ensures)
-    (subst (λ (ls : List Looping). Gives json c.tree_by_symbols.result (told p (through h (tree_value (json c.args.tree.now) (record (around c.args.env.now) { loops = ls })))))
+    (subst
+    (λ (ls : List Looping). Gives json c.tree_by_symbols.result
+    (told p (through h (read (record (around c.args.env.now) { loops = ls })))))
     c.as_slice.ensures.value c.tree_by_symbols.ensures)
 
 pub returns-else-has_symbols : goal.returns-else-has_symbols
 returns-else-has_symbols c =
     let p = known_in c.args.env.now in
+    let read = tree_value (json c.args.tree.now) in
     let h = titled (titles_of c.args.env.now) c.args.env.now.place.now in
     subst (λ (b : Bool). Gives json c.tree_value.result
-    (told p (if b then through h (tree_value (json c.args.tree.now) (around c.args.env.now)) else (tree_value (json c.args.tree.now) (around c.args.env.now)))))
+    (told p (if b then through h (read (around c.args.env.now)) else (read (around c.args.env.now)))))
     (sym c.if-has_symbols.false ∙ c.has_symbols.ensures)
-    (subst (λ (ls : List Looping). Gives json c.tree_value.result (told p (tree_value (json c.args.tree.now) (record (around c.args.env.now) { loops = ls }))))
+    (subst
+    (λ (ls : List Looping). Gives json c.tree_value.result
+    (told p (read (record (around c.args.env.now) { loops = ls }))))
     c.as_slice.ensures.value c.tree_value.ensures)

@@ -14,19 +14,25 @@ use Rattle.arm_eval.proofs.got.found_value.Goals as goal
 pub returns-then-has_symbols : goal.returns-then-has_symbols
 returns-then-has_symbols c =
     let p = known_in c.args.env.now in
+    let e = tree_of c.args.e.now in
     let h = titled (titles_of c.args.env.now) c.args.env.now.place.now in
     subst (λ (b : Bool). Gives json c.value_by_symbols.result
-    (told p (if b then through h (value (around c.args.env.now) (tree_of c.args.e.now)) else (value (around c.args.env.now) (tree_of c.args.e.now)))))
+    (told p (if b then through h (value (around c.args.env.now) e) else (value (around c.args.env.now) e))))
     (sym c.if-has_symbols.true ∙ c.has_symbols.ensures)
-    (subst (λ (ls : List Looping). Gives json c.value_by_symbols.result (told p (through h (value (record (around c.args.env.now) { loops = ls }) (tree_of c.args.e.now)))))
+    (subst
+    (λ (ls : List Looping). Gives json c.value_by_symbols.result
+    (told p (through h (value (record (around c.args.env.now) { loops = ls }) e))))
     c.as_slice.ensures.value c.value_by_symbols.ensures)
 
 pub returns-else-has_symbols : goal.returns-else-has_symbols
 returns-else-has_symbols c =
     let p = known_in c.args.env.now in
+    let e = tree_of c.args.e.now in
     let h = titled (titles_of c.args.env.now) c.args.env.now.place.now in
     subst (λ (b : Bool). Gives json c.value_of.result
-    (told p (if b then through h (value (around c.args.env.now) (tree_of c.args.e.now)) else (value (around c.args.env.now) (tree_of c.args.e.now)))))
+    (told p (if b then through h (value (around c.args.env.now) e) else (value (around c.args.env.now) e))))
     (sym c.if-has_symbols.false ∙ c.has_symbols.ensures)
-    (subst (λ (ls : List Looping). Gives json c.value_of.result (told p (value (record (around c.args.env.now) { loops = ls }) (tree_of c.args.e.now))))
+    (subst
+    (λ (ls : List Looping). Gives json c.value_of.result
+    (told p (value (record (around c.args.env.now) { loops = ls }) e)))
     c.as_slice.ensures.value c.value_of.ensures)

@@ -4,4 +4,6 @@ use Rattle.arm_eval.proofs.titles.AloneEntries.is_deployment.Goals as goal
 
 pub returns : goal.returns
 returns g c =
-    rw (alone_deployment (g.K.Entries.known c.args.self.now.entries.now) truth_in c.args.key.now) c.is_deployment.ensures
+    rw
+    (alone_deployment (g.K.Entries.known c.args.self.now.entries.now) truth_in c.args.key.now)
+    c.is_deployment.ensures

@@ -5,4 +5,6 @@ use Rattle.arm_eval.proofs.titles.AloneEntries.parameter.Goals as goal
 
 pub returns : goal.returns
 returns g c =
-    rw (alone_parameter (g.K.Entries.known c.args.self.now.entries.now) json_in (fold c.args.name.now)) c.parameter.ensures
+    rw
+    (alone_parameter (g.K.Entries.known c.args.self.now.entries.now) json_in (fold c.args.name.now))
+    c.parameter.ensures

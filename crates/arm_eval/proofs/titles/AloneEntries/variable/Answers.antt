@@ -5,4 +5,6 @@ use Rattle.arm_eval.proofs.titles.AloneEntries.variable.Goals as goal
 
 pub returns : goal.returns
 returns g c =
-    rw (alone_variable (g.K.Entries.known c.args.self.now.entries.now) json_in (fold c.args.name.now)) c.variable.ensures
+    rw
+    (alone_variable (g.K.Entries.known c.args.self.now.entries.now) json_in (fold c.args.name.now))
+    c.variable.ensures

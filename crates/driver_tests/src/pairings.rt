@@ -1,8 +1,8 @@
 // Pairs of providers, on one thread and on two.
 ghost use Rattle.std.specs.Prelude.{◌≡◌};
-ghost use Rattle.provider_trait.specs.declared.act.Act.TheVariants.{Put};
+ghost use Rattle.provider_trait.specs.declared.act.Act.TheVariants.{Delete, Put};
 
-use crate::jobs::{compare, put_job};
+use crate::jobs::{compare, delete_job, put_job};
 use driver_fakes::Pairing;
 use provider_trait::{Answer, Job, Provider, ProviderFault};
 use std::alloc::Global;
@@ -33,6 +33,22 @@ fn the_first_call_on_one_thread_is_alone(rt: HostRuntime) -> Result<(), Fail> {
     check_put(rt.alloc(), &mut one, &job, "Alone")?;
     check_put(rt.alloc(), &mut other, &job, "stored")?;
     check_put(rt.alloc(), &mut one, &job, "stored")
+}
+
+fn check_delete(alloc: Global, provider: &mut Pairing, job: &Job, wanted: &str) -> Result<(), Fail>
+    requires { job.now.act ≡ Delete }
+{
+    let gave = provider.delete(alloc, job);
+    compare("delete", word(&gave), wanted)
+}
+
+#[test]
+fn the_first_deletion_on_one_thread_is_alone(rt: HostRuntime) -> Result<(), Fail> {
+    let job = delete_job(rt.alloc())?;
+    let (mut one, mut other) = Pairing::pair(rt.alloc())?;
+    check_delete(rt.alloc(), &mut one, &job, "Alone")?;
+    check_delete(rt.alloc(), &mut other, &job, "gone")?;
+    check_delete(rt.alloc(), &mut one, &job, "gone")
 }
 
 // Puts by both providers at once.

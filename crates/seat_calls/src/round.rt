@@ -29,6 +29,14 @@ fn run_seat<P: Provider>(alloc: Global, seat: &mut Seat<P>)
     ensures { HasRun P.may P.tells P.calls P.faults seat.old seat.new }
 {
     if let Some(job) = &seat.job {
-        seat.got = Some(call_provider(&mut seat.provider, alloc, job));
+        let got = call_provider(&mut seat.provider, alloc, job);
+        replace(&mut seat.got, Some(got));
     }
+}
+
+// Puts a value in place of another, which is dropped.
+fn replace<T: Drop>(place: &mut T, value: T)
+    ensures { place.new ≡ value }
+{
+    *place = value;
 }

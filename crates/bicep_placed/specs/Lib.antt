@@ -1,0 +1,4 @@
+pub mod Defaults
+pub mod Links
+pub mod Kinds
+pub mod Files

@@ -1,0 +1,4 @@
+pub mod FirstLemmas
+pub mod NamedLemmas
+pub mod ResolveLemmas
+pub mod UnknownLemmas

@@ -1,0 +1,4 @@
+pub mod Programs
+pub mod Faults
+pub mod Unknown
+pub mod View

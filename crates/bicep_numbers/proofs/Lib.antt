@@ -1,0 +1,4 @@
+pub mod FoundLemmas
+pub mod SortLemmas
+pub mod WithinLemmas
+pub mod FileLemmas

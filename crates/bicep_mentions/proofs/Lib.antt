@@ -1,0 +1,4 @@
+pub mod AgreeLemmas
+pub mod RankLemmas
+pub mod ThroughLemmas
+pub mod OrderLemmas

@@ -1,0 +1,6 @@
+pub mod Files
+pub mod Rows
+pub mod Around
+pub mod Meaning
+pub mod Declared
+pub mod Instances

@@ -1,0 +1,4 @@
+pub mod Typed
+pub mod Operators
+pub mod Names
+pub mod Typing

@@ -1,0 +1,12 @@
+use Rattle.std.proofs.Common.{◌≡◌, map, drop, option_map}
+use Rattle.bicep_tree.specs.View.{file_of}
+use Rattle.bicep_resolved.specs.View.{property_of, properties}
+use Rattle.bicep_typing.specs.Names.{types_in}
+use Rattle.bicep_type_faults.specs.Files as spec
+use Rattle.bicep_type_faults.proofs.fields.module_fields_fit.Given as goal
+
+-- the rest decides
+abbrev pub invariant-loop-field : goal.invariant-loop-field
+invariant-loop-field l =
+    spec.module_fields_fit (types_in l.symbols l.outputs) (option_map (λ f. file_of f.now) l.file) (properties (map property_of l.fields))
+    ≡ spec.module_fields_fit (types_in l.symbols l.outputs) (option_map (λ f. file_of f.now) l.file) (properties (map property_of (drop l.field-index l.fields)))

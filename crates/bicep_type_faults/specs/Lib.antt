@@ -1,0 +1,4 @@
+pub mod Places
+pub mod Parameters
+pub mod Files
+pub mod Entries

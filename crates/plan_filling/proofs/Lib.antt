@@ -3,3 +3,4 @@ pub mod StepLemmas
 pub mod ChangeLemmas
 pub mod WayLemmas
 pub mod FinalLemmas
+pub mod LimitLemmas

@@ -1,5 +1,5 @@
 // A sheet: the cells that are listed so far, and what is known of each.
-ghost use Rattle.std.specs.Prelude.{◌≡◌, ℕ, ◌<◌, ◌≤◌, ◌^◌, List, map, ◌++◌, length, IfOk, is_ok, if◌then◌else◌};
+ghost use Rattle.std.specs.Prelude.{◌≡◌, ℕ, ◌<◌, ◌≤◌, ◌^◌, List, map, ◌++◌, length, IfOk, IfErr, is_ok, if◌then◌else◌};
 ghost use Rattle.arm_value.specs.View.{json};
 ghost use Rattle.plan_cells.specs.Meaning.{Deployment};
 ghost use Rattle.plan_cells.specs.Children.{children};
@@ -70,6 +70,7 @@ pub trait Sheet {
     ghost use Rattle.plan_filling.specs.Rows.{Row, row_at, with_status, fresh, stage_of, IsUnfinished, IsWaiting};
     ghost use Rattle.plan_filling.specs.Rows.{Open, Empty, Late, with_value};
     ghost use Rattle.plan_filling.specs.Sound.{Sound, Tells};
+    ghost use Rattle.plan_filling.specs.Limits.{IsHalt};
 
     /// The cells, and how far each is.
     ghost rows: { Self → List Row };
@@ -134,7 +135,7 @@ pub trait Sheet {
         ensures marked { rows self.new ≡ (if is_ok result
             then with_status (rows self.old) at (row_at (rows self.old) other).status else rows self.old) };
 
-    /// Gives the cell its value, and lists the cells that this opens.
+    /// Gives the cell its value, and lists the cells that this opens, unless instances would be too many.
     fn fill(&mut self, alloc: Global, at: usize, value: Value) -> Result<(), Halt>
         requires listed { at < length (rows self.old) }
         requires sound { Sound (whole self.old) (rows self.old) }
@@ -144,5 +145,6 @@ pub trait Sheet {
         ensures laid { IfOk result (λ _. laid self.new) }
         ensures filled { IfOk result (λ _. rows self.new ≡ with_status (rows self.old) at (with_value (json value))
             ++ map fresh (children (whole self.old) (row_at (rows self.old) at).cell (json value))) }
-        ensures few { IfOk result (λ _. length (rows self.new) ≤ 2 ^ 32) };
+        ensures few { IfOk result (λ _. length (rows self.new) ≤ 2 ^ 32) }
+        ensures halted { IfErr result (IsHalt (rows self.old) (row_at (rows self.old) at).cell (json value)) };
 }

@@ -1,10 +1,12 @@
 // Fills a sheet. A visit keeps a stack of cells: the one on top is told, or what it waits for goes on top of it.
-ghost use Rattle.std.specs.Prelude.{◌≡◌, ◌<◌, ◌++◌, ◌∷◌, [], length, IfOk, MatchOption};
+ghost use Rattle.std.specs.Prelude.{◌≡◌, ◌<◌, ◌++◌, ◌∷◌, [], length, IfOk, IfErr, MatchOption};
 ghost use Rattle.plan_filling.specs.Rows.{row_at, Open, IsUnfinished};
 ghost use Rattle.plan_filling.specs.Sound.{Sound, Tells};
+ghost use Rattle.plan_filling.specs.Limits.{IsHalted};
 ghost use Rattle.plan_filling.specs.Steps.{WaitsFor, Turned, NoneOpen, OneOpen, Visited, IsCircle, Filled};
 
 use crate::sheet::{Answer, Halt, Sheet, Stage};
+use arm_value::OutOfMemory;
 use std::alloc::Global;
 
 /// What a turn at a cell comes to.
@@ -45,6 +47,7 @@ fn advance_to<S: Sheet>(
     ensures same { S.whole sheet.new ≡ S.whole sheet.old }
     ensures laid { IfOk result (λ _. S.laid sheet.new) }
     ensures turned { IfOk result (Turned (S.whole sheet.old) (S.rows sheet.old) (S.rows sheet.new) top) }
+    ensures halted { IfErr result (IsHalted (S.whole sheet.old)) }
 {
     match sheet.stage(other) {
         Stage::Late => match sheet.wait_as(alloc, top, other) {
@@ -75,6 +78,7 @@ fn advance_by<S: Sheet>(
     ensures same { S.whole sheet.new ≡ S.whole sheet.old }
     ensures laid { IfOk result (λ _. S.laid sheet.new) }
     ensures turned { IfOk result (Turned (S.whole sheet.old) (S.rows sheet.old) (S.rows sheet.new) top) }
+    ensures halted { IfErr result (IsHalted (S.whole sheet.old)) }
 {
     match answer {
         Answer::Value(value) => match sheet.fill(alloc, top, value) {
@@ -102,6 +106,7 @@ fn advance<S: Sheet>(alloc: Global, sheet: &mut S, top: usize) -> Result<Turn, H
     ensures same { S.whole sheet.new ≡ S.whole sheet.old }
     ensures laid { IfOk result (λ _. S.laid sheet.new) }
     ensures turned { IfOk result (Turned (S.whole sheet.old) (S.rows sheet.old) (S.rows sheet.new) top) }
+    ensures halted { IfErr result (IsHalted (S.whole sheet.old)) }
 {
     match sheet.tell(alloc, top) {
         Ok(answer) => advance_by(alloc, sheet, top, answer),
@@ -110,7 +115,7 @@ fn advance<S: Sheet>(alloc: Global, sheet: &mut S, top: usize) -> Result<Turn, H
 }
 
 // The stack with these two on top.
-fn with_two(mut stack: Vec<usize>, top: usize, next: usize) -> Result<Vec<usize>, Halt>
+fn with_two(mut stack: Vec<usize>, top: usize, next: usize) -> Result<Vec<usize>, OutOfMemory>
     ensures { IfOk result (λ s. s.items ≡ (stack.items ++ top ∷ []) ++ next ∷ []) }
 {
     stack.push(top)?;
@@ -129,6 +134,7 @@ fn follow<S: Sheet>(alloc: Global, sheet: &mut S, start: usize) -> Result<Option
     ensures visited { IfOk result (λ c. MatchOption c
         (Visited (S.whole sheet.old) (S.rows sheet.old) (S.rows sheet.new) start)
         (λ c. IsCircle (S.whole sheet.old) (S.rows sheet.new) c.places.items c.last c.back)) }
+    ensures halted { IfErr result (IsHalted (S.whole sheet.old)) }
 {
     let mut stack = Vec::new(alloc);
     stack.push(start)?;
@@ -159,6 +165,7 @@ fn visit<S: Sheet>(alloc: Global, sheet: &mut S, start: usize) -> Result<Option<
     ensures visited { IfOk result (λ c. MatchOption c
         (Visited (S.whole sheet.old) (S.rows sheet.old) (S.rows sheet.new) start)
         (λ c. IsCircle (S.whole sheet.old) (S.rows sheet.new) c.places.items c.last c.back)) }
+    ensures halted { IfErr result (IsHalted (S.whole sheet.old)) }
 {
     match sheet.stage(start) {
         Stage::New => {
@@ -180,6 +187,7 @@ pub fn fill_all<S: Sheet>(alloc: Global, sheet: &mut S) -> Result<Option<Circle>
     ensures laid { IfOk result (λ _. S.laid sheet.new) }
     ensures filled { IfOk result (λ c. MatchOption c (Filled (S.whole sheet.old) (S.rows sheet.new))
         (λ c. IsCircle (S.whole sheet.old) (S.rows sheet.new) c.places.items c.last c.back)) }
+    ensures halted { IfErr result (IsHalted (S.whole sheet.old)) }
 {
     let mut at = 0;
     'cells: while at < sheet.len() {

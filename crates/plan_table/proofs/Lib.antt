@@ -10,3 +10,5 @@ pub mod MarkLemmas
 pub mod FoundLemmas
 pub mod StepLemmas
 pub mod OpenLemmas
+pub mod CountLemmas
+pub mod HaltLemmas

@@ -6,3 +6,4 @@ pub mod Spots
 pub mod Laid
 pub mod Whole
 pub mod Found
+pub mod Counted

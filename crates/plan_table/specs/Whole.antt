@@ -1,12 +1,9 @@
 -- What a table has.
-use Rattle.std.specs.Prelude.{◌≡◌, ℕ, ◌+◌, ◌<◌, List, map}
+use Rattle.std.specs.Prelude.{List, map}
 use Rattle.template_parameters.specs.Binding.{bound_view}
 use Rattle.template_tree.specs.View.{template_tree}
 use Rattle.plan_cells.specs.Meaning.{Deployment}
 use Rattle.plan_filling.specs.Rows.{Row}
-use Rattle.plan_filling.specs.declared.sheet.Halt.{Halt}
-use Rattle.plan_filling.specs.declared.sheet.Halt.TheVariants as halt
-use Rattle.template_parts.specs.declared.limit.Which.TheVariants as which
 use Rattle.plan_table.specs.declared.table.Table.{Table}
 use Rattle.plan_table.specs.Opened.{Opened, opened_of}
 use Rattle.plan_table.specs.Lines.{rows_of}
@@ -28,9 +25,3 @@ rows_in t = rows_of (scopes_of t) t.lines.items
 
 abbrev pub IsLaid : Table → Type 0
 IsLaid t = Laid (whole_of t) (scopes_of t) t.index t.lines.items
-
--- why instances are too many: over all scopes, where so many come to these, or of one template
-abbrev pub Exceeds : ℕ → ℕ → Halt → Type 0
-Exceeds all more (halt.Limit which.Instances n) = (2000 < all + more) × (n ≡ 2001)
-Exceeds all more (halt.Limit which.Resources n) = 800 < n
-Exceeds all more _ = ⊥

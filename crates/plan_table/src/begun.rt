@@ -9,6 +9,7 @@ ghost use Rattle.plan_table.specs.Opened.{opened_of};
 ghost use Rattle.plan_table.specs.Lines.{IsPlaced, new_line};
 ghost use Rattle.plan_table.specs.Keys.{Indexes};
 ghost use Rattle.plan_table.specs.Whole.{whole_of, scopes_of, rows_in, IsLaid};
+ghost use Rattle.plan_table.specs.Counted.{IsCounted};
 
 use crate::frame::{Frame, root_frame};
 use crate::line::Spot;
@@ -36,6 +37,8 @@ fn table_with<'a>(
     ensures frame { IfOk result (λ t. scopes_of t ≡ opened_of frame.entry ∷ []) }
     ensures lines { IfOk result (λ t. t.lines.items ≡ []) }
     ensures index { IfOk result (λ t. t.index.entries ≡ []) }
+    ensures counts { IfOk result (λ t. t.counts.items ≡ 0 ∷ []) }
+    ensures instances { IfOk result (λ t. t.instances ≡ 0) }
 {
     let mut frames = Vec::new(alloc);
     let mut counts = Vec::new(alloc);
@@ -66,6 +69,8 @@ fn list_root<'a>(alloc: Global, table: Table<'a>, spots: &[Spot]) -> Result<Tabl
     ensures bound { IfOk result (λ t. t.bound.now ≡ table.entry.bound.now) }
     ensures place { IfOk result (λ t. t.place.now ≡ table.entry.place.now) }
     ensures frames { IfOk result (λ t. scopes_of t ≡ scopes_of table.entry) }
+    ensures counts { IfOk result (λ t. t.counts.items ≡ table.entry.counts.items) }
+    ensures instances { IfOk result (λ t. t.instances ≡ table.entry.instances) }
     ensures lines { IfOk result (λ t. t.lines.items ≡ map new_line spots.now) }
     ensures indexed { IfOk result (λ t. Indexes (scopes_of table.entry) t.index t.lines.items) }
 {
@@ -96,6 +101,7 @@ pub fn begin_table<'a>(
       place = place.now;
     }) }
     ensures laid { IfOk result IsLaid }
+    ensures counted { IfOk result IsCounted }
     ensures rows { IfOk result (λ t. rows_in t ≡ map fresh (roots (whole_of t))) }
     ensures few { IfOk result (λ t. length (rows_in t) ≤ 2 ^ 32) }
 {

@@ -7,7 +7,9 @@ ghost use Rattle.arm_value.specs.View.{json};
 ghost use Rattle.deploy_cells.specs.Cells.{copies, is_true};
 ghost use Rattle.plan_cells.specs.Resources as cells;
 ghost use Rattle.plan_cells.specs.Children.{children};
-ghost use Rattle.plan_filling.specs.Rows.{row_at, with_status, with_value, fresh};
+ghost use Rattle.plan_filling.specs.Rows.{row_at, with_status, with_value, fresh, IsUnfinished, AreDistinct};
+ghost use Rattle.plan_filling.specs.Limits.{IsHalt};
+ghost use Rattle.plan_filling.specs.declared.sheet.Halt.TheVariants as halt;
 ghost use Rattle.plan_table.specs.declared.line.State.TheVariants as how;
 ghost use Rattle.plan_table.specs.declared.line.Spot.TheVariants as spot;
 ghost use Rattle.plan_table.specs.Opened.{opened_of, opened_at, inside_of, nested_view};
@@ -15,8 +17,10 @@ ghost use Rattle.plan_table.specs.Lines.{IsPlaced, line_at, new_line, with_state
 ghost use Rattle.plan_table.specs.Keys.{Indexes};
 ghost use Rattle.plan_table.specs.Spots.{scope_spots};
 ghost use Rattle.plan_table.specs.Laid.{IsAlone};
-ghost use Rattle.plan_table.specs.Whole.{whole_of, scopes_of, rows_in, IsLaid, Exceeds};
+ghost use Rattle.plan_table.specs.Whole.{whole_of, scopes_of, rows_in, IsLaid};
+ghost use Rattle.plan_table.specs.Counted.{IsCounted, AreNumbers, numbers_of};
 
+use crate::counting::{add_instances, counted};
 use crate::frame::{Frame, Instance, frame_inside};
 use crate::line::{Line, Spot, State};
 use crate::listing::{Index, list_spots};
@@ -29,41 +33,15 @@ use std::alloc::Global;
 use template_parts::{Which, run_out};
 use template_tree::{Body, Deployment};
 
-/// The most instances over all scopes.
-pub const MAX_INSTANCES: usize = 2000;
-
-/// The most instances of one template, and the most of one resource.
-pub const MAX_INSTANCES_OF_TEMPLATE: usize = 800;
-
 // The most lines.
 const MAX_LINES: usize = 4294967296;
 
 // Halts; the part is dropped.
 fn halted<T: Drop>(halt: Halt, _part: T) -> Result<(), Halt>
-    ensures { IfOk result (λ _. ⊥) }
+    ensures never { IfOk result (λ _. ⊥) }
+    ensures halt { IfErr result (λ h. h ≡ halt) }
 {
     Err(halt)
-}
-
-// The number of instances that a count says, or the number that is too large.
-fn counted(value: &Value) -> Result<usize, u64>
-    ensures number { IfOk result (λ n. n ≡ copies (Some (json value.now))) }
-    ensures few { IfOk result (λ n. n ≤ 800) }
-    ensures refused { IfErr result (λ n. n ≡ copies (Some (json value.now))) }
-    ensures beyond { IfErr result (λ n. 800 < n) }
-{
-    match value {
-        Value::Int(number) => {
-            if *number < 0 {
-                Ok(0)
-            } else if *number <= 800 {
-                Ok(*number as usize)
-            } else {
-                Err(*number as u64)
-            }
-        }
-        _ => Ok(0),
-    }
 }
 
 // Whether the value is true.
@@ -74,34 +52,6 @@ fn is_true(value: &Value) -> bool
         Value::Bool(truth) => *truth,
         _ => false,
     }
-}
-
-// Counts instances of the template of a frame, unless they are too many.
-fn add_instances(
-    counts: &mut Vec<usize>,
-    instances: &mut usize,
-    frame: usize,
-    count: usize,
-) -> Result<(), Halt>
-    ensures within { IfOk result (λ _. instances.new ≤ 2000) }
-    ensures beyond { IfErr result (Exceeds instances.old count) }
-{
-    let all = instances.saturating_add(count);
-    if all > MAX_INSTANCES {
-        return Err(Halt::Limit(Which::Instances, 2001));
-    }
-    match counts.get_mut(frame) {
-        Some(slot) => {
-            let of_template = slot.saturating_add(count);
-            if of_template > MAX_INSTANCES_OF_TEMPLATE {
-                return Err(Halt::Limit(Which::Resources, of_template as u64));
-            }
-            *slot = of_template;
-        }
-        None => {}
-    }
-    *instances = all;
-    Ok(())
 }
 
 // Gives a line its value, and lists the cells of these spots last.
@@ -121,6 +71,7 @@ fn list_after(
         ≡ with_state lines.old.items at (how.Value filled.0) filled.1 ++ map new_line spots.now) }
     ensures indexed { IfOk result (λ _. Indexes (map opened_of frames.now) index.new lines.new.items) }
     ensures few { IfOk result (λ _. length lines.new.items ≤ 2 ^ 32) }
+    ensures memory { IfErr result (λ h. h ≡ halt.OutOfMemory) }
 {
     let count = lines.len();
     if count > MAX_LINES || spots.len() > MAX_LINES - count {
@@ -138,9 +89,12 @@ impl<'a> Table<'a> {
     fn fill_alone(&mut self, at: usize, value: Value)
         requires listed { at < length self.old.lines.items }
         requires laid { IsLaid self.old }
+        requires counted { IsCounted self.old }
+        requires unfinished { IsUnfinished (row_at (rows_in self.old) at).status }
         requires alone { IsAlone (scopes_of self.old) (line_at self.old.lines.items at).spot (json value) }
         ensures same { whole_of self.new ≡ whole_of self.old }
         ensures laid { IsLaid self.new }
+        ensures counted { IsCounted self.new }
         ensures filled { rows_in self.new ≡ with_status (rows_in self.old) at (with_value (json value))
             ++ map fresh (children (whole_of self.old) (row_at (rows_in self.old) at).cell (json value)) }
         ensures few { length (rows_in self.new) ≡ length (rows_in self.old) }
@@ -160,6 +114,8 @@ impl<'a> Table<'a> {
     ) -> Result<(), Halt>
         requires listed { at < length self.old.lines.items }
         requires laid { IsLaid self.old }
+        requires counted { AreNumbers (scopes_of self.old)
+            (with_state self.old.lines.items at (how.Value value) 0) (numbers_of self.old) }
         requires spot { (line_at self.old.lines.items at).spot ≡ spot.Count frame resource }
         requires number { count ≡ copies (Some (json value)) }
         requires few { count ≤ 800 }
@@ -169,6 +125,8 @@ impl<'a> Table<'a> {
             ≡ with_status (rows_in self.old) at (with_value (json value))
             ++ map fresh (children (whole_of self.old) (row_at (rows_in self.old) at).cell (json value))) }
         ensures few { IfOk result (λ _. length (rows_in self.new) ≤ 2 ^ 32) }
+        ensures counted { IfOk result (λ _. IsCounted self.new) }
+        ensures memory { IfErr result (λ h. h ≡ halt.OutOfMemory) }
     {
         match spots_of_instances(alloc, frame, resource, count) {
             Err(_) => halted(Halt::OutOfMemory, value),
@@ -200,6 +158,9 @@ impl<'a> Table<'a> {
     ) -> Result<(), Halt>
         requires listed { at < length self.old.lines.items }
         requires laid { IsLaid self.old }
+        requires counted { IsCounted self.old }
+        requires distinct { AreDistinct (rows_in self.old) }
+        requires unfinished { IsUnfinished (row_at (rows_in self.old) at).status }
         requires spot { (line_at self.old.lines.items at).spot ≡ spot.Count frame resource }
         requires number { count ≡ copies (Some (json value)) }
         requires few { count ≤ 800 }
@@ -209,6 +170,8 @@ impl<'a> Table<'a> {
             ≡ with_status (rows_in self.old) at (with_value (json value))
             ++ map fresh (children (whole_of self.old) (row_at (rows_in self.old) at).cell (json value))) }
         ensures few { IfOk result (λ _. length (rows_in self.new) ≤ 2 ^ 32) }
+        ensures counted { IfOk result (λ _. IsCounted self.new) }
+        ensures halted { IfErr result (IsHalt (rows_in self.old) (row_at (rows_in self.old) at).cell (json value)) }
     {
         match add_instances(&mut self.counts, &mut self.instances, frame, count) {
             Err(halt) => halted(halt, value),
@@ -227,6 +190,9 @@ impl<'a> Table<'a> {
     ) -> Result<(), Halt>
         requires listed { at < length self.old.lines.items }
         requires laid { IsLaid self.old }
+        requires counted { IsCounted self.old }
+        requires distinct { AreDistinct (rows_in self.old) }
+        requires unfinished { IsUnfinished (row_at (rows_in self.old) at).status }
         requires spot { (line_at self.old.lines.items at).spot ≡ spot.Count frame resource }
         ensures same { whole_of self.new ≡ whole_of self.old }
         ensures laid { IfOk result (λ _. IsLaid self.new) }
@@ -234,6 +200,8 @@ impl<'a> Table<'a> {
             ≡ with_status (rows_in self.old) at (with_value (json value))
             ++ map fresh (children (whole_of self.old) (row_at (rows_in self.old) at).cell (json value))) }
         ensures few { IfOk result (λ _. length (rows_in self.new) ≤ 2 ^ 32) }
+        ensures counted { IfOk result (λ _. IsCounted self.new) }
+        ensures halted { IfErr result (IsHalt (rows_in self.old) (row_at (rows_in self.old) at).cell (json value)) }
     {
         match counted(&value) {
             Err(count) => halted(Halt::Limit(Which::Count, count), value),
@@ -252,6 +220,8 @@ impl<'a> Table<'a> {
     ) -> Result<(), Halt>
         requires listed { at < length self.old.lines.items }
         requires laid { IsLaid self.old }
+        requires counted { IsCounted self.old }
+        requires unfinished { IsUnfinished (row_at (rows_in self.old) at).status }
         requires few { length (rows_in self.old) ≤ 2 ^ 32 }
         requires spot { (line_at self.old.lines.items at).spot ≡ spot.Offered frame number }
         ensures same { whole_of self.new ≡ whole_of self.old }
@@ -260,6 +230,8 @@ impl<'a> Table<'a> {
             ≡ with_status (rows_in self.old) at (with_value (json value))
             ++ map fresh (children (whole_of self.old) (row_at (rows_in self.old) at).cell (json value))) }
         ensures few { IfOk result (λ _. length (rows_in self.new) ≤ 2 ^ 32) }
+        ensures counted { IfOk result (λ _. IsCounted self.new) }
+        ensures memory { IfErr result (λ h. h ≡ halt.OutOfMemory) }
     {
         if is_true(&value) {
             let spots = [Spot::Output(frame, number)];
@@ -296,6 +268,8 @@ impl<'a> Table<'a> {
         ensures place { self.new.place ≡ self.old.place }
         ensures lines { self.new.lines ≡ self.old.lines }
         ensures index { self.new.index ≡ self.old.index }
+        ensures counts { IfOk result (λ _. self.new.counts.items ≡ self.old.counts.items ++ 0 ∷ []) }
+        ensures instances { self.new.instances ≡ self.old.instances }
         ensures added { IfOk result (λ _. (x : cells.Listed)
             → slice_get (opened_at (scopes_of self.old) around).resources instance.resource ≡ Some x
             → scopes_of self.new ≡ scopes_of self.old ++ inside_of around (length self.old.frames.items)
@@ -337,6 +311,8 @@ impl<'a> Table<'a> {
     ) -> Result<(), Halt>
         requires listed { at < length self.old.lines.items }
         requires laid { IsLaid self.old }
+        requires counted { IsCounted self.old }
+        requires unfinished { IsUnfinished (row_at (rows_in self.old) at).status }
         requires spot { (line_at self.old.lines.items at).spot
             ≡ spot.Included around instance.resource instance.copy }
         requires opens { (x : cells.Listed)
@@ -349,6 +325,8 @@ impl<'a> Table<'a> {
             ≡ with_status (rows_in self.old) at (with_value (json value))
             ++ map fresh (children (whole_of self.old) (row_at (rows_in self.old) at).cell (json value))) }
         ensures few { IfOk result (λ _. length (rows_in self.new) ≤ 2 ^ 32) }
+        ensures counted { IfOk result (λ _. IsCounted self.new) }
+        ensures memory { IfErr result (λ h. h ≡ halt.OutOfMemory) }
     {
         let number = self.frames.len();
         match self.add_frame(alloc, around, instance, deployment) {
@@ -381,6 +359,8 @@ impl<'a> Table<'a> {
     ) -> Result<(), Halt>
         requires listed { at < length self.old.lines.items }
         requires laid { IsLaid self.old }
+        requires counted { IsCounted self.old }
+        requires unfinished { IsUnfinished (row_at (rows_in self.old) at).status }
         requires few { length (rows_in self.old) ≤ 2 ^ 32 }
         requires spot { (line_at self.old.lines.items at).spot
             ≡ spot.Included frame instance.resource instance.copy }
@@ -390,6 +370,8 @@ impl<'a> Table<'a> {
             ≡ with_status (rows_in self.old) at (with_value (json value))
             ++ map fresh (children (whole_of self.old) (row_at (rows_in self.old) at).cell (json value))) }
         ensures few { IfOk result (λ _. length (rows_in self.new) ≤ 2 ^ 32) }
+        ensures counted { IfOk result (λ _. IsCounted self.new) }
+        ensures memory { IfErr result (λ h. h ≡ halt.OutOfMemory) }
     {
         if !is_true(&value) {
             self.fill_alone(at, value);
@@ -411,6 +393,9 @@ impl<'a> Table<'a> {
     pub fn fill(&mut self, alloc: Global, at: usize, value: Value) -> Result<(), Halt>
         requires listed { at < length (rows_in self.old) }
         requires laid { IsLaid self.old }
+        requires counted { IsCounted self.old }
+        requires distinct { AreDistinct (rows_in self.old) }
+        requires unfinished { IsUnfinished (row_at (rows_in self.old) at).status }
         requires few { length (rows_in self.old) ≤ 2 ^ 32 }
         ensures same { whole_of self.new ≡ whole_of self.old }
         ensures laid { IfOk result (λ _. IsLaid self.new) }
@@ -418,6 +403,8 @@ impl<'a> Table<'a> {
             ≡ with_status (rows_in self.old) at (with_value (json value))
             ++ map fresh (children (whole_of self.old) (row_at (rows_in self.old) at).cell (json value))) }
         ensures few { IfOk result (λ _. length (rows_in self.new) ≤ 2 ^ 32) }
+        ensures counted { IfOk result (λ _. IsCounted self.new) }
+        ensures halted { IfErr result (IsHalt (rows_in self.old) (row_at (rows_in self.old) at).cell (json value)) }
     {
         match self.lines[at].spot {
             Spot::Count(frame, resource) => self.fill_count(alloc, at, frame, resource, value),

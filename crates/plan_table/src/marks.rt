@@ -1,8 +1,9 @@
 // Marks on lines: a cell is begun, has no value, or waits for a state.
 ghost use Rattle.std.specs.Prelude.{◌≡◌, ◌<◌, length, IfOk, is_ok, if◌then◌else◌};
-ghost use Rattle.plan_filling.specs.Rows.{row_at, with_status, Open, Empty, Late, IsWaiting};
+ghost use Rattle.plan_filling.specs.Rows.{row_at, with_status, Open, Empty, Late, IsWaiting, IsUnfinished};
 ghost use Rattle.plan_table.specs.Lines.{status_in, with_state};
 ghost use Rattle.plan_table.specs.Whole.{whole_of, rows_in, IsLaid};
+ghost use Rattle.plan_table.specs.Counted.{IsCounted};
 
 use crate::line::{Line, State};
 use crate::table::Table;
@@ -42,8 +43,11 @@ impl<'a> Table<'a> {
     pub fn begin(&mut self, at: usize)
         requires listed { at < length (rows_in self.old) }
         requires laid { IsLaid self.old }
+        requires counted { IsCounted self.old }
+        requires unfinished { IsUnfinished (row_at (rows_in self.old) at).status }
         ensures same { whole_of self.new ≡ whole_of self.old }
         ensures laid { IsLaid self.new }
+        ensures counted { IsCounted self.new }
         ensures marked { rows_in self.new ≡ with_status (rows_in self.old) at Open }
     {
         set_state(&mut self.lines, at, State::Open, 0);
@@ -53,8 +57,11 @@ impl<'a> Table<'a> {
     pub fn leave_empty(&mut self, at: usize)
         requires listed { at < length (rows_in self.old) }
         requires laid { IsLaid self.old }
+        requires counted { IsCounted self.old }
+        requires unfinished { IsUnfinished (row_at (rows_in self.old) at).status }
         ensures same { whole_of self.new ≡ whole_of self.old }
         ensures laid { IsLaid self.new }
+        ensures counted { IsCounted self.new }
         ensures marked { rows_in self.new ≡ with_status (rows_in self.old) at Empty }
     {
         set_state(&mut self.lines, at, State::Empty, 0);
@@ -64,8 +71,11 @@ impl<'a> Table<'a> {
     pub fn wait_for(&mut self, at: usize, key: Key)
         requires listed { at < length (rows_in self.old) }
         requires laid { IsLaid self.old }
+        requires counted { IsCounted self.old }
+        requires unfinished { IsUnfinished (row_at (rows_in self.old) at).status }
         ensures same { whole_of self.new ≡ whole_of self.old }
         ensures laid { IsLaid self.new }
+        ensures counted { IsCounted self.new }
         ensures marked { rows_in self.new ≡ with_status (rows_in self.old) at (Late key) }
     {
         set_state(&mut self.lines, at, State::Late(key), 0);
@@ -78,8 +88,11 @@ impl<'a> Table<'a> {
         requires other_listed { other < length (rows_in self.old) }
         requires late { IsWaiting (row_at (rows_in self.old) other).status }
         requires laid { IsLaid self.old }
+        requires counted { IsCounted self.old }
+        requires unfinished { IsUnfinished (row_at (rows_in self.old) at).status }
         ensures same { whole_of self.new ≡ whole_of self.old }
         ensures laid { IsLaid self.new }
+        ensures counted { IsCounted self.new }
         ensures marked { rows_in self.new ≡ (if is_ok result
             then with_status (rows_in self.old) at (row_at (rows_in self.old) other).status else rows_in self.old) }
     {

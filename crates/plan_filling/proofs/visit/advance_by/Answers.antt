@@ -2,6 +2,7 @@ use Rattle.std.proofs.Common.{subst}
 use Rattle.plan_filling.specs.Rows.{row_at}
 use Rattle.plan_filling.specs.Sound.{Tells}
 use Rattle.plan_filling.specs.declared.sheet.Answer.{Answer}
+use Rattle.plan_filling.proofs.LimitLemmas.{halted_at}
 use Rattle.plan_filling.proofs.ChangeLemmas.{done_value, done_empty, done_state}
 use Rattle.arm_value.specs.View.{json}
 use Rattle.plan_filling.proofs.visit.advance_by.Goals as goal
@@ -31,3 +32,11 @@ returns-in-State-clause-turned g c =
     (subst (λ (a : Answer). Tells (g.S.Sheet.whole c.args.sheet.now) (g.S.Sheet.rows c.args.sheet.now)
     (row_at (g.S.Sheet.rows c.args.sheet.now) c.args.top).cell a) c.in-State.is c.requires.tells)
     c.wait_for.ensures.marked
+
+pub returns-in-Err-clause-halted : goal.returns-in-Err-clause-halted
+returns-in-Err-clause-halted g c =
+    halted_at (g.S.Sheet.whole c.args.sheet.now) (g.S.Sheet.rows c.args.sheet.now) c.args.top (json c.in-Value.value)
+    c.in-Err.halt c.requires.sound c.requires.listed c.requires.unfinished
+    (subst (λ (a : Answer). Tells (g.S.Sheet.whole c.args.sheet.now) (g.S.Sheet.rows c.args.sheet.now)
+    (row_at (g.S.Sheet.rows c.args.sheet.now) c.args.top).cell a) c.in-Value.is c.requires.tells)
+    c.in-Err.ensures.halted

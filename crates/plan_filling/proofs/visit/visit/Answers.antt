@@ -2,6 +2,7 @@ use Rattle.std.proofs.Common.{sym, subst, ◌∙◌, arith, length, ◌≤◌}
 use Rattle.plan_cells.specs.Meaning.{Deployment}
 use Rattle.plan_filling.specs.Sound.{Sound}
 use Rattle.plan_filling.proofs.ChangeLemmas.{opened, is_new, is_open, is_late}
+use Rattle.plan_filling.proofs.LimitLemmas.{halted_if}
 use Rattle.plan_filling.proofs.WayLemmas.{one_open, visited_if, visited_already, is_finished, late_finished}
 use Rattle.plan_filling.proofs.visit.visit.Goals as goal
 
@@ -58,3 +59,8 @@ returns-in-Late-clause-visited g c =
     c.requires.none_open
     (late_finished (g.S.Sheet.rows c.args.sheet.now) c.args.start
     (is_late (g.S.Sheet.rows c.args.sheet.now) c.args.start (sym c.stage.ensures ∙ c.in-Late.is)))
+
+pub returns-in-New-clause-halted : goal.returns-in-New-clause-halted
+returns-in-New-clause-halted g c =
+    halted_if (g.S.Sheet.whole c.args.sheet.now) (g.S.Sheet.whole c.begin.new.self) c.follow.result
+    c.begin.ensures.same c.follow.ensures.halted

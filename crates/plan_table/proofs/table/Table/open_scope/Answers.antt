@@ -3,6 +3,8 @@ use Rattle.plan_table.specs.declared.line.Line.{Line}
 use Rattle.plan_table.specs.Opened.{opened_at, inside_of, nested_view}
 use Rattle.plan_table.specs.Whole.{whole_of, scopes_of}
 use Rattle.plan_table.proofs.OpenLemmas.{scope_ready, scope_indexed, whole_same, scope_laid, scope_rows}
+use Rattle.plan_table.specs.Counted.{numbers_of}
+use Rattle.plan_table.proofs.CountLemmas.{scope_counted}
 use Rattle.plan_table.proofs.table.Table.open_scope.Goals as goal
 
 pub list_after-requires-clause-placed : goal.list_after-requires-clause-placed
@@ -54,3 +56,17 @@ returns-in-Ok-clause-filled c =
     c.as_slice-frames.ensures.value c.as_slice-listed.ensures.value c.in-Ok.ensures.spots
     (ap (λ (ls : Vec Line Global). ls.items) c.in-Ok.ensures.lines) c.list_after.result c.list_after.ensures.listed
     c.list_after.ensures.indexed
+
+pub returns-in-Ok-clause-counted : goal.returns-in-Ok-clause-counted
+returns-in-Ok-clause-counted c =
+    scope_counted c.list_after.result (whole_of c.args.self.now) (scopes_of c.args.self.now)
+    (scopes_of c.add_frame.new.self) c.args.self.now.index c.args.self.now.lines.items
+    c.add_frame.new.self.lines.items c.list_after.new.lines.items c.args.at c.args.around c.args.instance.resource
+    c.args.instance.copy c.len-number.result c.args.value
+    (inside_of c.args.around (length c.args.self.now.frames.items)
+    (opened_at (scopes_of c.args.self.now) c.args.around) c.requires.opens.0 c.args.instance.resource
+    c.args.instance.copy (nested_view c.args.deployment.now)) c.as_slice-listed.result.now
+    (numbers_of c.args.self.now) (numbers_of c.add_frame.new.self) c.requires.laid c.requires.listed
+    c.requires.unfinished c.requires.spot (c.in-Ok.ensures.added c.requires.opens.0 c.requires.opens.1.0)
+    (ap (λ (ls : Vec Line Global). ls.items) c.in-Ok.ensures.lines) c.in-Ok.ensures.counts c.in-Ok.ensures.instances
+    c.requires.counted c.list_after.ensures.listed

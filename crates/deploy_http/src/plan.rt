@@ -14,7 +14,7 @@ ghost use Rattle.deploy_http.specs.Answers.{Gives, plan_seen};
 use crate::fault::{HttpFault, letting_go};
 use http_heads::{BodyLength, Head, MAX_FIELDS};
 use http_requests::{Call, Verb, call_of, verb_of};
-use http_routes::{RouteFault, Target, read_target};
+use http_routes::{RouteFault, Routes, Target, read_target};
 use std::alloc::Global;
 
 /// What a head asks.
@@ -32,7 +32,12 @@ pub(crate) struct Plan {
 
 /// What the head asks, which is at the front of the bytes. The first of these decides: the form of the length, the
 /// number of fields, whether there is a length, the length, the path, the route, the method, the query.
-pub(crate) fn plan_of(alloc: Global, bytes: &[u8], head: &Head) -> Result<Plan, HttpFault>
+pub(crate) fn plan_of(
+    alloc: Global,
+    routes: &Routes,
+    bytes: &[u8],
+    head: &Head,
+) -> Result<Plan, HttpFault>
     requires { (h : RequestHead) × IsHead bytes.now head.now h }
     ensures plan { (h : RequestHead) → IsHead bytes.now head.now h → Gives plan_seen (planned h) result }
     ensures head { IfOk result (λ plan. plan.head ≡ head.now.length) }
@@ -41,7 +46,7 @@ pub(crate) fn plan_of(alloc: Global, bytes: &[u8], head: &Head) -> Result<Plan, 
 {
     match form_fault(head) {
         Some(fault) => Err(fault),
-        None => routed(alloc, bytes, head),
+        None => routed(alloc, routes, bytes, head),
     }
 }
 
@@ -70,7 +75,7 @@ fn fields_fault(fields: usize) -> Option<HttpFault>
 }
 
 // What a head asks that has its form.
-fn routed(alloc: Global, bytes: &[u8], head: &Head) -> Result<Plan, HttpFault>
+fn routed(alloc: Global, routes: &Routes, bytes: &[u8], head: &Head) -> Result<Plan, HttpFault>
     requires method { IsWithin (length bytes.now) head.now.method }
     requires target { IsWithin (length bytes.now) head.now.target }
     requires text { IsUtf8 (span_bytes bytes.now head.now.target) }
@@ -84,7 +89,7 @@ fn routed(alloc: Global, bytes: &[u8], head: &Head) -> Result<Plan, HttpFault>
 {
     let verb = verb_of(head.method.of(bytes));
     match length_by(head, verb) {
-        Ok(body) => routed_with(alloc, head.target.of(bytes), head, verb, body),
+        Ok(body) => routed_with(alloc, routes, head.target.of(bytes), head, verb, body),
         Err(fault) => Err(fault),
     }
 }
@@ -92,6 +97,7 @@ fn routed(alloc: Global, bytes: &[u8], head: &Head) -> Result<Plan, HttpFault>
 // The same, with the length of the body.
 fn routed_with(
     alloc: Global,
+    routes: &Routes,
     target: &[u8],
     head: &Head,
     verb: Verb,
@@ -105,7 +111,7 @@ fn routed_with(
     ensures body { IfOk result (λ plan. plan.body ≡ body) }
     ensures unread { IsErrOf result HttpFault.ReadFault → ⊥ }
 {
-    match call_by(alloc, target, verb) {
+    match call_by(alloc, routes, target, verb) {
         Ok(call) => Ok(Plan {
             call,
             head: head.length,
@@ -145,12 +151,12 @@ fn no_length(verb: Verb) -> Result<usize, HttpFault>
 }
 
 // What the method asks of the target's route.
-fn call_by(alloc: Global, target: &[u8], verb: Verb) -> Result<Call, HttpFault>
+fn call_by(alloc: Global, routes: &Routes, target: &[u8], verb: Verb) -> Result<Call, HttpFault>
     requires { IsUtf8 target.now }
     ensures call { Gives called (call_on (target_of target.now) verb) result }
     ensures unread { IsErrOf result HttpFault.ReadFault → ⊥ }
 {
-    match read_target(alloc, target) {
+    match read_target(alloc, routes, target) {
         Ok(target) => call_at(target, verb),
         Err(fault) => Err(of_route(fault)),
     }

@@ -16,6 +16,7 @@ use arm_edges::Source;
 use arm_value::Bytes;
 use http_heads::MAX_HEAD_BYTES;
 use http_requests::{BodyFault, finish};
+use http_routes::Routes;
 use std::alloc::Global;
 
 /// The next request of the bytes that are there and those that the source gives after them; none at an end before any
@@ -33,7 +34,27 @@ pub fn read_request<S: Source>(
     ensures apart { S.outgoing source.new ≡ S.outgoing source.old }
     ensures cause { ReadCause (S.faults source.old) (S.faults source.new) result }
 {
-    match next_plan(alloc, source, rest) {
+    match Routes::new(alloc) {
+        Ok(routes) => next_request(alloc, &routes, source, rest),
+        Err(_) => Err(HttpFault::OutOfMemory),
+    }
+}
+
+/// The same, by routes that the caller keeps: `read_request` makes them for each request.
+pub fn next_request<S: Source>(
+    alloc: Global,
+    routes: &Routes,
+    source: &mut S,
+    rest: &mut Bytes,
+) -> Result<Option<Request>, HttpFault>
+    ensures answer { S.tells_rest ≡ true → IsAnswer (rest.old ++ S.rest source.old) result
+        (rest.new ++ S.rest source.new) (S.rest source.new) }
+    ensures kept { IfOk result (λ request. length rest.new ≤ max (length rest.old) 16384) }
+    ensures room { length rest.new ≤ max (length rest.old) 4210688 }
+    ensures apart { S.outgoing source.new ≡ S.outgoing source.old }
+    ensures cause { ReadCause (S.faults source.old) (S.faults source.new) result }
+{
+    match next_plan(alloc, routes, source, rest) {
         Ok(plan) => asked(alloc, source, rest, plan),
         Err(fault) => Err(fault),
     }
@@ -124,6 +145,7 @@ fn of_body(fault: BodyFault) -> HttpFault
 // What the next head asks; none at an end before any byte.
 fn next_plan<S: Source>(
     alloc: Global,
+    routes: &Routes,
     source: &mut S,
     rest: &mut Bytes,
 ) -> Result<Option<Plan>, HttpFault>
@@ -138,7 +160,7 @@ fn next_plan<S: Source>(
     loop {
         let bytes = rest.as_slice();
         let now = due.is_due(bytes);
-        match due_look(alloc, now, bytes) {
+        match due_look(alloc, routes, now, bytes) {
             Look::Found(plan) => return Ok(Some(plan)),
             Look::NotYet => {}
             Look::Refused(fault) => return Err(fault),
@@ -146,7 +168,7 @@ fn next_plan<S: Source>(
         let room = MAX_HEAD_BYTES - bytes.len();
         match take_more(source, rest, room) {
             Ok(taken) => if taken == 0 {
-                return last_plan(alloc, rest.as_slice());
+                return last_plan(alloc, routes, rest.as_slice());
             },
             Err(fault) => return Err(fault),
         }

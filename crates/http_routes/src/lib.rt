@@ -10,10 +10,12 @@ mod pattern;
 mod places;
 mod query;
 mod route;
+mod routes;
 mod segment;
 mod target;
 
 pub use pattern::Pattern;
 pub use places::{DeploymentAt, GroupAt, LockAt, ResourceAt};
 pub use route::Route;
+pub use routes::Routes;
 pub use target::{RouteFault, Target, read_target};

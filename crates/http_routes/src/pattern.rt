@@ -1,9 +1,9 @@
 // The patterns of paths.
 
-ghost use Rattle.std.specs.Prelude.{◌≡◌, None, Ok, IfOk, OnOk};
+ghost use Rattle.std.specs.Prelude.{◌≡◌, None, Ok, IfOk};
 ghost use Rattle.matchit.specs.Route.{Scan, parse_route};
 ghost use Rattle.matchit.specs.Router.{nearest};
-ghost use Rattle.http_routes.specs.Patterns.{patterns, pattern_of, with_pattern};
+ghost use Rattle.http_routes.specs.Patterns.{patterns, with_pattern};
 
 use arm_value::OutOfMemory;
 use matchit::{InsertError, Router};
@@ -24,58 +24,49 @@ pub enum Pattern {
     InSubscription,
 }
 
-/// The pattern that the path matches, in letters of any case.
-pub(crate) fn pattern_of(alloc: Global, path: &str) -> Result<Option<Pattern>, OutOfMemory>
-    ensures { IfOk result (λ pattern. pattern ≡ pattern_of path.now) }
-{
-    let folded = path.to_ascii_lowercase(alloc)?;
-    let router = patterns(alloc)?;
-    match router.at(folded.as_str()) {
-        Ok(found) => Ok(Some(*found.value)),
-        Err(_) => Ok(None),
-    }
-}
-
-// The five patterns.
-fn patterns(alloc: Global) -> Result<Router<Pattern>, OutOfMemory>
+/// The five patterns.
+pub(crate) fn patterns(alloc: Global) -> Result<Router<Pattern>, OutOfMemory>
     ensures { IfOk result (λ router. router ≡ patterns) }
 {
-    let mut router = Router::new(alloc);
-    add(
-        &mut router,
+    let router = with_pattern(
+        Router::new(alloc),
         "/subscriptions/{s}/resourcegroups",
         Pattern::Groups,
     )?;
-    add(
-        &mut router,
+    let router = with_pattern(
+        router,
         "/subscriptions/{s}/resourcegroups/{g}",
         Pattern::Group,
     )?;
-    add(
-        &mut router,
+    let router = with_pattern(
+        router,
         "/subscriptions/{s}/resourcegroups/{g}/resources",
         Pattern::Resources,
     )?;
-    add(
-        &mut router,
+    let router = with_pattern(
+        router,
         "/subscriptions/{s}/resourcegroups/{g}/providers/{*rest}",
         Pattern::InGroup,
     )?;
-    add(
-        &mut router,
+    let router = with_pattern(
+        router,
         "/subscriptions/{s}/providers/{*rest}",
         Pattern::InSubscription,
     )?;
     Ok(router)
 }
 
-// Adds a pattern that conflicts with none that is there.
-fn add(router: &mut Router<Pattern>, text: &str, pattern: Pattern) -> Result<(), OutOfMemory>
-    requires { (scan : Scan) × (parse_route text.now ≡ Ok scan) × (nearest scan.pattern router.old ≡ None) }
-    ensures { OnOk result (router.new ≡ with_pattern text.now pattern router.old) }
+// The router with a pattern that conflicts with none of its own.
+fn with_pattern(
+    mut router: Router<Pattern>,
+    text: &str,
+    pattern: Pattern,
+) -> Result<Router<Pattern>, OutOfMemory>
+    requires { (scan : Scan) × (parse_route text.now ≡ Ok scan) × (nearest scan.pattern router ≡ None) }
+    ensures { IfOk result (λ all. all ≡ with_pattern text.now pattern router) }
 {
     match router.insert(text, pattern) {
-        Ok(()) => Ok(()),
+        Ok(()) => Ok(router),
         Err(InsertError::OutOfMemory) => Err(AllocError),
         Err(_) => unreachable!(),
     }

@@ -3,9 +3,9 @@
 ghost use Rattle.std.specs.Prelude.{◌≡◌, IsUtf8};
 ghost use Rattle.http_routes.specs.Targets.{target_of, route_in, with_query, Reads};
 
-use crate::pattern::pattern_of;
 use crate::query::has_api_version;
 use crate::route::{Route, route_of};
+use crate::routes::Routes;
 use crate::segment::segments_of;
 use arm_value::OutOfMemory;
 use std::alloc::{AllocError, Global};
@@ -47,7 +47,7 @@ impl From<AllocError> for RouteFault {
 }
 
 /// What the target of a request says.
-pub fn read_target(alloc: Global, target: &[u8]) -> Result<Target, RouteFault>
+pub fn read_target(alloc: Global, routes: &Routes, target: &[u8]) -> Result<Target, RouteFault>
     requires { IsUtf8 target.now }
     ensures { Reads (target_of target.now) result }
 {
@@ -55,16 +55,16 @@ pub fn read_target(alloc: Global, target: &[u8]) -> Result<Target, RouteFault>
         unreachable!()
     };
     match target.split_once('?') {
-        Some((path, query)) => target_in(alloc, path, query),
-        None => target_in(alloc, target, ""),
+        Some((path, query)) => target_in(alloc, routes, path, query),
+        None => target_in(alloc, routes, target, ""),
     }
 }
 
 // What a target with this path and this query says.
-fn target_in(alloc: Global, path: &str, query: &str) -> Result<Target, RouteFault>
+fn target_in(alloc: Global, routes: &Routes, path: &str, query: &str) -> Result<Target, RouteFault>
     ensures { Reads (with_query (route_in path.now) query.now) result }
 {
-    match route_in(alloc, path) {
+    match route_in(alloc, routes, path) {
         Ok(route) => Ok(Target {
             route,
             versioned: has_api_version(query),
@@ -74,10 +74,10 @@ fn target_in(alloc: Global, path: &str, query: &str) -> Result<Target, RouteFaul
 }
 
 // The route of the path.
-fn route_in(alloc: Global, path: &str) -> Result<Route, RouteFault>
+fn route_in(alloc: Global, routes: &Routes, path: &str) -> Result<Route, RouteFault>
     ensures { Reads (route_in path.now) result }
 {
-    let Some(pattern) = pattern_of(alloc, path)? else {
+    let Some(pattern) = routes.pattern_of(alloc, path)? else {
         return Err(RouteFault::NoRoute);
     };
     let Some(segments) = segments_of(alloc, path)? else {

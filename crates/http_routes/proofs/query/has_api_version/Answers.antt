@@ -1,5 +1,4 @@
 use Rattle.std.proofs.Common.{rules, lit<}
-use Rattle.std.proofs.lemmas.Bool.Decides.{nat_tests}
 use Rattle.std.proofs.lemmas.Iterator.Search.{any_from_yields_List}
 use Rattle.std.proofs.lemmas.Iterator.Splits.{YieldsList-from_str_split}
 use Rattle.http_routes.specs.Targets.{is_api_version}

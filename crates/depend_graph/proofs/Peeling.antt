@@ -416,7 +416,7 @@ all_done_empty done (w ∷ ws) all =
       all_done_empty done ws (λ v some. all v (omega (arith, some))),
     )
 
-empty_all_done : (done : List Bool) (ws : List ℕ) (v : ℕ) (b : Bool) → get_or done v false ≡ b
+pub empty_all_done : (done : List Bool) (ws : List ℕ) (v : ℕ) (b : Bool) → get_or done v false ≡ b
     → length (undone done ws) ≡ 0 → 1 ≤ times ws v → get_or done v false ≡ true
 empty_all_done done ws v true e none some = e
 empty_all_done done ws v false e none some = absurd (omega (arith, undone_some done ws v some e))

@@ -1,7 +1,8 @@
 -- What a search for circles goes by.
-use Rattle.std.specs.Prelude.{◌≡◌, ◌≢◌, ◌<◌, ◌≤◌, ◌+◌, ◌==◌, ◌&&◌, ℕ, Bool, true, false, not, List, [], ◌∷◌, length}
-use Rattle.std.specs.Prelude.{slice_index_or, if◌then◌else◌}
+use Rattle.std.specs.Prelude.{◌≡◌, ◌≢◌, ◌<◌, ◌≤◌, ◌+◌, ◌==◌, ◌&&◌, ◌⊎◌, ℕ, Bool, true, false, not, List, [], ◌∷◌}
+use Rattle.std.specs.Prelude.{length, slice_index_or, if◌then◌else◌}
 use Rattle.depend_graph.specs.Shape.{Shape, times, undone, is_done, IsCircle, Chain}
+use Rattle.depend_graph.specs.Orders.{IsAmong, AreInTurn, AreNodes}
 
 -- whether a node is undone and has no undone need
 abbrev pub can_start : List Bool → List ℕ → ℕ → Bool
@@ -43,3 +44,10 @@ pub record HasCome (g : Shape) (done : List Bool) (unmet ready : List ℕ) : Typ
 abbrev pub Leads : Shape → List ℕ → ℕ → Type 0
 Leads g [] node = Unit {0}
 Leads g (x ∷ xs) node = Chain g (x ∷ xs) node
+
+-- these were marked as done one after another, each once all that it needs was done
+pub record InOrder (g : Shape) (done : List Bool) (order : List ℕ) : Type 0 where
+  pub in_turn : AreInTurn g order
+  pub among : (u : ℕ) → slice_index_or done u false ≡ true → (is_done g u ≡ true) ⊎ IsAmong order (length order) u
+  pub counted : length order + marked g.done ≡ marked done
+  pub nodes : AreNodes g order

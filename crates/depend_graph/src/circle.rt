@@ -2,7 +2,8 @@
 ghost use Rattle.std.specs.Prelude.{◌≡◌, ◌≢◌, ◌<◌, ◌≤◌, ◌++◌, ◌∷◌, ◌^◌, ℕ, List, [], length, false, true, filter};
 ghost use Rattle.std.specs.Prelude.{slice_index_or, slice_index, All, IfOk, IfSome, IfNone, OnOk, if◌then◌else◌};
 ghost use Rattle.depend_graph.specs.Shape.{Shape, times, undone, needs_of, is_done, IsCircle};
-ghost use Rattle.depend_graph.specs.Circles.{can_start, IsBlocked, KeepsCircles, marked};
+ghost use Rattle.depend_graph.specs.Circles.{can_start, IsBlocked, KeepsCircles, marked, InOrder};
+ghost use Rattle.depend_graph.specs.Orders.{IsOrder};
 
 use crate::graph::Graph;
 use crate::standing::count_down;
@@ -102,8 +103,8 @@ fn turn(circle: &mut [u32])
     circle.rotate_left(at);
 }
 
-// The first node that is not done.
-fn first_left(done: &[bool]) -> Option<u32>
+/// The first node that is not done.
+pub(crate) fn first_left(done: &[bool]) -> Option<u32>
     requires { length done.now < 2 ^ 32 }
     ensures some { IfSome result (λ node. (node < length done.now)
         × (slice_index_or done.now node false ≡ false)) }
@@ -119,16 +120,18 @@ fn first_left(done: &[bool]) -> Option<u32>
 }
 
 impl Graph {
-    // Which nodes are done, or may be done one after another.
-    fn peeled(&self, alloc: Global) -> Result<Vec<bool>, OutOfMemory>
-        ensures size { IfOk result (λ done. length done.items ≡ length self.now.needs) }
-        ensures circles { IfOk result (λ done. KeepsCircles self.now done.items) }
-        ensures later { IfOk result (λ done. (u : ℕ) → is_done self.now u ≡ true
-            → slice_index_or done.items u false ≡ true) }
-        ensures blocked { IfOk result (λ done. IsBlocked self.now.needs done.items) }
+    /// Which nodes are done, or may be done one after another, and these in such an order.
+    pub(crate) fn peeled(&self, alloc: Global) -> Result<(Vec<bool>, Vec<u32>), OutOfMemory>
+        ensures size { IfOk result (λ r. length r.0.items ≡ length self.now.needs) }
+        ensures circles { IfOk result (λ r. KeepsCircles self.now r.0.items) }
+        ensures later { IfOk result (λ r. (u : ℕ) → is_done self.now u ≡ true
+            → slice_index_or r.0.items u false ≡ true) }
+        ensures blocked { IfOk result (λ r. IsBlocked self.now.needs r.0.items) }
+        ensures order { IfOk result (λ r. InOrder self.now r.0.items r.1.items) }
     {
         let mut done = self.done.clone()?;
         let mut unmet = self.unmet.clone()?;
+        let mut order = Vec::new(alloc);
         let mut ready = Vec::new(alloc);
         for node in 0..self.done.len() {
             list_start(&mut ready, node as u32, &done, &unmet)?;
@@ -137,11 +140,12 @@ impl Graph {
             let node = node as usize;
             if !done[node] {
                 done[node] = true;
+                order.push(node as u32)?;
                 count_down(&mut unmet, &self.dependents[node]);
                 list_starts(&mut ready, &self.dependents[node], &done, &unmet)?;
             }
         }
-        Ok(done)
+        Ok((done, order))
     }
 
     // A circle among the nodes that are not done, each of which has a need that is not done.
@@ -169,6 +173,27 @@ impl Graph {
         unreachable!()
     }
 
+    /// A circle of nodes that are not marked as done, of which one is given. It begins with its least node.
+    pub(crate) fn circle_from(
+        &self,
+        alloc: Global,
+        done: &[bool],
+        start: u32,
+    ) -> Result<Vec<u32>, OutOfMemory>
+        requires size { length done.now ≡ length self.now.needs }
+        requires later { (u : ℕ) → is_done self.now u ≡ true → slice_index_or done.now u false ≡ true }
+        requires blocked { IsBlocked self.now.needs done.now }
+        requires within { start < length done.now }
+        requires left { slice_index_or done.now start false ≡ false }
+        ensures circle { IfOk result (λ xs. IsCircle self.now xs.items) }
+        ensures once { IfOk result (λ xs. (u : ℕ) → times xs.items u ≤ 1) }
+        ensures least { IfOk result (λ xs. All (λ v. slice_index xs.items 0 ≤ v) xs.items) }
+    {
+        let mut circle = self.walk(alloc, done, start)?;
+        turn(&mut circle);
+        Ok(circle)
+    }
+
     /// A circle of undone nodes: each needs the next, and the last the first. It begins with its
     /// least node, and no node is in it twice. None exactly where there is no circle.
     ///
@@ -181,13 +206,9 @@ impl Graph {
         ensures none { IfOk result (λ found. IfNone found ((xs : List ℕ) → ¬ IsCircle self.now xs)) }
     {
         let _nodes = &self.needs;
-        let done = self.peeled(alloc)?;
+        let (done, _order) = self.peeled(alloc)?;
         match first_left(&done) {
-            Some(start) => {
-                let mut circle = self.walk(alloc, &done, start)?;
-                turn(&mut circle);
-                Ok(Some(circle))
-            }
+            Some(start) => Ok(Some(self.circle_from(alloc, &done, start)?)),
             None => Ok(None),
         }
     }

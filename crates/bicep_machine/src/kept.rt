@@ -6,6 +6,7 @@ use crate::discard::Discard;
 use arm_value::OutOfMemory;
 use foundation::limits::MAX_EXPRESSION_NESTING;
 use std::alloc::Global;
+use std::marker::Model;
 
 /// How deep expressions may nest, as a depth of `Kept`.
 pub const MOST_NESTING: usize = MAX_EXPRESSION_NESTING as usize;
@@ -18,6 +19,15 @@ pub struct Kept<T> {
     pub part: T,
     /// How deep the part nests; a leaf nests 0.
     pub depth: usize,
+}
+
+// A function that hands a `Kept` on then sees no part of it, and derives nothing of its tree.
+impl<T> Model for Kept<T> {
+    ghost use Rattle.bicep_machine.specs.Held.{Held};
+
+    ghost Value = { Held T };
+
+    ghost view = { λ k. record { part = k.part; depth = k.depth } };
 }
 
 /// The greater depth.

@@ -14,6 +14,7 @@ use bicep_tree::{
     TypeName,
 };
 use foundation::Stop;
+use std::marker::Model;
 
 /// What was read last.
 #[derive(Drop)]
@@ -101,6 +102,20 @@ pub struct Next {
     pub state: State,
     /// Whether newlines are skipped, as inside parentheses.
     pub inside: bool,
+}
+
+// A function that hands a `Next` on then sees no state in it, and derives nothing of the trees there.
+impl Model for Next {
+    ghost use Rattle.bicep_machine.specs.Held.{Place};
+    ghost use Rattle.bicep_machine.specs.declared.state.State.{State};
+    ghost use Rattle.bicep_machine.specs.contracts.state.State as states;
+    ghost use Rattle.std.specs.Coded.{codes};
+
+    ghost Value = { Place State };
+
+    ghost coded = { Prim.hlevel (codes, states.the_row.coded) };
+
+    ghost view = { λ n. record { state = n.state; inside = n.inside } };
 }
 
 /// No file continues this way; drops the part.

@@ -21,8 +21,9 @@ use Rattle.bicep_machine.specs.Spelled.{IsKept}
 use Rattle.foundation.specs.declared.stop.Stop.{Stop}
 use Rattle.foundation.specs.declared.stop.Stop.TheVariants as stop
 use Rattle.bicep_machine.specs.declared.frame.Frame as frames
+use Rattle.bicep_machine.specs.declared.state.Next as nexts
 use Rattle.foundation.specs.Stopping.{Stops}
-use Rattle.bicep_machine.specs.Views.{frames_of}
+use Rattle.bicep_machine.specs.Views.{frames_of, next_of}
 use Rattle.bicep_parser.specs.declared.fault.ParseFault.TheVariants as fault
 use Rattle.bicep_parser.specs.Answers.{fault_at}
 use Rattle.bicep_parser.specs.Depth.{stack_depth, deepest, top_depth, at_hand, noted}
@@ -289,6 +290,11 @@ reads_token xs i t x s f S q deep next is has n e so =
 pub noted_so : (next deep : Option ℕ) (s : State) (fs gs : List frames.Frame) (at : ℕ) → fs ≡ gs
     → next ≡ noted deep s (frames_of fs) at → next ≡ noted deep s (frames_of gs) at
 noted_so next deep s fs gs at e h = subst (λ xs. next ≡ noted deep s (frames_of xs) at) e h
+
+-- where a token leads, by the fields of what is returned
+pub leads_to : (o : Option (State × Bool × List Frame)) (n m : nexts.Next) (fs : List frames.Frame) → m ≡ n
+    → o ≡ Some (next_of n fs) → o ≡ Some (next_of m fs)
+leads_to o n m fs e h = subst (λ k. o ≡ Some (next_of k fs)) (sym e) h
 
 -- the next token is not read
 pub breaks_token : (xs : List Token) (i : ℕ) (t : Token) (x : Terminal) (s : State) (f : Bool) (S : List Frame)

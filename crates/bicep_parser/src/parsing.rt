@@ -49,12 +49,12 @@ fn read(alloc: Global, tokens: &[Token]) -> Result<(Kept<Vec<Statement>>, usize)
 {
     let end = end_of(tokens);
     let mut deep = None;
-    let mut state = State::Between;
-    let mut inside = false;
     let mut stack = match empty_file(alloc) {
         Ok(stack) => stack,
         Err(_) => return Err(ParseFault::OutOfMemory),
     };
+    let mut state = State::Between;
+    let mut inside = false;
     for token in tokens {
         let terminal = match terminal_of(alloc, token) {
             Ok(terminal) => terminal,

@@ -4,8 +4,8 @@ use Rattle.bicep_lexer.specs.Reading.{standing}
 use Rattle.bicep_machine.specs.Stack.{between}
 use Rattle.bicep_parser.specs.declared.fault.ParseFault.TheVariants as fault
 use Rattle.bicep_parser.specs.Refused.{TellsPlace}
-use Rattle.bicep_parser.proofs.Progress.{Noted, begins_noted, reads_token, noted_so, breaks_token, breaks_at_end}
-use Rattle.bicep_parser.proofs.Progress.{deep_at_end}
+use Rattle.bicep_parser.proofs.Progress.{Noted, begins_noted, reads_token, leads_to, noted_so, breaks_token}
+use Rattle.bicep_parser.proofs.Progress.{breaks_at_end, deep_at_end}
 use Rattle.bicep_parser.proofs.parsing.read.Goals as goal
 
 pub loop-token-init : goal.loop-token-init
@@ -26,7 +26,8 @@ loop-token-preserved c =
     let xs = c.args.tokens.now in
     let n = c.loop-token.token-index in
     reads_token xs n _ _ _ _ _ _ c.loop-token.deep c.noted-deep.result (drop_more xs n _ c.loop-token-test.true)
-    c.in-Ok-terminal_of.ensures c.loop-token.invariant c.in-Ok-step.ensures
+    c.in-Ok-terminal_of.ensures c.loop-token.invariant
+    (leads_to _ _ _ c.step.new.stack.items c.next.view_is c.in-Ok-step.ensures)
     (noted_so _ _ _ _ _ _ c.as_slice.ensures.value c.noted-deep.ensures)
 
 pub returns-in-Err-finish-clause-place : goal.returns-in-Err-finish-clause-place

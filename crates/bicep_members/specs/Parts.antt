@@ -96,8 +96,10 @@ params_word = codes "params"
 abbrev pub repeated_argument_of : ObjectTree → Option ℕ
 repeated_argument_of (tree.braces at ms) = repeated_folded ms
 
+-- parentheses around the object are left out
 abbrev pub repeated_argument : Tree → Option ℕ
 repeated_argument (tree.object o) = repeated_argument_of o
+repeated_argument (tree.parentheses at e) = repeated_argument e
 repeated_argument e = None
 
 abbrev pub repeated_argument_in : ValueTree → Option ℕ

@@ -49,11 +49,11 @@ fn repeated_argument(alloc: Global, e: &Expr) -> Result<Option<usize>, OutOfMemo
 {
     match e {
         Expr::Object(object) => repeated_argument_of(alloc, object),
+        Expr::Parentheses(_, inner) => repeated_argument(alloc, inner),
         Expr::Name(..)
         | Expr::Literal(..)
         | Expr::Interpolated(..)
         | Expr::Array(..)
-        | Expr::Parentheses(..)
         | Expr::Call(..)
         | Expr::Access(..)
         | Expr::Index(..)

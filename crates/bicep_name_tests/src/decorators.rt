@@ -51,6 +51,23 @@ resource r 'T/x@1' = [for x in []: { name: 'a' }]
 @batchSize(2)
 module m 'm.bicep' = [for (x, i) in []: if (true) { name: 'a' }]
 ---
+resource r 'T/x@1' = {
+  name: 'a'
+  @description('b')
+  @sys.batchSize(1)
+  resource c 'y' = [for x in []: {
+    name: 'c'
+  }]
+}
+---
+resource r 'T/x@1' = {
+  name: 'a'
+  ^@batchSize(1)
+  resource c 'y' = {
+    name: 'c'
+  }
+}
+---
 ^@secure()
 param p int
 ---

@@ -114,6 +114,14 @@ resource a 'T/x@1' = {
   name: 'a'
   resource b 'y' = {
     name: 'b'
+    p: [ { q: { ^COPY: 1 } } ]
+  }
+}
+---
+resource a 'T/x@1' = {
+  name: 'a'
+  resource b 'y' = {
+    name: 'b'
     resource c 'z' = [for x in []: {
       name: 'c'
     }]

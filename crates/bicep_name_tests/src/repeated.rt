@@ -143,6 +143,12 @@ module m 'm.bicep' = { params: { p: 1, ^P: 2 } }
 ---
 module m 'm.bicep' = [for x in []: { 'params': { p: 1, ^P: 2 } }]
 ---
+module m 'm.bicep' = { params: ({ p: 1, q: 2 }) }
+---
+module m 'm.bicep' = { params: ({ p: 1, ^P: 2 }) }
+---
+module m 'm.bicep' = [for x in []: if (true) { params: (({ p: 1, q: 2, ^Q: 3 })) }]
+---
 module m 'm.bicep' = { params: {}, ^params: {} }
 ---
 module m 'm.bicep' = { params: { p: { a: 1, A: 2 } } }

@@ -1,13 +1,10 @@
 -- When a fault holds, and when none of its kind does.
-use Rattle.std.proofs.Common.{◌≡◌, ◌⊎◌, inl, inr, ℕ, List, [], ◌∷◌, map, Option, Some, None, refl, sym, ap, subst, ◌∙◌}
+use Rattle.std.proofs.Common.{◌≡◌, ◌⊎◌, inl, inr, ℕ, List, Option, Some, None, refl, sym, ap, subst, ◌∙◌}
 use Rattle.std.specs.Prelude.{slice_get}
-use Rattle.std.specs.List.{AllByRecursion}
 use Rattle.std.proofs.lemmas.Option.{none-some, same_Some}
-use Rattle.bicep_tree.specs.Tree.{FileTree}
 use Rattle.bicep_found.specs.Found.{Found, found, unknown, mapped}
 use Rattle.bicep_names.specs.Unknown.{Tells}
 use Rattle.bicep_declared.specs.Declare.{declared_file}
-use Rattle.bicep_program.specs.Circles.{IsCircle}
 use Rattle.bicep_program.specs.Program.{ProgramFile}
 use Rattle.bicep_program.proofs.LoadLemmas.{at_place}
 use Rattle.resolved_program.specs.Programs.{ResolvedFileTree, scope_in, resolved_file, IsResolved}
@@ -15,8 +12,8 @@ use Rattle.resolved_program.specs.Faults.{first_in, unknown_in, unknown_of}
 use Rattle.resolved_program.specs.Unknown.{FileHasUnknown}
 use Rattle.resolved_program.proofs.FirstLemmas.{first_item, no_item, both_at}
 use Rattle.resolved_program.proofs.UnknownLemmas.{tells_file}
-use Rattle.bicep_checks.specs.Faults.{OfFile, OfResolved, Mentions, IsCircleOf, IsMisplaced, text_place, link_place}
-use Rattle.bicep_checks.specs.Faults.{either}
+use Rattle.bicep_checks.specs.Faults.{OfFile, OfResolved, IsCircleOf, IsMisplaced, text_place, link_place}
+use Rattle.bicep_checks.specs.Faults.{state_place, either, Spot}
 use Rattle.bicep_checks.specs.Steps.{IsFree, AreFree, IsCircleIn}
 
 -- ---- what is found in the text of a file
@@ -77,6 +74,10 @@ value_or x (unknown at) = x
 same_found : {A : Type 0} (x y : A) → found x ≡ found y → x ≡ y
 same_found x y e = ap (value_or x) e
 
+-- what begins there is misplaced by what its names stand for, or by what they read
+abbrev IsPlace : ℕ → ResolvedFileTree → Type 0
+IsPlace at r = (link_place r ≡ Some at) ⊎ (state_place r ≡ Some at)
+
 module _ (files : List ProgramFile) (rs : List ResolvedFileTree) (h : IsResolved files rs) where
   -- a resolved file is that of a file
   pub of_resolved : (P : ResolvedFileTree → Type 0) (k : ℕ) (r : ResolvedFileTree) → slice_get rs k ≡ Some r → P r
@@ -106,10 +107,12 @@ module _ (files : List ProgramFile) (rs : List ResolvedFileTree) (h : IsResolved
 
   -- ---- places
 
-  at_link : (k at : ℕ) → first_in link_place rs ≡ Some (k, at) → OfFile files k (IsMisplaced files at)
-  at_link k at e =
-      let r = first_item link_place rs k at e in
-      let o = of_resolved (λ x. link_place x ≡ Some at) k r.0 r.1 r.2 in
+  at_name : (f : ResolvedFileTree → Option ℕ) (k at : ℕ)
+      → ((r : ResolvedFileTree) → f r ≡ Some at → IsPlace at r) → first_in f rs ≡ Some (k, at)
+      → OfFile files k (IsMisplaced files at)
+  at_name f k at into e =
+      let r = first_item f rs k at e in
+      let o = of_resolved (IsPlace at) k r.0 r.1 (into r.0 r.2) in
       record { file = o.file; is = o.is; holds = inr o.holds }
 
   at_text : (k at : ℕ) → first_in text_place files ≡ Some (k, at) → OfFile files k (IsMisplaced files at)
@@ -117,23 +120,30 @@ module _ (files : List ProgramFile) (rs : List ResolvedFileTree) (h : IsResolved
       let o = of_file text_place files k at e in
       record { file = o.file; is = o.is; holds = inl o.holds }
 
-  pub of_place : (k at : ℕ) → either (first_in text_place files) (first_in link_place rs) ≡ Some (k, at)
+  pub of_place : (k at : ℕ)
+      → either (first_in text_place files) (either (first_in link_place rs) (first_in state_place rs)) ≡ Some (k, at)
       → OfFile files k (IsMisplaced files at)
-  of_place k at e = by (first_in text_place files) refl e
+  of_place k at e = by (first_in text_place files) (first_in link_place rs) refl refl e
     where
-      by : (o : Option (ℕ × ℕ)) → first_in text_place files ≡ o → either o (first_in link_place rs) ≡ Some (k, at)
-          → OfFile files k (IsMisplaced files at)
-      by (Some p) q s = at_text k at (q ∙ s)
-      by None q s = at_link k at s
+      by : (o p : Spot) → first_in text_place files ≡ o → first_in link_place rs ≡ p
+          → either o (either p (first_in state_place rs)) ≡ Some (k, at) → OfFile files k (IsMisplaced files at)
+      by (Some x) p q r s = at_text k at (q ∙ s)
+      by None (Some x) q r s = at_name link_place k at (λ y h. inl h) (r ∙ s)
+      by None None q r s = at_name state_place k at (λ y h. inr h) s
 
-  pub none_place : either (first_in text_place files) (first_in link_place rs) ≡ None → (k at : ℕ)
-      → OfFile files k (IsMisplaced files at) → ⊥
-  none_place e k at o = by (first_in text_place files) refl e o.holds
+  pub none_place : either (first_in text_place files) (either (first_in link_place rs) (first_in state_place rs)) ≡ None
+      → (k at : ℕ) → OfFile files k (IsMisplaced files at) → ⊥
+  none_place e k at o = by (first_in text_place files) (first_in link_place rs) refl refl e o.holds
     where
-      by : (p : Option (ℕ × ℕ)) → first_in text_place files ≡ p → either p (first_in link_place rs) ≡ None
-          → IsMisplaced files at o.file → ⊥
-      by (Some p) q s m = none-some p (sym s)
-      by None q s (inl m) = none-some at (sym (no_item text_place files q k o.file o.is) ∙ m)
-      by None q s (inr m) =
-          let r = at_resolved (λ x. link_place x ≡ Some at) k o.file o.is m in
-          none-some at (sym (no_item link_place rs s k r.0 r.1) ∙ r.2)
+      in_names : first_in link_place rs ≡ None → first_in state_place rs ≡ None → (r : ResolvedFileTree)
+          → slice_get rs k ≡ Some r → IsPlace at r → ⊥
+      in_names p q r is (inl h) = none-some at (sym (no_item link_place rs p k r is) ∙ h)
+      in_names p q r is (inr h) = none-some at (sym (no_item state_place rs q k r is) ∙ h)
+
+      by : (x y : Spot) → first_in text_place files ≡ x → first_in link_place rs ≡ y
+          → either x (either y (first_in state_place rs)) ≡ None → IsMisplaced files at o.file → ⊥
+      by (Some z) y q r s m = none-some z (sym s)
+      by None (Some z) q r s m = none-some z (sym s)
+      by None None q r s (inl m) = none-some at (sym (no_item text_place files q k o.file o.is) ∙ m)
+      by None None q r s (inr m) =
+          let x = at_resolved (IsPlace at) k o.file o.is m in in_names r s x.0 x.1 x.2

@@ -1,5 +1,6 @@
 -- Faults kind by kind.
 use Rattle.std.proofs.Common.{◌≡◌, ◌<◌, ◌+◌, ◌⊎◌, inl, inr, ℕ, zero, suc, List, Some, None, refl, ap, arith}
+use Rattle.std.specs.Prelude.{Result, Ok, Err, IfErr, OnOk}
 use Rattle.bicep_program.specs.Program.{ProgramFile}
 use Rattle.bicep_arguments.specs.declared.fault.ArgumentFault.{ArgumentFault}
 use Rattle.bicep_arguments.specs.declared.fault.ArgumentFault.TheVariants as argument
@@ -7,9 +8,10 @@ use Rattle.resolved_program.specs.Programs.{ResolvedFileTree, IsResolved}
 use Rattle.resolved_program.specs.Faults.{first_in, twice_of, IsFirst as IsFirstName}
 use Rattle.resolved_program.specs.declared.fault.ResolveFault.{ResolveFault}
 use Rattle.resolved_program.specs.declared.fault.ResolveFault.TheVariants as name
-use Rattle.bicep_checks.specs.Faults.{HasFault, decorator_in, text_place, link_place, either, argument_fault}
+use Rattle.bicep_checks.specs.Faults.{HasFault, decorator_in, text_place, link_place, state_place, either}
+use Rattle.bicep_checks.specs.Faults.{argument_fault}
 use Rattle.bicep_checks.specs.Order.{rank, HasNone, IsFirst, IsAnswer}
-use Rattle.bicep_checks.specs.Steps.{AreFree, IsCircleIn, as_argument, as_name}
+use Rattle.bicep_checks.specs.Steps.{AreFree, IsCircleFault, as_argument, as_name}
 use Rattle.bicep_checks.specs.declared.fault.CheckFault.{CheckFault}
 use Rattle.bicep_checks.specs.declared.fault.CheckFault.TheVariants as fault
 use Rattle.bicep_checks.proofs.FaultLemmas.{of_file, of_none, none_unknown, of_unknown, of_circle, none_circle}
@@ -79,13 +81,30 @@ module _ (files : List ProgramFile) where
   none_circle_of rs e free (fault.ExtraModuleParameter k at) r h = absurd (omega (arith, r))
   none_circle_of rs e free fault.OutOfMemory r h = h
 
-  pub circles_none : (rs : List ResolvedFileTree) → IsResolved files rs → HasNone 2 files → AreFree rs
+  circles_none : (rs : List ResolvedFileTree) → IsResolved files rs → HasNone 2 files → AreFree rs
       → HasNone 3 files
   circles_none rs h before free = more 2 before (none_circle_of rs h free)
 
-  pub circle_first : (rs : List ResolvedFileTree) → IsResolved files rs → HasNone 2 files → (k : ℕ)
-      (names : List (List ℕ)) → IsCircleIn rs k names → IsFirst files (fault.SymbolCycle k names)
-  circle_first rs h before k names c = (of_circle files rs h k names c, before)
+  circle_first : (rs : List ResolvedFileTree) → IsResolved files rs → HasNone 2 files → (x : CheckFault)
+      → IsCircleFault rs x → IsAnswer files x
+  circle_first rs h before (fault.SymbolCycle k names) c = (of_circle files rs h k names c, before)
+  circle_first rs h before fault.OutOfMemory c = tt
+  circle_first rs h before (fault.NameTwice k at) c = absurd c
+  circle_first rs h before (fault.UnknownName k at) c = absurd c
+  circle_first rs h before (fault.BadDecorator k at) c = absurd c
+  circle_first rs h before (fault.BadForPlace k at) c = absurd c
+  circle_first rs h before (fault.MissingModuleParameter k at) c = absurd c
+  circle_first rs h before (fault.ExtraModuleParameter k at) c = absurd c
+
+  pub circle_answer : {A : Type 0} (rs : List ResolvedFileTree) → IsResolved files rs → HasNone 2 files
+      → (r : Result A CheckFault) → IfErr r (IsCircleFault rs) → IfErr r (IsAnswer files)
+  circle_answer rs h before (Ok x) c = tt
+  circle_answer rs h before (Err x) c = circle_first rs h before x c
+
+  pub circles_pass : {A : Type 0} (rs : List ResolvedFileTree) → IsResolved files rs → HasNone 2 files
+      → (r : Result A CheckFault) → OnOk r (AreFree rs) → OnOk r (HasNone 3 files)
+  circles_pass rs h before (Ok x) free = circles_none rs h before free
+  circles_pass rs h before (Err x) free = tt
 
   -- ---- decorators
 
@@ -109,7 +128,7 @@ module _ (files : List ProgramFile) where
   -- ---- places
 
   none_place_of : (rs : List ResolvedFileTree) → IsResolved files rs
-      → either (first_in text_place files) (first_in link_place rs) ≡ None → NoneOf 4
+      → either (first_in text_place files) (either (first_in link_place rs) (first_in state_place rs)) ≡ None → NoneOf 4
   none_place_of rs m e (fault.NameTwice k at) r h = absurd (omega (arith, r))
   none_place_of rs m e (fault.UnknownName k at) r h = absurd (omega (arith, r))
   none_place_of rs m e (fault.SymbolCycle k names) r h = absurd (omega (arith, r))
@@ -120,11 +139,11 @@ module _ (files : List ProgramFile) where
   none_place_of rs m e fault.OutOfMemory r h = h
 
   pub places_none : (rs : List ResolvedFileTree) → IsResolved files rs → HasNone 4 files
-      → either (first_in text_place files) (first_in link_place rs) ≡ None → HasNone 5 files
+      → either (first_in text_place files) (either (first_in link_place rs) (first_in state_place rs)) ≡ None → HasNone 5 files
   places_none rs h before e = more 4 before (none_place_of rs h e)
 
   pub place_first : (rs : List ResolvedFileTree) → IsResolved files rs → HasNone 4 files → (k at : ℕ)
-      → either (first_in text_place files) (first_in link_place rs) ≡ Some (k, at)
+      → either (first_in text_place files) (either (first_in link_place rs) (first_in state_place rs)) ≡ Some (k, at)
       → IsFirst files (fault.BadForPlace k at)
   place_first rs h before k at e = (of_place files rs h k at e, before)
 

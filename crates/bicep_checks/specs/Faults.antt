@@ -8,6 +8,7 @@ use Rattle.bicep_type_texts.specs.Files.{bad_type}
 use Rattle.bicep_found.specs.Found.{found}
 use Rattle.bicep_placed.specs.Files.{misplaced_link}
 use Rattle.bicep_circles.specs.Links.{links}
+use Rattle.bicep_mentions.specs.Entries.{misplaced_variable}
 use Rattle.bicep_program.specs.Circles.{IsCircle, Links}
 use Rattle.bicep_program.specs.Program.{ProgramFile}
 use Rattle.bicep_arguments.specs.Arguments.{bad_argument}
@@ -59,6 +60,10 @@ text_place f = or_else (misplaced f.tree) (bad_type f.tree)
 abbrev pub link_place : ResolvedFileTree → Option ℕ
 link_place r = misplaced_link (kinds_of r) r.declared.declarations
 
+-- the first variable that reads state and is a for-expression
+abbrev pub state_place : ResolvedFileTree → Option ℕ
+state_place r = misplaced_variable (kinds_of r) r.declared.declarations
+
 abbrev pub Spot : Type 0
 Spot = Option (ℕ × ℕ)
 
@@ -67,9 +72,11 @@ abbrev pub either : Spot → Spot → Spot
 either (Some p) o = Some p
 either None o = o
 
+-- what begins there in the file is misplaced
 abbrev pub IsMisplaced : List ProgramFile → ℕ → ProgramFile → Type 0
 IsMisplaced files at f =
-    (text_place f ≡ Some at) ⊎ OfResolved files (λ r. link_place r ≡ Some at) f
+    (text_place f ≡ Some at)
+    ⊎ OfResolved files (λ r. (link_place r ≡ Some at) ⊎ (state_place r ≡ Some at)) f
 
 -- ---- the arguments of modules
 
@@ -89,9 +96,13 @@ symbol_text (Some s) = s.1
 abbrev pub name_at : List Symbol → ℕ → List ℕ
 name_at ss n = symbol_text (slice_get ss n)
 
+-- for each symbol of a file those that its declaration mentions
+abbrev pub links_of : ResolvedFileTree → List (List ℕ)
+links_of r = links (kinds_of r) r.declared.declarations
+
 -- the declaration of the symbol of the first number mentions that of the second
 abbrev pub Mentions : ResolvedFileTree → ℕ → ℕ → Type 0
-Mentions r = Links (links (kinds_of r) r.declared.declarations)
+Mentions r = Links (links_of r)
 
 -- the first is the least
 abbrev pub IsLeastFirst : List ℕ → Type 0

@@ -68,18 +68,22 @@ fn first_link_place(
     Ok(None)
 }
 
-// The first thing that is misplaced.
+// The first thing that is misplaced. `state_place` is the first variable that reads state and is a for-expression.
 fn first_place(
     alloc: Global,
     files: &[SourceFile],
     resolved: &[ResolvedFile],
+    state_place: Option<(usize, usize)>,
 ) -> Result<Option<(usize, usize)>, OutOfMemory>
     ensures { IfOk result (λ o. o ≡ spec.either (first_in spec.text_place (map program_file files.now))
-        (first_in spec.link_place (map file_view resolved.now))) }
+        (spec.either (first_in spec.link_place (map file_view resolved.now)) state_place)) }
 {
     match first_text_place(alloc, files)? {
         Some(place) => Ok(Some(place)),
-        None => first_link_place(alloc, resolved),
+        None => match first_link_place(alloc, resolved)? {
+            Some(place) => Ok(Some(place)),
+            None => Ok(state_place),
+        },
     }
 }
 
@@ -88,12 +92,14 @@ pub(crate) fn check_places(
     alloc: Global,
     files: &[SourceFile],
     resolved: &[ResolvedFile],
+    state_place: Option<(usize, usize)>,
 ) -> Result<(), CheckFault>
     requires before { HasNone 4 (map program_file files.now) }
     requires resolved { IsResolved (map program_file files.now) (map file_view resolved.now) }
+    requires state { state_place ≡ first_in spec.state_place (map file_view resolved.now) }
     ensures { Passes 5 (map program_file files.now) result }
 {
-    match first_place(alloc, files, resolved) {
+    match first_place(alloc, files, resolved, state_place) {
         Ok(Some((number, at))) => Err(CheckFault::BadForPlace(number, at)),
         Ok(None) => Ok(()),
         Err(_) => Err(CheckFault::OutOfMemory),

@@ -46,15 +46,15 @@ fn check_files(
     requires resolved { IsResolved (map program_file files.now) (map file_view resolved.now) }
     ensures { Passes 6 (map program_file files.now) result }
 {
-    match check_circles(alloc, resolved) {
-        Ok(()) => {}
+    let state_place = match check_circles(alloc, resolved) {
+        Ok(place) => place,
         Err(fault) => return Err(fault),
-    }
+    };
     match check_decorators(files) {
         Ok(()) => {}
         Err(fault) => return Err(fault),
     }
-    match check_places(alloc, files, resolved) {
+    match check_places(alloc, files, resolved, state_place) {
         Ok(()) => {}
         Err(fault) => return Err(fault),
     }

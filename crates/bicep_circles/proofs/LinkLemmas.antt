@@ -103,7 +103,7 @@ source_within [] x y (k, within, here) = absurd (omega (arith, within))
 source_within (l ∷ lists) zero y c = omega arith
 source_within (l ∷ lists) (suc x) y c = let h = source_within lists x y c in omega (arith, h)
 
-first_within : (lists : List (List ℕ)) (x : ℕ) (xs : List ℕ) (end : ℕ) → Chain (Links lists) (x ∷ xs) end
+pub first_within : (lists : List (List ℕ)) (x : ℕ) (xs : List ℕ) (end : ℕ) → Chain (Links lists) (x ∷ xs) end
     → x < length lists
 first_within lists x [] end c = source_within lists x end c
 first_within lists x (y ∷ xs) end c = source_within lists x y c.0

@@ -1,3 +1,4 @@
 pub mod Mentions
 pub mod Links
 pub mod Nodes
+pub mod Orders

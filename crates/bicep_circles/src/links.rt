@@ -25,9 +25,14 @@ fn push_mentions(
     Ok(())
 }
 
-/// For each symbol those that its declaration mentions.
+/// For each symbol those that its declaration mentions, and the resource in which it is nested, once for each place.
+/// The declarations have these symbols.
+///
+/// # Errors
+///
+/// `OutOfMemory`.
 #[tactic(auto, using(crate::proofs::Appends::appends))]
-pub(crate) fn links(
+pub fn symbol_links(
     alloc: Global,
     entries: &[Entry],
     declarations: &[Declared],

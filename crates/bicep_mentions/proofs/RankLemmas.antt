@@ -9,6 +9,7 @@ use Rattle.bicep_program.specs.Circles.{Links}
 use Rattle.bicep_declared.specs.Declarations.{DeclaredTree}
 use Rattle.bicep_circles.specs.Mentions.{declared_mentions}
 use Rattle.bicep_circles.specs.Links.{parent_mentions, mentioned, links}
+use Rattle.bicep_circles.proofs.FillLemmas.{by_order}
 use Rattle.bicep_mentions.specs.States.{StateReads}
 use Rattle.bicep_mentions.specs.Agreement.{AgreeAt}
 use Rattle.bicep_mentions.specs.Entries.{declaration_at, own_by, whole_by, state_step, reads_within, state_reads}
@@ -49,16 +50,6 @@ all_contained P (m ∷ ms) f = (
   f m (zero, omega arith, refl),
   all_contained P ms (λ x c. let within = c.1 in f x (suc c.0, omega (arith, within), c.2)),
 )
-
-pub by_order : (m n : ℕ) → (m < n) ⊎ (n ≤ m)
-by_order zero zero = inr (omega arith)
-by_order zero (suc n) = inl (omega arith)
-by_order (suc m) zero = inr (omega arith)
-by_order (suc m) (suc n) = by (by_order m n)
-  where
-    by : (m < n) ⊎ (n ≤ m) → (suc m < suc n) ⊎ (suc n ≤ suc m)
-    by (inl h) = inl (omega (arith, h))
-    by (inr h) = inr (omega (arith, h))
 
 module _ (xs : List Kind) (ds : List DeclaredTree) where
   -- what is no symbol reads no state

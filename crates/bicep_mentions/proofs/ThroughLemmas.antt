@@ -10,7 +10,8 @@ use Rattle.bicep_circles.specs.Links.{links}
 use Rattle.bicep_mentions.specs.Entries.{is_variable}
 use Rattle.bicep_mentions.specs.Through.{leads_to, mentioning_step, mentioning_within, mentioning}
 use Rattle.bicep_mentions.proofs.AgreeLemmas.{both-or}
-use Rattle.bicep_mentions.proofs.RankLemmas.{IsRanked, by_order}
+use Rattle.bicep_circles.proofs.FillLemmas.{by_order}
+use Rattle.bicep_mentions.proofs.RankLemmas.{IsRanked}
 
 any-same : (f g : ℕ → Bool) (ms : List ℕ) → ((m : ℕ) → Contains ms m → f m ≡ g m) → list_any f ms ≡ list_any g ms
 any-same f g [] h = refl
@@ -24,13 +25,15 @@ none_at [] k h = refl
 none_at (l ∷ lists) zero h = absurd (omega (arith, h))
 none_at (l ∷ lists) (suc k) h = none_at lists k (omega (arith, h))
 
-module _ (xs : List Kind) (ds : List DeclaredTree) (rank : ℕ → ℕ) (ranked : IsRanked xs ds rank) where
-  nothing : (limit k n : ℕ) → length (links xs ds) ≤ k → mentioning_within xs ds limit k n ≡ false
-  unfolding mentioning_within
-  nothing zero k n h = refl
-  nothing (suc limit) k n h =
-      ap (list_any (leads_to ds (mentioning_within xs ds limit) n)) (none_at (links xs ds) k h)
+-- a number that is no symbol's mentions nothing
+pub nothing : (xs : List Kind) (ds : List DeclaredTree) (limit k n : ℕ) → length (links xs ds) ≤ k
+    → mentioning_within xs ds limit k n ≡ false
+unfolding mentioning_within
+nothing xs ds zero k n h = refl
+nothing xs ds (suc limit) k n h =
+    ap (list_any (leads_to ds (mentioning_within xs ds limit) n)) (none_at (links xs ds) k h)
 
+module _ (xs : List Kind) (ds : List DeclaredTree) (rank : ℕ → ℕ) (ranked : IsRanked xs ds rank) where
   -- what is mentioned stays, where symbols of lower rank do
   mentioned_stays : (limit k n : ℕ) → rank k < suc limit
       → ((m : ℕ) → m < length (links xs ds) → rank m < limit
@@ -39,7 +42,8 @@ module _ (xs : List Kind) (ds : List DeclaredTree) (rank : ℕ → ℕ) (ranked 
       → mentioning_within xs ds limit m n ≡ mentioning_within xs ds (suc limit) m n
   mentioned_stays limit k n h before m c (inl here) =
       let low = ranked.falls k m c here in before m here (omega (arith, h, low))
-  mentioned_stays limit k n h before m c (inr far) = nothing limit m n far ∙ sym (nothing (suc limit) m n far)
+  mentioned_stays limit k n h before m c (inr far) =
+      nothing xs ds limit m n far ∙ sym (nothing xs ds (suc limit) m n far)
 
   stays : (limit k n : ℕ) → k < length (links xs ds) → rank k < limit
       → mentioning_within xs ds limit k n ≡ mentioning_within xs ds (suc limit) k n
@@ -54,7 +58,8 @@ module _ (xs : List Kind) (ds : List DeclaredTree) (rank : ℕ → ℕ) (ranked 
   settled_by : (k n : ℕ) → (k < length (links xs ds)) ⊎ (length (links xs ds) ≤ k)
       → mentioning_within xs ds (length ds) k n ≡ mentioning_within xs ds (suc (length ds)) k n
   settled_by k n (inl here) = stays (length ds) k n here (ranked.few k here)
-  settled_by k n (inr far) = nothing (length ds) k n far ∙ sym (nothing (suc (length ds)) k n far)
+  settled_by k n (inr far) =
+      nothing xs ds (length ds) k n far ∙ sym (nothing xs ds (suc (length ds)) k n far)
 
   pub is_closed : (k n : ℕ) → mentioning xs ds k n ≡ mentioning_step xs ds (mentioning xs ds) k n
   unfolding mentioning_within

@@ -2,5 +2,4 @@ pub mod States
 pub mod Names
 pub mod Entries
 pub mod Through
-pub mod Orders
 pub mod Agreement

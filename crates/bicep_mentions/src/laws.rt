@@ -3,7 +3,7 @@ ghost use Rattle.std.specs.Prelude.{◌≡◌, ℕ, List};
 ghost use Rattle.bicep_names.specs.declared.kind.Kind.{Kind};
 ghost use Rattle.bicep_declared.specs.Declarations.{DeclaredTree};
 ghost use Rattle.bicep_circles.specs.Links.{links};
-ghost use Rattle.bicep_mentions.specs.Orders.{IsLinkOrder};
+ghost use Rattle.bicep_circles.specs.Orders.{IsLinkOrder};
 ghost use Rattle.bicep_mentions.specs.Entries.{state_reads, state_step};
 ghost use Rattle.bicep_mentions.specs.Through.{mentioning, mentioning_step};
 ghost use Rattle.bicep_mentions.specs.Agreement.{IsKnown};

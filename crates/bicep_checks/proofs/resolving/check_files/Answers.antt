@@ -6,12 +6,12 @@ use Rattle.bicep_checks.proofs.resolving.check_files.Goals as goal
 
 pub returns-in-Err : goal.returns-in-Err
 returns-in-Err c =
-    c.in-Err.ensures (map program_file c.args.files.now) c.requires.resolved
+    c.in-Err.ensures.fault (map program_file c.args.files.now) c.requires.resolved
     (names_none (map program_file c.args.files.now) (map file_view c.args.resolved.now) c.requires.once
     c.requires.resolved)
 
 pub check_decorators-requires : goal.check_decorators-requires
 check_decorators-requires c =
-    c.in-Ok.ensures (map program_file c.args.files.now) c.requires.resolved
+    c.in-Ok.ensures.free (map program_file c.args.files.now) c.requires.resolved
     (names_none (map program_file c.args.files.now) (map file_view c.args.resolved.now) c.requires.once
     c.requires.resolved)

@@ -1,7 +1,7 @@
 use Rattle.std.proofs.Common.{◌≡◌, drop, length, map}
 use Rattle.bicep_program.specs.Graphs.{with_links, unlinked}
 use Rattle.bicep_circles.proofs.LinkLemmas.{items_of}
-use Rattle.bicep_circles.proofs.cycles.graph_of.Given as goal
+use Rattle.bicep_circles.proofs.graph.graph_of.Given as goal
 
 abbrev pub invariant-loop-node : goal.invariant-loop-node
 invariant-loop-node l = record {

@@ -1,7 +1,7 @@
 use Rattle.std.proofs.Common.{◌<◌, length, sym, subst}
 use Rattle.std.specs.List.{AllByRecursion}
 use Rattle.bicep_circles.proofs.LinkLemmas.{within_at}
-use Rattle.bicep_circles.proofs.cycles.graph_of.Goals as goal
+use Rattle.bicep_circles.proofs.graph.graph_of.Goals as goal
 
 pub add_needs-requires-clause-are_nodes : goal.add_needs-requires-clause-are_nodes
 add_needs-requires-clause-are_nodes c =

@@ -1,6 +1,6 @@
 use Rattle.std.proofs.Common.{◌≡◌, drop, length}
 use Rattle.bicep_program.specs.Graphs.{with_needs}
-use Rattle.bicep_circles.proofs.cycles.add_needs.Given as goal
+use Rattle.bicep_circles.proofs.graph.add_needs.Given as goal
 
 abbrev pub invariant-loop-need : goal.invariant-loop-need
 invariant-loop-need l = record {

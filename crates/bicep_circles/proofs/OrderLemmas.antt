@@ -1,0 +1,73 @@
+-- Orders of the graph of lists are orders of the lists.
+use Rattle.std.proofs.Common.{◌≡◌, ◌+◌, ◌⊎◌, inl, inr, ℕ, Bool, true, false, true≢false, List, []}
+use Rattle.std.proofs.Common.{◌∷◌, length, get_or, refl, sym, ap, subst, ◌∙◌, arith}
+use Rattle.std.specs.Prelude.{Result, Ok, Err, IfOk}
+use Rattle.depend_graph.specs.Shape.{Shape, Needs, is_done, with_edge}
+use Rattle.depend_graph.specs.Orders.{IsOrder, IsSorted, IsAmong}
+use Rattle.depend_graph.specs.declared.order.Sorted.{Sorted}
+use Rattle.depend_graph.specs.declared.order.Sorted.TheVariants as sorted
+use Rattle.depend_graph.proofs.Keeping.{get_or-replicate, length-replicate}
+use Rattle.bicep_program.specs.Circles.{Links}
+use Rattle.bicep_program.specs.Graphs.{with_needs, with_links, unlinked}
+use Rattle.bicep_program.proofs.FileLemmas.{length-map}
+use Rattle.bicep_program.proofs.GraphLemmas.{graph_of_lists, links_to, size_needs, circle_from}
+use Rattle.bicep_circles.specs.Nodes.{below, all_below}
+use Rattle.bicep_circles.specs.Orders.{IsLinkOrder, AreSorted}
+use Rattle.bicep_circles.proofs.LinkLemmas.{circle_was, link_left}
+
+size_links : (g : Shape) (node : ℕ) (lists : List (List ℕ)) → length (with_links g node lists).needs ≡ length g.needs
+size_links g node [] = refl
+size_links g node (l ∷ lists) = size_links (with_needs g node l) (node + 1) lists ∙ size_needs g node l
+
+done_needs : (g : Shape) (a : ℕ) (bs : List ℕ) → (with_needs g a bs).done ≡ g.done
+done_needs g a [] = refl
+done_needs g a (b ∷ bs) = done_needs (with_edge g a b) a bs
+
+done_links : (g : Shape) (node : ℕ) (lists : List (List ℕ)) → (with_links g node lists).done ≡ g.done
+done_links g node [] = refl
+done_links g node (l ∷ lists) = done_links (with_needs g node l) (node + 1) lists ∙ done_needs g node l
+
+size_of_graph : (lists : List (List ℕ)) → length (graph_of_lists lists).needs ≡ length lists
+unfolding graph_of_lists
+size_of_graph lists = size_links (unlinked (length lists)) 0 lists ∙ length-replicate {A = List ℕ} (length lists) []
+
+none_done : (lists : List (List ℕ)) (u : ℕ) → is_done (graph_of_lists lists) u ≡ false
+unfolding graph_of_lists
+none_done lists u = ap (λ d. get_or d u false) (done_links (unlinked (length lists)) 0 lists)
+    ∙ get_or-replicate {A = Bool} (length lists) u false
+
+need_of_link : (lists : List (List ℕ)) (u v : ℕ) → Links lists u v → Needs (graph_of_lists lists) u v
+unfolding graph_of_lists
+need_of_link lists u v c = let e : 0 + u ≡ u = omega arith in
+    rw e at (links_to (unlinked (length lists)) 0 lists u v (rw length-replicate (omega arith)) c)
+
+-- what is done or among these is among these, since nothing is done
+among : (lists : List (List ℕ)) (order : List ℕ) (count u : ℕ)
+    → (is_done (graph_of_lists lists) u ≡ true) ⊎ IsAmong order count u → IsAmong order count u
+among lists order count u (inl e) = absurd (true≢false (sym e ∙ none_done lists u))
+among lists order count u (inr p) = p
+
+order_is : (lists : List (List ℕ)) (order : List ℕ) → IsOrder (graph_of_lists (all_below lists)) order
+    → IsLinkOrder lists order
+order_is lists order o = record {
+  few = omega (arith, size, o.few);
+  nodes = λ i h. let node = o.nodes i h in omega (arith, size, node);
+  in_turn = λ i m h c w.
+      among (all_below lists) order i m
+      (o.in_turn i m h (need_of_link (all_below lists) _ m (link_left (length lists) lists _ m w c)));
+  all = λ u h. among (all_below lists) order (length order) u (o.all u (omega (arith, size, h)));
+}
+  where
+    size : length (graph_of_lists (all_below lists)).needs ≡ length lists
+    size = size_of_graph (all_below lists) ∙ length-map (below (length lists)) lists
+
+sorted_is : (lists : List (List ℕ)) (s : Sorted) → IsSorted (graph_of_lists (all_below lists)) s → AreSorted lists s
+sorted_is lists (sorted.Order xs) h = order_is lists xs.items h
+sorted_is lists (sorted.Circle xs) h =
+    (circle_was lists xs.items (circle_from (all_below lists) xs.items h.0), h.1)
+
+pub all_sorted : {E : Type 0} (r : Result Sorted E) (g : Shape) (now lists : List (List ℕ)) → now ≡ all_below lists
+    → g ≡ graph_of_lists now → IfOk r (IsSorted g) → IfOk r (AreSorted lists)
+all_sorted (Ok s) g now lists e f h =
+    sorted_is lists s (subst (λ ls. IsSorted (graph_of_lists ls) s) e (subst (λ x. IsSorted x s) f h))
+all_sorted (Err x) g now lists e f h = h

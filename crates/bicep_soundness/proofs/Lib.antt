@@ -1,0 +1,14 @@
+pub mod GivesLemmas
+pub mod PlainLemmas
+pub mod UnionLemmas
+pub mod TableLemmas
+pub mod CommonLemmas
+pub mod WayLemmas
+pub mod TypedLemmas
+pub mod ReadLemmas
+pub mod OperatorLemmas
+pub mod SoundLemmas
+pub mod VariableLemmas
+pub mod SuitedLemmas
+pub mod LawLemmas
+pub mod CallableLemmas

@@ -1,0 +1,4 @@
+pub mod AgreeLemmas
+pub mod ListLemmas
+pub mod SettleLemmas
+pub mod AlongLemmas

@@ -1,0 +1,3 @@
+pub mod SymbolTypes
+pub mod Along
+pub mod Outputs

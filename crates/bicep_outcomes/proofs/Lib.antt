@@ -1,0 +1,4 @@
+pub mod OutcomeLemmas
+pub mod ListLemmas
+pub mod CallLemmas
+pub mod AccessLemmas

@@ -1,0 +1,10 @@
+use Rattle.std.proofs.Common.{◌≡◌, ◌++◌, drop, map, option_map}
+use Rattle.arm_value.specs.View.{json}
+use Rattle.function_texts.specs.Cuts.{texts_in}
+use Rattle.bicep_outcomes.proofs.calls.texts_in.Given as goal
+
+-- the texts so far, and those of the values that are left
+abbrev pub invariant-loop-arg : goal.invariant-loop-arg
+invariant-loop-arg l =
+    option_map (λ ts. l.texts ++ ts) (texts_in (map json (drop l.arg-index l.args)))
+    ≡ texts_in (map json l.args)

@@ -1,0 +1,14 @@
+pub mod SeenLemmas
+pub mod AlikeLemmas
+pub mod KeptLemmas
+pub mod AccessLemmas
+pub mod MadeLemmas
+pub mod FormatLemmas
+pub mod CallLemmas
+pub mod OperatorLemmas
+pub mod BinaryLemmas
+pub mod StateLemmas
+pub mod ListLemmas
+pub mod NamedCallLemmas
+pub mod OutputLemmas
+pub mod ExpressionLemmas

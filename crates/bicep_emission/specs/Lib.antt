@@ -1,0 +1,7 @@
+pub mod Alike
+pub mod Texts
+pub mod Emitted
+pub mod Emittable
+pub mod Answered
+pub mod Stands
+pub mod Made

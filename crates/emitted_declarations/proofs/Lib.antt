@@ -1,0 +1,5 @@
+pub mod SplitLemmas
+pub mod NameLemmas
+pub mod PartLemmas
+pub mod IdLemmas
+pub mod ChildLemmas

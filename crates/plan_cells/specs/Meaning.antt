@@ -1,6 +1,6 @@
 -- What the value of each cell of a template is, by the cells that are read for it.
 use Rattle.std.specs.Prelude.{ℕ, pos, not, Bool, true, false, List, [], ◌∷◌, ◌++◌, Option, Some, None, bytes_eq, codes}
-use Rattle.std.specs.Prelude.{is_some, is_none, option_map, option_and_then, if◌then◌else◌}
+use Rattle.std.specs.Prelude.{nat_lt, is_some, is_none, option_map, option_and_then, if◌then◌else◌}
 use Rattle.arm_value.specs.Json.{Json, bool, int, text, object, pairs}
 use Rattle.arm_value.specs.Look.{fold}
 use Rattle.arm_value.specs.View.{json}
@@ -8,7 +8,7 @@ use Rattle.arm_ids.specs.declared.id.Place.{Place}
 use Rattle.arm_env.specs.Look.{Looking, Surroundings}
 use Rattle.arm_eval.specs.Trees.{tree_value, copied, count_of}
 use Rattle.arm_eval.specs.Outputs as outputs
-use Rattle.reading.specs.Reading.{done, pure, read, continued}
+use Rattle.reading.specs.Reading.{done, ask, pure, read, continued}
 use Rattle.template_parts.specs.declared.content.Argument.{Argument}
 use Rattle.template_parts.specs.declared.content.Content.{Content}
 use Rattle.template_parts.specs.declared.content.Content.TheVariants.{Value, Copy}
@@ -20,7 +20,7 @@ use Rattle.template_parameters.specs.Binding.{BoundMeaning, is_known, is_default
 use Rattle.template_parameters.specs.Rule.{breach, is_of, is_bool}
 use Rattle.template_tree.specs.Tree.{TemplateTree}
 use Rattle.deploy_cells.specs.Cells.{Step, step, Position, Cell, parameter, variable, offered, output, count, included}
-use Rattle.deploy_cells.specs.Cells.{name, deployments, state}
+use Rattle.deploy_cells.specs.Cells.{name, deployments, state, copies}
 use Rattle.deploy_cells.specs.Guarded.{Reads, Meaning, there_if, itself, guarded}
 use Rattle.deploy_cells.specs.Listing.{listing_value}
 use Rattle.deploy_cells.specs.Puts.{Bodies, key_formed}
@@ -109,10 +109,17 @@ module _ (d : Deployment) where
   name_under (text up) (text n) = text (up ++ 47 ∷ n)
   name_under _ j = j
 
+  -- the name of a child, where its parent has an instance
+  abbrev pub under_instance : Bool → Position → ℕ → Reads Json → Reads Json
+  under_instance false p n r = done None
+  under_instance true p n r =
+      continued (read (name p (step n 0))) (λ up. continued r (λ j. pure (name_under up j)))
+
   abbrev pub under_parent : Position → Option Above → Reads Json → Reads Json
   under_parent p None r = r
   under_parent p (Some a) r =
-      continued (read (name p (step a.number 0))) (λ up. continued r (λ j. pure (name_under up j)))
+      if is_some (resource_of d.template p a.number)
+      then ask (count p a.number) (λ v. under_instance (nat_lt 0 (copies v)) p a.number r) else done None
 
   abbrev pub name_value : Position → Step → Listed → Reads Json
   name_value p s r =

@@ -1,0 +1,4 @@
+pub mod SpelledLemmas
+pub mod GatherLemmas
+pub mod AroundLemmas
+pub mod LookLemmas

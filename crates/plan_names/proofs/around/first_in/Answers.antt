@@ -1,0 +1,21 @@
+use Rattle.std.proofs.Common.{sym, ap, ◌∙◌, map}
+use Rattle.std.proofs.lemmas.Result.{IfOk-weaker}
+use Rattle.arm_value.specs.View.{json}
+use Rattle.deploy_cells.specs.Listing.{named_of}
+use Rattle.plan_cells.specs.Sites.{first_name, deployment_type}
+use Rattle.plan_listing.proofs.HitLemmas.{items_there, items_nowhere}
+use Rattle.plan_names.specs.Named.{is_spelled}
+use Rattle.plan_names.proofs.around.first_in.Goals as goal
+
+pub returns-in-Some : goal.returns-in-Some
+returns-in-Some c =
+    let j = json c.args.instances.now in
+    IfOk-weaker c.first_of.result _ _
+    (λ o e. e ∙ ap (λ js. first_name (is_spelled c.args.text.now deployment_type) (map named_of js))
+    (c.as_slice.ensures.items ∙ sym (items_there j c.in-Some.items.now c.in-Some.ensures))) c.first_of.ensures
+
+pub returns-in-None : goal.returns-in-None
+returns-in-None c =
+    let j = json c.args.instances.now in
+    ap (λ js. first_name (is_spelled c.args.text.now deployment_type) (map named_of js))
+    (sym (items_nowhere j c.in-None.ensures))

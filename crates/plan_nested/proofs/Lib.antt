@@ -1,0 +1,3 @@
+pub mod InvertLemmas
+pub mod SeekLemmas
+pub mod OutputLemmas

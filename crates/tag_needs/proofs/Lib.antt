@@ -1,0 +1,3 @@
+pub mod TagLemmas
+pub mod NumberLemmas
+pub mod PairLemmas

@@ -15,3 +15,5 @@ mod replying;
 mod serving;
 #[cfg(test)]
 mod showing;
+#[cfg(test)]
+mod writing;

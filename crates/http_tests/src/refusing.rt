@@ -1,6 +1,7 @@
 // Refusals, and which of two decides.
-use crate::asking::wrong_row;
-use crate::showing::read;
+use crate::asking::check_rows;
+use crate::showing::check_read;
+use crate::writing::add_row;
 use std::alloc::{AllocError, Global};
 use std::test::Fail;
 
@@ -60,98 +61,102 @@ POST ~@/resume?api-version=1 HTTP/1.1|content-length: 1|| => BadRequest
 
 #[test]
 fn the_first_refusal_in_the_order_decides(rt: HostRuntime) -> Result<(), Fail> {
-    let wrong = wrong_row(rt.alloc(), ROWS)?;
-    assert_eq!(rt; wrong.as_ref().map(|row| row.as_str()), None);
+    check_rows(rt.alloc(), ROWS)
+}
+
+// A head with these first fields, so many fields more and one that fills it up to a length, which comes in pieces of
+// this size, and what is answered.
+type Row = (&'static str, usize, usize, usize, &'static str);
+
+const CODED: &str = "transfer-encoding: chunked\r\n";
+
+const NO_NUMBER: &str = "content-length: 2x\r\n";
+
+static FIELDS: [Row; 6] = [
+    ("", 63, 0, 100, "ListGroups s"),
+    ("", 64, 0, 100, "HeadTooLarge"),
+    ("", 2_000, 0, 1, "HeadTooLarge"),
+    (CODED, 63, 0, 100, "HeadTooLarge"),
+    (CODED, 62, 0, 100, "LengthRequired"),
+    (NO_NUMBER, 63, 0, 100, "BadRequest"),
+];
+
+static LENGTHS: [Row; 4] = [
+    ("", 0, 16_384, 1, "ListGroups s"),
+    ("", 0, 16_385, 1, "HeadTooLarge"),
+    ("", 0, 16_384, 5_000, "ListGroups s"),
+    ("", 0, 16_385, 5_000, "HeadTooLarge"),
+];
+
+// Adds so many times a part.
+fn add_times(bytes: &mut Vec<u8>, part: &[u8], times: usize) -> Result<(), AllocError> {
+    for _ in 0..times {
+        bytes.extend_from_slice(part)?;
+    }
     Ok(())
 }
 
-// What is read of a request with this field, this many fields more and one more, and with a head of this length at
-// least.
-fn read_fields(
-    alloc: Global,
-    first: &str,
-    fields: usize,
-    length: usize,
-    piece: usize,
-) -> Result<String, AllocError> {
-    let mut bytes = Vec::new(alloc);
-    bytes.extend_from_slice(b"GET /subscriptions/s/resourceGroups?api-version=1 HTTP/1.1\r\n")?;
+// Adds the start of a head, with these fields and so many more.
+fn add_front(bytes: &mut Vec<u8>, first: &str, fields: usize) -> Result<(), AllocError> {
+    add_row(
+        bytes,
+        "GET /subscriptions/s/resourceGroups?api-version=1 HTTP/1.1|",
+    )?;
     bytes.extend_from_slice(first.as_bytes())?;
-    for _ in 0..fields {
-        bytes.extend_from_slice(b"a: b\r\n")?;
+    add_times(bytes, b"a: b\r\n", fields)
+}
+
+// Adds the head of a row.
+fn add_head(bytes: &mut Vec<u8>, row: &Row) -> Result<(), AllocError> {
+    let (first, fields, length, _, _) = *row;
+    add_front(bytes, first, fields)?;
+    let filling = length.saturating_sub(7).saturating_sub(bytes.len());
+    add_row(bytes, "x: ")?;
+    add_times(bytes, b"x", filling)?;
+    add_row(bytes, "||")
+}
+
+fn check_head(alloc: Global, row: &Row) -> Result<(), Fail> {
+    let (_, _, _, piece, wanted) = *row;
+    let mut bytes = Vec::new(alloc);
+    add_head(&mut bytes, row)?;
+    check_read(alloc, "a head", (bytes.as_slice(), &[piece], &[]), wanted)
+}
+
+fn check_heads(alloc: Global, rows: &[Row]) -> Result<(), Fail> {
+    for row in rows {
+        check_head(alloc, row)?;
     }
-    bytes.extend_from_slice(b"x: ")?;
-    for _ in bytes.len()..length.saturating_sub(4) {
-        bytes.push(b'x')?;
-    }
-    bytes.extend_from_slice(b"\r\n\r\n")?;
-    read(alloc, bytes.as_slice(), piece)
+    Ok(())
 }
 
 #[test]
 fn a_head_has_64_fields_at_most(rt: HostRuntime) -> Result<(), Fail> {
-    let alloc = rt.alloc();
-    assert_eq!(rt;
-        read_fields(alloc, "", 63, 0, 100)?.as_str(),
-        "ListGroups s"
-    );
-    assert_eq!(rt;
-        read_fields(alloc, "", 64, 0, 100)?.as_str(),
-        "HeadTooLarge"
-    );
-    assert_eq!(rt;
-        read_fields(alloc, "", 2_000, 0, 1)?.as_str(),
-        "HeadTooLarge"
-    );
-    let coded = "transfer-encoding: chunked\r\n";
-    assert_eq!(rt;
-        read_fields(alloc, coded, 63, 0, 100)?.as_str(),
-        "HeadTooLarge"
-    );
-    assert_eq!(rt;
-        read_fields(alloc, coded, 62, 0, 100)?.as_str(),
-        "LengthRequired"
-    );
-    let no_number = "content-length: 2x\r\n";
-    assert_eq!(rt;
-        read_fields(alloc, no_number, 63, 0, 100)?.as_str(),
-        "BadRequest"
-    );
-    Ok(())
+    check_heads(rt.alloc(), &FIELDS)
 }
 
 #[test]
 fn a_head_has_16384_bytes_at_most(rt: HostRuntime) -> Result<(), Fail> {
-    let alloc = rt.alloc();
-    assert_eq!(rt;
-        read_fields(alloc, "", 0, 16_384, 1)?.as_str(),
-        "ListGroups s"
-    );
-    assert_eq!(rt;
-        read_fields(alloc, "", 0, 16_385, 1)?.as_str(),
-        "HeadTooLarge"
-    );
-    assert_eq!(rt;
-        read_fields(alloc, "", 0, 16_384, 5_000)?.as_str(),
-        "ListGroups s"
-    );
-    assert_eq!(rt;
-        read_fields(alloc, "", 0, 16_385, 5_000)?.as_str(),
-        "HeadTooLarge"
-    );
-    Ok(())
+    check_heads(rt.alloc(), &LENGTHS)
+}
+
+// Two million brackets, as the body of a request.
+fn add_brackets(bytes: &mut Vec<u8>) -> Result<(), AllocError> {
+    add_row(
+        bytes,
+        "PUT ~?api-version=1 HTTP/1.1|content-length: 2000000||",
+    )?;
+    add_times(bytes, b"[[[[[[[[[[", 200_000)
 }
 
 #[test]
 fn a_body_of_2000000_brackets_is_a_bad_request(rt: HostRuntime) -> Result<(), Fail> {
-    let alloc = rt.alloc();
-    let head =
-        b"PUT /subscriptions/s/resourceGroups/g?api-version=1 HTTP/1.1\r\ncontent-length: 2000000\r\n\r\n";
-    let mut bytes = head.to_vec(alloc)?;
-    bytes.resize(head.len() + 2_000_000, b'[')?;
-    assert_eq!(rt;
-        read(alloc, bytes.as_slice(), 100_000)?.as_str(),
-        "BadRequest"
-    );
-    Ok(())
+    let mut bytes = Vec::new(rt.alloc());
+    add_brackets(&mut bytes)?;
+    check_read(
+        rt.alloc(),
+        "brackets",
+        (bytes.as_slice(), &[100_000], &[]),
+        "BadRequest",
+    )
 }

@@ -1,5 +1,5 @@
 // The bytes of replies.
-use crate::showing::text_of;
+use crate::writing::{compare, letting_go, text_of};
 use arm_edges::MemSink;
 use arm_value::Text;
 use deploy_http::{Code, Reply, WriteFault, write_reply};
@@ -20,46 +20,77 @@ fn no_group(alloc: Global) -> Result<Reply, AllocError> {
     Reply::refused(alloc, Code::ResourceGroupNotFound(Text::of(alloc, "x")?))
 }
 
+// A sink with room for the replies, which takes so many bytes at a time. The writes of these numbers fail.
+fn sink_of(alloc: Global, cuts: &[usize], fails: &[u64]) -> Result<MemSink, AllocError> {
+    let cuts = Vec::from_slice(alloc, cuts)?;
+    let fails = Vec::from_slice(alloc, fails)?;
+    MemSink::new(alloc, cuts, fails, 1_000)
+}
+
+// What a write is to answer, and what is written then.
+type Written<'a> = (Result<(), WriteFault>, &'a str);
+
+// Compares what a write of the reply answers, and the bytes that are written.
+fn check_written(
+    alloc: Global,
+    reply: &Reply,
+    close: bool,
+    sink: MemSink,
+    wanted: Written<'_>,
+) -> Result<(), Fail> {
+    let mut sink = sink;
+    let answer = write_reply(alloc, &mut sink, reply, close);
+    letting_go(check_both((answer, text_of(sink.as_slice())), wanted), sink)
+}
+
+fn check_both(found: Written<'_>, wanted: Written<'_>) -> Result<(), Fail> {
+    if found.0 != wanted.0 {
+        return Err(Fail::from("another answer"));
+    }
+    compare("the reply", found.1, wanted.1)
+}
+
+fn check_reply(alloc: Global, reply: &Reply, close: bool, wanted: &str) -> Result<(), Fail> {
+    let sink = sink_of(alloc, &[3], &[])?;
+    check_written(alloc, reply, close, sink, (Ok(()), wanted))
+}
+
 #[test]
 fn a_group_that_is_not_there(rt: HostRuntime) -> Result<(), Fail> {
-    let alloc = rt.alloc();
-    let mut sink = MemSink::new(alloc, [3].to_vec(alloc)?, Vec::new(alloc), 1_000)?;
-    let reply = no_group(alloc)?;
-    assert_eq!(rt; write_reply(alloc, &mut sink, &reply, false), Ok(()));
-    assert_eq!(rt; text_of(sink.as_slice()), NO_GROUP);
-    Ok(())
+    let reply = no_group(rt.alloc())?;
+    letting_go(check_reply(rt.alloc(), &reply, false, NO_GROUP), reply)
 }
 
 #[test]
 fn a_head_that_is_too_large(rt: HostRuntime) -> Result<(), Fail> {
-    let alloc = rt.alloc();
-    let mut sink = MemSink::new(alloc, Vec::new(alloc), Vec::new(alloc), 1_000)?;
-    let reply = Reply::refused(alloc, Code::HeadTooLarge)?;
-    assert_eq!(rt; write_reply(alloc, &mut sink, &reply, true), Ok(()));
-    assert_eq!(rt; text_of(sink.as_slice()), TOO_LARGE);
-    Ok(())
+    let reply = Reply::refused(rt.alloc(), Code::HeadTooLarge)?;
+    letting_go(check_reply(rt.alloc(), &reply, true, TOO_LARGE), reply)
 }
 
-// The number of the first of these writes, of 10 bytes each, whose failure is answered otherwise, or after which other
-// bytes were written.
-fn wrong_failure(alloc: Global, reply: &Reply, writes: u64) -> Result<Option<u64>, AllocError> {
-    for number in 0..writes {
-        let mut sink = MemSink::new(alloc, [10].to_vec(alloc)?, [number].to_vec(alloc)?, 1_000)?;
-        let answer = write_reply(alloc, &mut sink, reply, false);
-        let written = text_of(sink.as_slice());
-        let wanted = NO_GROUP.get(..(number as usize).saturating_mul(10));
-        if answer != Err(WriteFault::Fault) || Some(written) != wanted {
-            return Ok(Some(number));
-        }
+// Compares what is written where the write of this number fails. Each write takes ten bytes.
+fn check_failure(alloc: Global, reply: &Reply, number: usize) -> Result<(), Fail> {
+    let sink = sink_of(alloc, &[10], &[number as u64])?;
+    let beginning = NO_GROUP.get(..number.saturating_mul(10)).unwrap_or("none");
+    check_written(
+        alloc,
+        reply,
+        false,
+        sink,
+        (Err(WriteFault::Fault), beginning),
+    )
+}
+
+// The reply has 134 bytes, so it takes 14 writes.
+fn check_failures(alloc: Global, reply: &Reply) -> Result<(), Fail> {
+    for number in 0..14 {
+        check_failure(alloc, reply, number)?;
     }
-    Ok(None)
+    let sink = sink_of(alloc, &[10], &[14])?;
+    check_written(alloc, reply, false, sink, (Ok(()), NO_GROUP))
 }
 
 #[test]
 fn a_write_that_fails_is_reported(rt: HostRuntime) -> Result<(), Fail> {
     let reply = no_group(rt.alloc())?;
-    assert_eq!(rt; NO_GROUP.len(), 134);
-    assert_eq!(rt; wrong_failure(rt.alloc(), &reply, 14)?, None);
-    assert_eq!(rt; wrong_failure(rt.alloc(), &reply, 15)?, Some(14));
-    Ok(())
+    letting_go(check_failures(rt.alloc(), &reply), reply)
 }

@@ -1,28 +1,14 @@
 // What a request asks, in words.
+use crate::writing::{compare, letting_go, say, text_of};
 use arm_edges::MemSource;
 use arm_ids::Scope;
 use arm_value::{Bytes, Text, Value};
-use deploy_http::{Ask, HttpFault, Request, read_request};
+use deploy_http::{Ask, HttpFault, Request, Routes, next_request, read_request};
 use http_routes::{DeploymentAt, GroupAt, LockAt};
 use lock_rules::Level;
 use std::alloc::{AllocError, Global};
+use std::test::Fail;
 use template_parts::Mode;
-
-/// The bytes that a row writes: `|` is CR LF, `~` the path of a group, and `@` and `^` what follows it for a deployment
-/// and for a lock.
-pub(crate) fn bytes_of(alloc: Global, row: &str) -> Result<Vec<u8>, AllocError> {
-    let mut bytes = Vec::new(alloc);
-    for byte in row.as_bytes() {
-        match *byte {
-            b'|' => bytes.extend_from_slice(b"\r\n")?,
-            b'~' => bytes.extend_from_slice(b"/subscriptions/s/resourceGroups/g")?,
-            b'@' => bytes.extend_from_slice(b"/providers/Microsoft.Resources/deployments/d")?,
-            b'^' => bytes.extend_from_slice(b"/providers/Microsoft.Authorization/locks/k")?,
-            other => bytes.push(other)?,
-        }
-    }
-    Ok(bytes)
-}
 
 /// A source of these bytes, which come by those cuts. The reads of these numbers fail.
 pub(crate) fn source_of(
@@ -36,36 +22,61 @@ pub(crate) fn source_of(
     Ok(MemSource::new(bytes, cuts, Vec::from_slice(alloc, fails)?))
 }
 
-/// What is read of these bytes, which come in pieces of this size, in words.
-pub(crate) fn read(alloc: Global, bytes: &[u8], piece: usize) -> Result<String, AllocError> {
-    let mut source = source_of(alloc, bytes, &[piece], &[])?;
-    next_of(alloc, &mut source, &mut Bytes::from_vec(Vec::new(alloc)))
-}
-
-/// What is read next, in words.
-pub(crate) fn next_of(
+/// Adds what is read next, in words.
+pub(crate) fn say_next(
+    out: &mut String,
     alloc: Global,
     source: &mut MemSource,
     rest: &mut Bytes,
-) -> Result<String, AllocError> {
-    shown(alloc, &read_request(alloc, source, rest))
+) -> Result<(), AllocError> {
+    let answer = read_request(alloc, source, rest);
+    letting_go(say_answer(out, alloc, &answer), answer)
 }
 
-/// The answer in words.
-pub(crate) fn shown(
+/// The same, by these routes.
+pub(crate) fn say_next_by(
+    out: &mut String,
+    alloc: Global,
+    routes: &Routes,
+    source: &mut MemSource,
+    rest: &mut Bytes,
+) -> Result<(), AllocError> {
+    let answer = next_request(alloc, routes, source, rest);
+    letting_go(say_answer(out, alloc, &answer), answer)
+}
+
+// Adds what is read of the source, in words.
+fn say_first(out: &mut String, alloc: Global, source: MemSource) -> Result<(), AllocError> {
+    let (mut source, mut rest) = (source, Bytes::from_vec(Vec::new(alloc)));
+    say_next(out, alloc, &mut source, &mut rest)
+}
+
+/// Fails unless this is read of the bytes, which come by those cuts and those reads fail. What is asked names the case.
+pub(crate) fn check_read(
+    alloc: Global,
+    asked: &str,
+    (bytes, cuts, fails): (&[u8], &[usize], &[u64]),
+    wanted: &str,
+) -> Result<(), Fail> {
+    let source = source_of(alloc, bytes, cuts, fails)?;
+    let mut found = String::new(alloc);
+    say_first(&mut found, alloc, source)?;
+    compare(asked, found.as_str(), wanted)
+}
+
+// Adds an answer in words.
+fn say_answer(
+    out: &mut String,
     alloc: Global,
     answer: &Result<Option<Request>, HttpFault>,
-) -> Result<String, AllocError> {
+) -> Result<(), AllocError> {
     match answer {
         Ok(Some(request)) => {
-            let asked = asked(alloc, &request.ask)?;
-            if request.close {
-                return format!(in alloc; "{asked}, close");
-            }
-            Ok(asked)
+            say_asked(out, alloc, &request.ask)?;
+            out.push_str(if request.close { ", close" } else { "" })
         }
-        Ok(None) => String::from_str(alloc, "the end"),
-        Err(fault) => String::from_str(alloc, word(*fault)),
+        Ok(None) => out.push_str("the end"),
+        Err(fault) => out.push_str(word(*fault)),
     }
 }
 
@@ -83,75 +94,74 @@ fn word(fault: HttpFault) -> &'static str {
     }
 }
 
-fn asked(alloc: Global, ask: &Ask) -> Result<String, AllocError> {
+// Adds what is asked, in words.
+fn say_asked(out: &mut String, alloc: Global, ask: &Ask) -> Result<(), AllocError> {
     match ask {
-        Ask::ListGroups(s) => one(alloc, "ListGroups", s),
-        Ask::PutGroup(at, location) => {
-            let at = group(alloc, "PutGroup", at)?;
-            let location = location.as_str();
-            format!(in alloc; "{at} {location}")
-        }
-        Ask::GetGroup(at) => group(alloc, "GetGroup", at),
-        Ask::DeleteGroup(at) => group(alloc, "DeleteGroup", at),
-        Ask::ListResources(at) => group(alloc, "ListResources", at),
-        Ask::Deploy { .. } => deployed(alloc, ask),
-        Ask::GetDeployment(at) => deployment(alloc, "GetDeployment", at),
-        Ask::Resume(at) => maybe(alloc, "Resume", at),
-        Ask::Abandon(at) => maybe(alloc, "Abandon", at),
-        Ask::PutLock { at, level, notes } => {
-            let at = lock(alloc, "PutLock", at)?;
-            let level = level_word(*level);
-            let notes = notes.as_str();
-            format!(in alloc; "{at} {level} '{notes}'")
-        }
-        Ask::GetLock(at) => lock(alloc, "GetLock", at),
-        Ask::DeleteLock(at) => lock(alloc, "DeleteLock", at),
-        Ask::GetResource(at) => one(alloc, "GetResource", &at.id),
-        Ask::DeleteResource(at) => one(alloc, "DeleteResource", &at.id),
+        Ask::ListGroups(s) => say(out, &["ListGroups", s.as_str()]),
+        Ask::PutGroup(at, location) => say_put_group(out, at, location),
+        Ask::GetGroup(at) => say_group(out, "GetGroup", at),
+        Ask::DeleteGroup(at) => say_group(out, "DeleteGroup", at),
+        Ask::ListResources(at) => say_group(out, "ListResources", at),
+        Ask::Deploy { .. } => say_deployed(out, alloc, ask),
+        other => say_more(out, other),
     }
 }
 
-fn one(alloc: Global, word: &str, text: &Text) -> Result<String, AllocError> {
-    let text = text.as_str();
-    format!(in alloc; "{word} {text}")
+// Adds what is asked of a deployment that is there, of a lock or of a resource.
+fn say_more(out: &mut String, ask: &Ask) -> Result<(), AllocError> {
+    match ask {
+        Ask::GetDeployment(at) => say_deployment(out, "GetDeployment", at),
+        Ask::Resume(at) => say_maybe(out, "Resume", at),
+        Ask::Abandon(at) => say_maybe(out, "Abandon", at),
+        Ask::PutLock { at, level, notes } => say_put_lock(out, at, *level, notes),
+        Ask::GetLock(at) => say_lock(out, "GetLock", at),
+        Ask::DeleteLock(at) => say_lock(out, "DeleteLock", at),
+        Ask::GetResource(at) => say(out, &["GetResource", at.id.as_str()]),
+        Ask::DeleteResource(at) => say(out, &["DeleteResource", at.id.as_str()]),
+        _ => say(out, &["something else"]),
+    }
 }
 
-fn group(alloc: Global, word: &str, at: &GroupAt) -> Result<String, AllocError> {
-    let (s, g) = (at.subscription.as_str(), at.group.as_str());
-    format!(in alloc; "{word} {s} {g}")
+fn say_group(out: &mut String, word: &str, at: &GroupAt) -> Result<(), AllocError> {
+    say(out, &[word, at.subscription.as_str(), at.group.as_str()])
 }
 
-fn deployment(alloc: Global, word: &str, at: &DeploymentAt) -> Result<String, AllocError> {
-    let (s, g, n) = (
-        at.subscription.as_str(),
-        at.group.as_str(),
-        at.name.as_str(),
-    );
-    format!(in alloc; "{word} {s} {g} {n}")
+fn say_put_group(out: &mut String, at: &GroupAt, location: &Text) -> Result<(), AllocError> {
+    say_group(out, "PutGroup", at)?;
+    say(out, &["", location.as_str()])
 }
 
-fn maybe(alloc: Global, word: &str, at: &Option<DeploymentAt>) -> Result<String, AllocError> {
+fn say_deployment(out: &mut String, word: &str, at: &DeploymentAt) -> Result<(), AllocError> {
+    let (s, g, n) = (&at.subscription, &at.group, &at.name);
+    say(out, &[word, s.as_str(), g.as_str(), n.as_str()])
+}
+
+fn say_maybe(out: &mut String, word: &str, at: &Option<DeploymentAt>) -> Result<(), AllocError> {
     match at {
-        Some(at) => deployment(alloc, word, at),
-        None => String::from_str(alloc, word),
+        Some(at) => say_deployment(out, word, at),
+        None => say(out, &[word]),
     }
 }
 
-fn lock(alloc: Global, word: &str, at: &LockAt) -> Result<String, AllocError> {
+fn say_lock(out: &mut String, word: &str, at: &LockAt) -> Result<(), AllocError> {
     let kind = match &at.scope {
         Scope::Subscription(_) => "subscription",
         Scope::Group(_, _) => "group",
         Scope::Resource(_) => "resource",
     };
-    let (id, name) = (at.id.as_str(), at.name.as_str());
-    format!(in alloc; "{word} {kind} {id} {name}")
+    say(out, &[word, kind, at.id.as_str(), at.name.as_str()])
 }
 
-fn level_word(level: Level) -> &'static str {
-    match level {
-        Level::CanNotDelete => "CanNotDelete",
-        Level::ReadOnly => "ReadOnly",
-    }
+fn say_put_lock(
+    out: &mut String,
+    at: &LockAt,
+    level: Level,
+    notes: &Text,
+) -> Result<(), AllocError> {
+    say_lock(out, "PutLock", at)?;
+    say(out, &["", level.as_str(), "'"])?;
+    out.push_str(notes.as_str())?;
+    out.push_str("'")
 }
 
 fn mode_word(mode: Mode) -> &'static str {
@@ -161,7 +171,7 @@ fn mode_word(mode: Mode) -> &'static str {
     }
 }
 
-fn deployed(alloc: Global, ask: &Ask) -> Result<String, AllocError> {
+fn say_deployed(out: &mut String, alloc: Global, ask: &Ask) -> Result<(), AllocError> {
     let Ask::Deploy {
         subscription,
         group,
@@ -171,28 +181,27 @@ fn deployed(alloc: Global, ask: &Ask) -> Result<String, AllocError> {
         parameters,
     } = ask
     else {
-        return String::from_str(alloc, "no deployment");
+        return say(out, &["no deployment"]);
     };
-    let (s, g, n) = (subscription.as_str(), group.as_str(), name.as_str());
-    let mode = mode_word(*mode);
-    let template = text_of(template.as_slice());
-    let given = given(alloc, parameters)?;
-    let given = text_of(given.as_slice());
-    format!(in alloc; "Deploy {s} {g} {n} {mode} {template} {given}")
+    say(out, &["Deploy", subscription.as_str()])?;
+    say(out, &["", group.as_str(), name.as_str()])?;
+    say(out, &["", mode_word(*mode), ""])?;
+    out.push_str(text_of(template.as_slice()))?;
+    out.push_str(" ")?;
+    say_given(out, alloc, parameters)
 }
 
-// The parameters as JSON text, or `none`.
-fn given(alloc: Global, parameters: &Option<Value>) -> Result<Bytes, AllocError> {
+// Adds the parameters as JSON text, or `none`.
+fn say_given(
+    out: &mut String,
+    alloc: Global,
+    parameters: &Option<Value>,
+) -> Result<(), AllocError> {
     match parameters {
-        Some(parameters) => parameters.to_json(alloc),
-        None => Ok(Bytes::from_vec(b"none".to_vec(alloc)?)),
-    }
-}
-
-/// The bytes as a text.
-pub(crate) fn text_of(bytes: &[u8]) -> &str {
-    match str::from_utf8(bytes) {
-        Ok(text) => text,
-        Err(_) => "no text",
+        Some(parameters) => {
+            let bytes = parameters.to_json(alloc)?;
+            out.push_str(text_of(bytes.as_slice()))
+        }
+        None => out.push_str("none"),
     }
 }

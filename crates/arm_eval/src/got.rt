@@ -15,7 +15,8 @@ ghost use Rattle.arm_eval.specs.Titles.{titled, titles_of, has_symbols, followed
 ghost use Rattle.arm_eval.specs.Trees.{tree_value};
 ghost use Rattle.reading.specs.Reading.{through};
 
-use crate::titles::{Titles, titled_value, titled_value_of, unnamed};
+use crate::titled::{titled_value, titled_value_of};
+use crate::titles::{Titles, unnamed};
 use crate::tree::tree_value;
 use arm_env::cell::Cell;
 use arm_env::entries::Around;

@@ -1,8 +1,5 @@
-// The values of trees of a template of the second form, where texts of `reference` are symbolic
-// names.
+// What is known in a template of the second form, where texts of `reference` are symbolic names.
 ghost use Rattle.std.specs.Prelude.{◌≡◌, Some, IfOk, map};
-ghost use Rattle.arm_expr.specs.View.{tree_of};
-ghost use Rattle.expression_values.specs.Meaning.{value};
 ghost use Rattle.arm_value.specs.Json.{Json};
 ghost use Rattle.arm_value.specs.View.{json};
 ghost use Rattle.arm_ids.specs.declared.id.ResourceId.{ResourceId};
@@ -12,22 +9,19 @@ ghost use Rattle.arm_env.specs.Look.{Look, Looking, named};
 ghost use Rattle.arm_env.specs.Cell.{look_of};
 ghost use Rattle.arm_env.specs.Answer.{Gives, Stops};
 ghost use Rattle.arm_env.specs.Sight.{here};
-ghost use Rattle.arm_eval.specs.Trees as trees;
 ghost use Rattle.arm_eval.specs.Titles as naming;
 ghost use Rattle.arm_eval.specs.Titles.{alone, titled, known_through, held_back, title_loops, title_of, unnamed};
 ghost use Rattle.arm_eval.specs.Words.{listed_in, title_in, titles_in};
 
 use crate::copying::loops_inside;
 use crate::symbols::{Listed, Title, key_at, title_of};
-use crate::tree::{said_value, tree_value};
+use crate::tree::said_value;
 use arm_env::cell::Cell;
 use arm_env::entries::{Around, Declared, Entries};
 use arm_env::env::{Looping, Symbol};
 use arm_env::stop::{Stop, let_go, stopped};
-use arm_expr::Expr;
 use arm_ids::{Key, Place};
 use arm_value::{OutOfMemory, Text, Value};
-use expression_values::value_of;
 use std::alloc::Global;
 
 /// The symbols of a template instance, and what reading their titles needs besides.
@@ -212,10 +206,10 @@ fn held_back(alloc: Global, stop: Stop, text: &Text) -> Stop
 
 // What is known where texts are symbolic names.
 #[derive(Drop)]
-struct Titled<'a, K> {
-    entries: &'a K,
-    titles: &'a Titles<'a>,
-    place: &'a Place,
+pub(crate) struct Titled<'a, K> {
+    pub(crate) entries: &'a K,
+    pub(crate) titles: &'a Titles<'a>,
+    pub(crate) place: &'a Place,
 }
 
 impl<'e, K: Entries> Entries for Titled<'e, K> {
@@ -307,7 +301,7 @@ fn resolved_cell<K: Entries>(
 }
 
 // What was found where texts are symbolic names, with the first cell that is not known yet.
-fn resolved<K: Entries>(
+pub(crate) fn resolved<K: Entries>(
     alloc: Global,
     entries: &K,
     titles: &Titles,
@@ -325,54 +319,6 @@ fn resolved<K: Entries>(
         Err(Stop::Waits(cell)) => resolved_cell(alloc, entries, titles, place, cell),
         Err(Stop::OutOfMemory) => Err(Stop::OutOfMemory),
     }
-}
-
-/// The value of a tree of a template of the second form: a text of `reference` that is no id is a
-/// symbolic name, and stands for the key of its type and the value of its title in the place. A
-/// title is read with one main loop of the index where its symbol is looped, before the loops around
-/// the template instance; in it a text is an id alone. The answers are those of `tree_value`.
-pub fn titled_value<K: Entries>(
-    alloc: Global,
-    entries: &K,
-    titles: &Titles,
-    around: &Around,
-    tree: &Value,
-) -> Result<Value, Stop>
-    ensures { Gives json result (told (K.known entries.now)
-        (through (titled (titles_in titles.now) around.now.place.now)
-        (trees.tree_value (json tree.now) (here around.now)))) }
-{
-    let place = around.place;
-    let titled = Titled {
-        entries,
-        titles,
-        place,
-    };
-    let found = tree_value(alloc, &titled, around, tree);
-    resolved(alloc, entries, titles, place, found)
-}
-
-/// The value of an expression of a template of the second form, as `titled_value` has that of a
-/// tree.
-pub fn titled_value_of<K: Entries>(
-    alloc: Global,
-    entries: &K,
-    titles: &Titles,
-    around: &Around,
-    e: &Expr,
-) -> Result<Value, Stop>
-    ensures { Gives json result (told (K.known entries.now)
-        (through (titled (titles_in titles.now) around.now.place.now)
-        (value (here around.now) (tree_of e.now)))) }
-{
-    let place = around.place;
-    let titled = Titled {
-        entries,
-        titles,
-        place,
-    };
-    let found = value_of(alloc, &titled, around, e);
-    resolved(alloc, entries, titles, place, found)
 }
 
 /// The symbols, whose loops have no names.

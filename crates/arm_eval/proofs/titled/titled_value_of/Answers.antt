@@ -1,7 +1,7 @@
 use Rattle.arm_expr.specs.View.{tree_of}
 use Rattle.arm_env.specs.Sight.{here}
 use Rattle.expression_values.specs.Meaning.{value}
-use Rattle.arm_eval.proofs.titles.titled_value_of.Goals as goal
+use Rattle.arm_eval.proofs.titled.titled_value_of.Goals as goal
 
 pub returns : goal.returns
 returns g c =

@@ -1,6 +1,6 @@
 -- Each expression that is emitted stands for what it is emitted of.
 use Rattle.std.proofs.Common.{◌≡◌, ℕ, zero, suc, List, [], ◌∷◌, ◌++◌, Option, Some, None, codes, refl, sym, ap, ap₂}
-use Rattle.std.proofs.Common.{◌∙◌, subst}
+use Rattle.std.proofs.Common.{◌∙◌, subst, true}
 use Rattle.std.specs.Prelude.{slice_get}
 use Rattle.arm_value.specs.Json.{Json, int, text}
 use Rattle.arm_value.specs.Look.{fold}
@@ -41,6 +41,7 @@ use Rattle.bicep_resolved.specs.declared.leaf.Selector.TheVariants as selector
 use Rattle.bicep_resolved.specs.Source.{SourceTree, SourceTrees, PieceTrees, PropertyTrees, ReachTree, ValueTree}
 use Rattle.bicep_resolved.specs.Source as s
 use Rattle.bicep_resolved.specs.Target.{number_of, target_of}
+use Rattle.bicep_names.specs.Functions.{may_call}
 use Rattle.bicep_meaning.specs.Files.{symbol_name, type_of}
 use Rattle.bicep_meaning.specs.Around as source
 use Rattle.bicep_meaning.specs.Around.{Here}
@@ -53,6 +54,7 @@ use Rattle.bicep_emission.specs.Alike.{Seen, after, seen_in}
 use Rattle.bicep_emission.specs.Answered.{IsPlainPlace, Sides, Answers}
 use Rattle.bicep_emission.specs.Emittable.{IsEmittable, AreEmittable, AreHoles, AreMembers, IsReach}
 use Rattle.bicep_emission.specs.Texts.{format_text}
+use Rattle.bicep_emission.specs.Spelled.{spelled}
 use Rattle.bicep_emission.specs.Emitted as emitting
 use Rattle.bicep_emission.specs.Emitted.{one, two, Frame, Scope, no_value, parameter_of, emitted, all_of, holes_of}
 use Rattle.bicep_emission.specs.Emitted.{members_of, emitted_value, frames_of, literal_of, binary_of, prefix_of}
@@ -72,6 +74,7 @@ use Rattle.bicep_emission.proofs.StateLemmas.{member_like, member_plain}
 use Rattle.bicep_emission.proofs.ListLemmas.{like_array, like_object, like_text, named_readings, member_readings}
 use Rattle.bicep_emission.proofs.ListLemmas.{after_readings, AreReadings}
 use Rattle.bicep_emission.proofs.NamedCallLemmas.{like_named, plain_named}
+use Rattle.bicep_emission.proofs.SpelledLemmas.{spelled_folds, same_called, same_called_by_files}
 use Rattle.bicep_emission.proofs.OutputLemmas.{like_output, plain_output}
 
 module _ (x : Sides) (here : Here) (ls : List Looping) (plain_place : IsPlainPlace here.place)
@@ -94,30 +97,30 @@ module _ (x : Sides) (here : Here) (ls : List Looping) (plain_place : IsPlainPla
   held_is : (e : Tree) → sees (held_value (value around e)) ≡ plainly (sees (value around e))
   held_is e = held_seen x.template x.template_marks (value around e) ∙ ap (λ r. plainly (sees r)) (value_capped e)
 
-  holds : (e : Tree) → Plain e → HoldsValue x around e
+  pub holds : (e : Tree) → Plain e → HoldsValue x around e
   holds e p = p ∙ sym (held_is e)
 
   is_plain : (e : Tree) → HoldsValue x around e → Plain e
   is_plain e p = p ∙ held_is e
 
-  stands : (e : Tree) (r : Reads Json) → Like x (value around e) (capped r) → Plain e → Stands x around e r
+  pub stands : (e : Tree) (r : Reads Json) → Like x (value around e) (capped r) → Plain e → Stands x around e r
   stands e r i p = record { alike = i; holds_value = holds e p }
 
   -- ---- what has no value
 
-  none_capped : seen x (capped none) ≡ done_seen None
+  pub none_capped : seen x (capped none) ≡ done_seen None
   unfolding capped continued seen_in
   none_capped = refl
 
-  none_like : Like x (value around no_value) none
+  pub none_like : Like x (value around no_value) none
   unfolding lazy_named strict_named placed_named table row_in value_of of_numbers all continued
   none_like = like_plain x around (codes "add") tree.none [] refl refl tt
 
-  none_plain : Plain no_value
+  pub none_plain : Plain no_value
   unfolding lazy_named strict_named placed_named
   none_plain = plain_function x.template x.template_marks around (codes "add") tree.none refl refl
 
-  none_stands : (r : Reads Json) → seen x (capped r) ≡ done_seen None → Stands x around no_value r
+  pub none_stands : (r : Reads Json) → seen x (capped r) ≡ done_seen None → Stands x around no_value r
   unfolding seen_in
   none_stands r e = stands no_value r (none_like ∙ sym e) none_plain
 
@@ -177,7 +180,7 @@ module _ (x : Sides) (here : Here) (ls : List Looping) (plain_place : IsPlainPla
         → Plain (call name es)
     plain_function_of name es e h = plain_function x.template x.template_marks around name es e h
 
-    binary_plain : (op : Operator) (p q : Tree) → Plain (binary_of op p q)
+    pub binary_plain : (op : Operator) (p q : Tree) → Plain (binary_of op p q)
     unfolding lazy_named strict_named placed_named
     binary_plain o.Coalesce p q = plain_lazy x.template x.template_marks around (codes "coalesce")
         (two p q) lazy.Coalesce refl
@@ -208,7 +211,7 @@ module _ (x : Sides) (here : Here) (ls : List Looping) (plain_place : IsPlainPla
     text_plain : (t : List ℕ) → Plain (tree.text t)
     text_plain t = plain_value x.template x.template_marks (pure (text t))
 
-    literal_plain : (v : Literal) → Plain (literal_of v)
+    pub literal_plain : (v : Literal) → Plain (literal_of v)
     unfolding lazy_named strict_named placed_named
     literal_plain (l.Number z) = plain_value x.template x.template_marks (pure (int z))
     literal_plain (l.Text t) = text_plain t
@@ -216,7 +219,7 @@ module _ (x : Sides) (here : Here) (ls : List Looping) (plain_place : IsPlainPla
     literal_plain l.False = plain_function_of (codes "false") tree.none refl refl
     literal_plain l.Null = plain_function_of (codes "null") tree.none refl refl
 
-    text_stands : (t : List ℕ) → Stands x around (tree.text t) (pure (text t))
+    pub text_stands : (t : List ℕ) → Stands x around (tree.text t) (pure (text t))
     unfolding capped continued
     text_stands t = stands (tree.text t) (pure (text t))
         (ap (λ u. sees u) (texts around t) ∙ like_done x (Some (text t))) (text_plain t)
@@ -322,6 +325,10 @@ module _ (x : Sides) (here : Here) (ls : List Looping) (plain_place : IsPlainPla
     call_plain : (name : List ℕ) (es : Trees) → lazy_named name ≡ None → strict_named name ≡ None → Plain (call name es)
     call_plain name es e h = plain_function_of name es e h
 
+    -- the function of a name in the usual case of its letters
+    spelled_called : (name : List ℕ) → may_call name ≡ true → may_call (spelled name) ≡ true
+    spelled_called name e = same_called_by_files (spelled name) name (spelled_folds name) ∙ e
+
     -- a run of a loop
     element_stands : (n : ℕ) (e : Tree) (r : Reads Json) → Stands x around e r
         → FrameStands x around (emitting.element (sc.items n) e) (source.element (a.items n) (capped r))
@@ -332,9 +339,10 @@ module _ (x : Sides) (here : Here) (ls : List Looping) (plain_place : IsPlainPla
           item = part_stands (sc.items n) e (a.items n) (capped r) (is_plain (sc.items n) xs.holds_value)
               (xs.alike ∙ st.items_capped n) i.alike;
           index = record { alike = i.alike ∙ sym (seen-capped-twice x r); holds_value = i.holds_value };
+          index_capped = seen-capped-twice x r;
         }
 
-    format_plain : (es : Trees) → Plain (call (codes "format") es)
+    pub format_plain : (es : Trees) → Plain (call (codes "format") es)
     unfolding lazy_named strict_named placed_named
     format_plain es = call_plain (codes "format") es refl refl
 
@@ -409,9 +417,11 @@ module _ (x : Sides) (here : Here) (ls : List Looping) (plain_place : IsPlainPla
           (array_plain (all_of here.file here.files sc es fs))
       law (s.call at name es) fs gs m h =
           stands (em (s.call at name es) fs) (be (s.call at name es) gs)
-          (like_named x around name (all_of here.file here.files sc es fs) (meaning.values here a es gs) m.0
-          (all_like es fs gs m.1 h))
-          (plain_named x around name (all_of here.file here.files sc es fs) m.0)
+          (like_named x around (spelled name) (all_of here.file here.files sc es fs) (meaning.values here a es gs)
+          (spelled_called name m.0) (all_like es fs gs m.1 h)
+          ∙ ap (λ r. seen x (capped r)) (same_called (spelled name) name (spelled_folds name) here.place
+          (meaning.values here a es gs)))
+          (plain_named x around (spelled name) (all_of here.file here.files sc es fs) (spelled_called name m.0))
       law (s.instance r) fs gs m h = none_stands none none_capped
       law (s.field r at f) fs gs m h =
           field_stands (number_of (target_of r)) f (frames_of here.file here.files sc r fs) (frames here a r gs)
@@ -458,7 +468,8 @@ module _ (x : Sides) (here : Here) (ls : List Looping) (plain_place : IsPlainPla
           (name_like name, ((law e fs gs m.0 h).alike, members_like ps fs gs m.1 h))
       members_like (s.property at name (s.each o e) ps) fs gs m h = absurd m.0
 
-      frames_stand : (r : ReachTree) (fs : List Frame) (gs : List source.Frame) → IsReach r → FramesStand x around fs gs
+      pub frames_stand : (r : ReachTree) (fs : List Frame) (gs : List source.Frame) → IsReach r
+          → FramesStand x around fs gs
           → FramesStand x around (frames_of here.file here.files sc r fs) (frames here a r gs)
       frames_stand (s.symbol at t) fs gs m h = tt
       frames_stand (s.element at t e) fs gs m h = (

@@ -10,5 +10,6 @@ pub mod BinaryLemmas
 pub mod StateLemmas
 pub mod ListLemmas
 pub mod NamedCallLemmas
+pub mod SpelledLemmas
 pub mod OutputLemmas
 pub mod ExpressionLemmas

@@ -23,6 +23,7 @@ use Rattle.bicep_resolved.specs.Source as s
 use Rattle.bicep_resolved.specs.Target.{number_of, target_of}
 use Rattle.bicep_meaning.specs.Files.{SourceFile, symbol_name, type_of}
 use Rattle.bicep_meaning.specs.Meaning.{file_of, deployment_type}
+use Rattle.bicep_emission.specs.Spelled.{spelled}
 use Rattle.bicep_emission.specs.Texts.{format_text}
 
 -- ---- calls
@@ -169,7 +170,7 @@ module _ (file : SourceFile) (files : List SourceFile) (sc : Scope) where
         call (codes "format") (more (text (format_text 0 first ps)) (holes_of ps fs))
     emitted (s.object at ps) fs = call (codes "createObject") (members_of ps fs)
     emitted (s.array at es) fs = call (codes "createArray") (all_of es fs)
-    emitted (s.call at name es) fs = call name (all_of es fs)
+    emitted (s.call at name es) fs = call (spelled name) (all_of es fs)
     emitted (s.instance r) fs = no_value
     emitted (s.field r at x) fs = field_of (number_of (target_of r)) x (frames_of r fs)
     emitted (s.output r at k) fs =

@@ -1,5 +1,6 @@
 pub mod Alike
 pub mod Texts
+pub mod Spelled
 pub mod Emitted
 pub mod Emittable
 pub mod Answered

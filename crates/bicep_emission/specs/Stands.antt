@@ -45,6 +45,7 @@ module _ (x : Sides) where
   pub record FrameStands (around : Surroundings) (f : Frame) (g : source.Frame) : Type 0 where
     pub item : Stands around f.item g.item
     pub index : Stands around f.index g.index
+    pub index_capped : IsCapped g.index
 
   abbrev pub FramesStand : Surroundings → List Frame → List source.Frame → Type 0
   FramesStand around [] [] = Unit {0}

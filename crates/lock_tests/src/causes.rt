@@ -1,6 +1,6 @@
 // Codes and messages.
 
-use crate::made::{compare, lock, texts};
+use crate::made::{compare, letting_go, lock, texts};
 use arm_value::{Path, Text};
 use lock_rules::{Cause, Level, Tasks};
 use std::alloc::Global;
@@ -69,20 +69,20 @@ fn check_both(alloc: Global, cause: &Cause, names: &[Text], wanted: &str) -> Res
 
 fn check_copy(alloc: Global, cause: &Cause, names: &[Text], wanted: &str) -> Result<(), Fail> {
     let copy = cause.copy(alloc)?;
-    check(alloc, &copy, names, wanted)
+    letting_go(check(alloc, &copy, names, wanted), copy)
 }
 
 fn check_given(alloc: Global, given: &str, names: &[Text], wanted: &str) -> Result<(), Fail> {
     let (kind, text) = given.split_once(' ').unwrap_or((given, ""));
     let cause = cause(alloc, kind, text)?;
-    check_both(alloc, &cause, names, wanted)
+    letting_go(check_both(alloc, &cause, names, wanted), cause)
 }
 
 fn check_line(alloc: Global, line: &str) -> Result<(), Fail> {
     let (given, wanted) = line.split_once(" -> ").unwrap_or((line, ""));
     let (given, names) = given.split_once(" of ").unwrap_or((given, ""));
     let names = texts(alloc, names)?;
-    check_given(alloc, given, names.as_slice(), wanted)
+    letting_go(check_given(alloc, given, names.as_slice(), wanted), names)
 }
 
 // A cause, the names of its tasks, and after an arrow its code and its message. The id of a lock begins with that

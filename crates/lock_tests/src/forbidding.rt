@@ -1,6 +1,6 @@
 // What a lock forbids, by its level and its scope.
 
-use crate::made::{compare, level, lock};
+use crate::made::{compare, letting_go, level, lock};
 use arm_ids::Key;
 use arm_value::Text;
 use lock_rules::{Level, Lock, effective, may_delete, may_delete_group, may_put};
@@ -38,7 +38,7 @@ fn check_level(
     wanted: &str,
 ) -> Result<(), Fail> {
     let locks = [lock(alloc, scope, "k", level)?];
-    compare(scope, forbidden(&locks, key), wanted)
+    letting_go(compare(scope, forbidden(&locks, key), wanted), locks)
 }
 
 fn check_line(alloc: Global, key: &Key, line: &str) -> Result<(), Fail> {
@@ -48,13 +48,40 @@ fn check_line(alloc: Global, key: &Key, line: &str) -> Result<(), Fail> {
     check_level(alloc, key, scope, Level::ReadOnly, second)
 }
 
-#[test]
-fn levels_and_scopes(rt: HostRuntime) -> Result<(), Fail> {
-    let key = Key::read_id(rt.alloc(), A)?;
-    for line in TABLE.lines() {
-        check_line(rt.alloc(), &key, line)?;
+// What a table has.
+#[derive(Clone, Copy)]
+enum Table {
+    // What locks forbid of `a`.
+    Forbidding,
+    // Which lock decides about `a`.
+    Deciding,
+    // Whether a group may be deleted.
+    Groups,
+    // Which level a word means.
+    Words,
+}
+
+// Fails at the first line of the table that is answered otherwise.
+fn check_lines(alloc: Global, key: &Key, table: Table, lines: &str) -> Result<(), Fail> {
+    for line in lines.lines() {
+        match table {
+            Table::Forbidding => check_line(alloc, key, line)?,
+            Table::Deciding => check_deciding(alloc, key, line)?,
+            Table::Groups => check_group(alloc, line)?,
+            Table::Words => check_word(alloc, line)?,
+        }
     }
     Ok(())
+}
+
+fn check_table(alloc: Global, table: Table, lines: &str) -> Result<(), Fail> {
+    let key = Key::read_id(alloc, A)?;
+    letting_go(check_lines(alloc, &key, table, lines), key)
+}
+
+#[test]
+fn levels_and_scopes(rt: HostRuntime) -> Result<(), Fail> {
+    check_table(rt.alloc(), Table::Forbidding, TABLE)
 }
 
 // The name of the lock that decides about the key.
@@ -69,18 +96,25 @@ fn deciding<'a>(locks: &'a [Lock], key: &Key) -> &'a str {
 fn push(alloc: Global, locks: &mut Vec<Lock>, text: &str) -> Result<(), Fail> {
     let (scope, rest) = text.split_once(' ').unwrap_or((text, ""));
     let (name, word) = rest.split_once(' ').unwrap_or((rest, ""));
-    let lock = lock(alloc, scope, name, level(word))?;
-    locks.push(lock)?;
+    Ok(locks.push(lock(alloc, scope, name, level(word))?)?)
+}
+
+// Adds the locks of these texts, with a comma between.
+fn push_all(alloc: Global, locks: &mut Vec<Lock>, texts: &str) -> Result<(), Fail> {
+    for text in texts.split(',') {
+        push(alloc, locks, text)?;
+    }
     Ok(())
 }
 
 fn check_deciding(alloc: Global, key: &Key, line: &str) -> Result<(), Fail> {
     let (given, wanted) = line.split_once(" -> ").unwrap_or((line, ""));
     let mut locks = Vec::new(alloc);
-    for text in given.split(',') {
-        push(alloc, &mut locks, text)?;
-    }
-    compare(line, deciding(locks.as_slice(), key), wanted)
+    let checked = match push_all(alloc, &mut locks, given) {
+        Ok(()) => compare(line, deciding(locks.as_slice(), key), wanted),
+        Err(fail) => Err(fail),
+    };
+    letting_go(checked, locks)
 }
 
 // Locks, each with its scope, its name and its level, and after an arrow the one that decides about `a`.
@@ -91,11 +125,7 @@ const DECIDING: &str = "/subscriptions/s one CanNotDelete,/subscriptions/S two C
 
 #[test]
 fn the_first_lock_of_the_most_restrictive_level_decides(rt: HostRuntime) -> Result<(), Fail> {
-    let key = Key::read_id(rt.alloc(), A)?;
-    for line in DECIDING.lines() {
-        check_deciding(rt.alloc(), &key, line)?;
-    }
-    Ok(())
+    check_table(rt.alloc(), Table::Deciding, DECIDING)
 }
 
 // A scope, and after an arrow whether group G of subscription S may be deleted with a lock on it.
@@ -120,15 +150,16 @@ fn deletable(alloc: Global, locks: &[Lock]) -> Result<&'static str, Fail> {
 fn check_group(alloc: Global, line: &str) -> Result<(), Fail> {
     let (scope, wanted) = line.split_once(" -> ").unwrap_or((line, ""));
     let locks = [lock(alloc, scope, "k", Level::CanNotDelete)?];
-    compare(scope, deletable(alloc, &locks)?, wanted)
+    letting_go(check_deletable(alloc, &locks, scope, wanted), locks)
+}
+
+fn check_deletable(alloc: Global, locks: &[Lock], scope: &str, wanted: &str) -> Result<(), Fail> {
+    compare(scope, deletable(alloc, locks)?, wanted)
 }
 
 #[test]
 fn locks_on_a_group_and_in_it_forbid_its_deletion(rt: HostRuntime) -> Result<(), Fail> {
-    for line in GROUPS.lines() {
-        check_group(rt.alloc(), line)?;
-    }
-    Ok(())
+    check_table(rt.alloc(), Table::Groups, GROUPS)
 }
 
 fn check_word(alloc: Global, line: &str) -> Result<(), Fail> {
@@ -148,8 +179,5 @@ ReadOnly2 -> none";
 
 #[test]
 fn levels_have_words(rt: HostRuntime) -> Result<(), Fail> {
-    for line in WORDS.lines() {
-        check_word(rt.alloc(), line)?;
-    }
-    Ok(())
+    check_table(rt.alloc(), Table::Words, WORDS)
 }

@@ -1,15 +1,13 @@
 // The order in which locks are kept, and how one replaces another.
 
-use crate::made::{compare, is_there, lock, place};
+use crate::made::{compare, is_there, letting_go, lock, place};
 use lock_rules::{Level, Locks};
 use std::alloc::Global;
 use std::test::Fail;
 
 fn set(alloc: Global, locks: &mut Locks, line: &str) -> Result<(), Fail> {
     let (scope, name) = line.split_once(' ').unwrap_or((line, ""));
-    let lock = lock(alloc, scope, name, Level::ReadOnly)?;
-    locks.set(alloc, lock)?;
-    Ok(())
+    Ok(locks.set(alloc, lock(alloc, scope, name, Level::ReadOnly)?)?)
 }
 
 // Sets a lock for each line, which has a scope and a name.
@@ -42,11 +40,28 @@ const SCOPES: &str = "/subscriptions/s/resourceGroups/g-1 b
 /subscriptions/s c
 /subscriptions/s/resourceGroups/G-1 A";
 
+// Sets the locks of these lines, does the removals of those, and compares the names that are left.
+fn check_kept(
+    alloc: Global,
+    locks: &mut Locks,
+    (lines, removals): (&str, &str),
+    wanted: &str,
+) -> Result<(), Fail> {
+    set_all(alloc, locks, lines)?;
+    for line in removals.lines() {
+        check_removal(alloc, locks, line)?;
+    }
+    check_names(alloc, locks, wanted)
+}
+
+fn check_new(alloc: Global, lines: (&str, &str), wanted: &str) -> Result<(), Fail> {
+    let mut locks = Locks::new(alloc);
+    letting_go(check_kept(alloc, &mut locks, lines, wanted), locks)
+}
+
 #[test]
 fn locks_are_in_the_order_of_scopes_and_names(rt: HostRuntime) -> Result<(), Fail> {
-    let mut locks = Locks::new(rt.alloc());
-    set_all(rt.alloc(), &mut locks, SCOPES)?;
-    check_names(rt.alloc(), &locks, "c y Z A b a ")
+    check_new(rt.alloc(), (SCOPES, ""), "c y Z A b a ")
 }
 
 const SAME: &str = "/subscriptions/s/resourceGroups/g a
@@ -55,9 +70,7 @@ const SAME: &str = "/subscriptions/s/resourceGroups/g a
 
 #[test]
 fn a_lock_replaces_the_one_of_its_scope_and_name(rt: HostRuntime) -> Result<(), Fail> {
-    let mut locks = Locks::new(rt.alloc());
-    set_all(rt.alloc(), &mut locks, SAME)?;
-    check_names(rt.alloc(), &locks, "b A ")
+    check_new(rt.alloc(), (SAME, ""), "b A ")
 }
 
 // Removes the lock of a line, which has a scope, a name, and whether a lock is there.
@@ -65,8 +78,13 @@ fn check_removal(alloc: Global, locks: &mut Locks, line: &str) -> Result<(), Fai
     let (scope, rest) = line.split_once(' ').unwrap_or((line, ""));
     let (name, wanted) = rest.split_once(' ').unwrap_or((rest, ""));
     let place = place(alloc, scope, name)?;
-    compare(line, word(locks.find(&place).is_some()), wanted)?;
-    compare(line, word(is_there(locks.remove(&place))), wanted)
+    let found = (locks.find(&place).is_some(), is_there(locks.remove(&place)));
+    check_both(letting_go(found, place), line, wanted)
+}
+
+fn check_both(found: (bool, bool), line: &str, wanted: &str) -> Result<(), Fail> {
+    compare(line, word(found.0), wanted)?;
+    compare(line, word(found.1), wanted)
 }
 
 fn word(is_there: bool) -> &'static str {
@@ -79,10 +97,5 @@ const REMOVALS: &str = "/subscriptions/s/resourceGroups/g z there
 
 #[test]
 fn a_lock_is_removed_by_its_place(rt: HostRuntime) -> Result<(), Fail> {
-    let mut locks = Locks::new(rt.alloc());
-    set_all(rt.alloc(), &mut locks, SCOPES)?;
-    for line in REMOVALS.lines() {
-        check_removal(rt.alloc(), &mut locks, line)?;
-    }
-    check_names(rt.alloc(), &locks, "c y A b a ")
+    check_new(rt.alloc(), (SCOPES, REMOVALS), "c y A b a ")
 }

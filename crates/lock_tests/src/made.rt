@@ -9,8 +9,10 @@ use std::test::Fail;
 /// A lock of this level on the scope of this id, with this name.
 pub fn lock(alloc: Global, scope: &str, name: &str, level: Level) -> Result<Lock, Fail> {
     let name = Text::of(alloc, name)?;
-    let notes = Text::of(alloc, "")?;
-    scoped(alloc, scope, (name, notes), level)
+    match Text::of(alloc, "") {
+        Ok(notes) => scoped(alloc, scope, (name, notes), level),
+        Err(_) => letting_go(Err(Fail::from("no notes")), name),
+    }
 }
 
 // The lock of this name and these notes on the scope of this id.
@@ -20,19 +22,26 @@ fn scoped(
     (name, notes): (Text, Text),
     level: Level,
 ) -> Result<Lock, Fail> {
-    Ok(Lock {
-        scope: Scope::read_id(alloc, scope)?,
-        name,
-        level,
-        notes,
-    })
+    match Scope::read_id(alloc, scope) {
+        Ok(scope) => Ok(Lock {
+            scope,
+            name,
+            level,
+            notes,
+        }),
+        Err(_) => letting_go(Err(Fail::from("no scope")), (name, notes)),
+    }
 }
 
 /// The place of a lock of this name on the scope of this id.
 pub fn place(alloc: Global, scope: &str, name: &str) -> Result<Place, Fail> {
-    let name = Text::of(alloc, name)?;
     let scope = Scope::read_id(alloc, scope)?;
-    Ok(Place::of(alloc, &scope, &name)?)
+    letting_go(place_on(alloc, &scope, name), scope)
+}
+
+fn place_on(alloc: Global, scope: &Scope, name: &str) -> Result<Place, Fail> {
+    let name = Text::of(alloc, name)?;
+    Ok(Place::of(alloc, scope, &name)?)
 }
 
 /// The level of this word: `ReadOnly`, or else that of `CanNotDelete`.
@@ -63,4 +72,9 @@ pub fn compare(asked: &str, found: &str, wanted: &str) -> Result<(), Fail> {
 /// Whether there is something.
 pub fn is_there<T: Drop>(found: Option<T>) -> bool {
     found.is_some()
+}
+
+/// The answer; the part is dropped.
+pub fn letting_go<T: Drop, R>(answer: R, _part: T) -> R {
+    answer
 }

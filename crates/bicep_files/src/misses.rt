@@ -3,12 +3,13 @@
 use crate::hosts::{CLUSTER, CONTAINERS, FUNCTIONS, MACHINE, QUEUES, SITE};
 use crate::networks::{ENDPOINTS, NETWORK, PEERINGS, RECORDS, RULES};
 use crate::plain::{SETTINGS, SUMS, TEXTS};
+use crate::reading::{compare, letting_go};
 use crate::stored::{COSMOS, SQL, STORAGE, VAULT};
 use crate::wholes::{GUARD, MODULES, ROLES};
-use bicep_lexer::tokens;
-use bicep_parser::parse;
-use std::alloc::Global;
-use std::process::Abort;
+use bicep_lexer::{Token, tokens};
+use bicep_parser::{ParseFault, parse};
+use bicep_tree::File;
+use std::alloc::{AllocError, Global};
 use std::test::Fail;
 
 // A file, what is right in it, and the mistake that replaces it: `^` marks the token with which no
@@ -119,45 +120,58 @@ fn mistaken(alloc: Global, miss: &Miss) -> Result<(String, usize), Fail> {
     Ok((source, offset))
 }
 
+fn said(alloc: Global, answer: &Result<File, ParseFault>) -> Result<String, AllocError> {
+    match answer {
+        Ok(_) => String::from_str(alloc, "a file"),
+        Err(fault) => format!(in alloc; "{fault}"),
+    }
+}
+
+// What is answered of these tokens.
+fn parsed(alloc: Global, tokens: &[Token]) -> Result<String, Fail> {
+    let answer = parse(alloc, tokens);
+    Ok(letting_go(said(alloc, &answer), answer)?)
+}
+
 // What is answered of a source.
 fn answered(alloc: Global, source: &str) -> Result<String, Fail> {
-    let found = match tokens(alloc, source) {
-        Ok(found) => found,
-        Err(fault) => return Ok(format!(in alloc; "{fault}")?),
-    };
-    match parse(alloc, found.as_slice()) {
-        Ok(_) => Ok(String::from_str(alloc, "a file")?),
+    match tokens(alloc, source) {
+        Ok(found) => letting_go(parsed(alloc, found.as_slice()), found),
         Err(fault) => Ok(format!(in alloc; "{fault}")?),
     }
 }
 
+fn compare_answer(alloc: Global, source: &str, offset: usize, mistake: &str) -> Result<(), Fail> {
+    let wanted = format!(in alloc; "not a file at {offset}")?;
+    let found = answered(alloc, source)?;
+    compare(mistake, found.as_str(), wanted.as_str())
+}
+
 // Compares where each mistake is refused.
-fn compare(rt: &impl Abort, alloc: Global, misses: &[Miss]) -> Result<(), Fail> {
+fn compare_all(alloc: Global, misses: &[Miss]) -> Result<(), Fail> {
     for miss in misses {
         let (source, offset) = mistaken(alloc, miss)?;
-        let wanted = format!(in alloc; "not a file at {offset}")?;
-        let found = answered(alloc, source.as_str())?;
-        assert_eq!(rt; found.as_str(), wanted.as_str(), "{}", miss.2);
+        compare_answer(alloc, source.as_str(), offset, miss.2)?;
     }
     Ok(())
 }
 
 #[test]
 fn mistakes_in_stored_files_are_refused_where_they_stand(rt: HostRuntime) -> Result<(), Fail> {
-    compare(&rt, rt.alloc(), &STORED)
+    compare_all(rt.alloc(), &STORED)
 }
 
 #[test]
 fn mistakes_in_networks_are_refused_where_they_stand(rt: HostRuntime) -> Result<(), Fail> {
-    compare(&rt, rt.alloc(), &NETWORKS)
+    compare_all(rt.alloc(), &NETWORKS)
 }
 
 #[test]
 fn mistakes_in_hosts_are_refused_where_they_stand(rt: HostRuntime) -> Result<(), Fail> {
-    compare(&rt, rt.alloc(), &HOSTS)
+    compare_all(rt.alloc(), &HOSTS)
 }
 
 #[test]
 fn mistakes_in_wholes_are_refused_where_they_stand(rt: HostRuntime) -> Result<(), Fail> {
-    compare(&rt, rt.alloc(), &WHOLES)
+    compare_all(rt.alloc(), &WHOLES)
 }

@@ -8,13 +8,12 @@ use bicep_lexer::tokens;
 use bicep_parser::parse;
 use bicep_tree::{File, Statement};
 use std::alloc::{AllocError, Global};
-use std::process::Abort;
 use std::test::Fail;
 
 // The file that the source is.
 fn file_of(alloc: Global, source: &str) -> Result<File, Fail> {
     let found = tokens(alloc, source)?;
-    Ok(parse(alloc, found.as_slice())?)
+    Ok(letting_go(parse(alloc, found.as_slice()), found)?)
 }
 
 fn add_title(out: &mut String, statement: &Statement) -> Result<(), AllocError> {
@@ -63,53 +62,76 @@ fn shape_of(alloc: Global, file: &[Statement], place: &str) -> Result<String, Fa
     Ok(out)
 }
 
-fn compare_parts(
-    rt: &impl Abort,
-    alloc: Global,
-    file: &[Statement],
-    parts: &str,
-) -> Result<(), Fail> {
+// Compares the shape of the part of a line.
+fn compare_part(alloc: Global, file: &[Statement], line: &str) -> Result<(), Fail> {
+    let (place, wanted) = line.split_once(" => ").unwrap_or((line, "a wanted shape"));
+    let found = shape_of(alloc, file, place)?;
+    compare(place, found.as_str(), wanted)
+}
+
+fn compare_parts(alloc: Global, file: &[Statement], parts: &str) -> Result<(), Fail> {
     for line in parts.lines() {
-        let Some((place, shape)) = line.split_once(" => ") else {
-            return Err(Fail::from("a line without a shape"));
-        };
-        let found = shape_of(alloc, file, place)?;
-        assert_eq!(rt; found.as_str(), shape, "{place}");
+        compare_part(alloc, file, line)?;
     }
     Ok(())
 }
 
-fn compare(rt: &impl Abort, alloc: Global, samples: &[Sample]) -> Result<(), Fail> {
+fn compare_declared(alloc: Global, file: &[Statement], wanted: &str) -> Result<(), Fail> {
+    let found = declared(alloc, file)?;
+    compare("what is declared", found.as_str(), wanted)
+}
+
+fn compare_file(alloc: Global, file: &[Statement], sample: &Sample) -> Result<(), Fail> {
+    compare_declared(alloc, file, sample.1)?;
+    compare_parts(alloc, file, sample.2)
+}
+
+fn compare_sample(alloc: Global, sample: &Sample) -> Result<(), Fail> {
+    let file = file_of(alloc, sample.0)?;
+    letting_go(compare_file(alloc, file.as_slice(), sample), file)
+}
+
+fn compare_all(alloc: Global, samples: &[Sample]) -> Result<(), Fail> {
     for sample in samples {
-        let file = file_of(alloc, sample.0)?;
-        let found = declared(alloc, file.as_slice())?;
-        assert_eq!(rt; found.as_str(), sample.1);
-        compare_parts(rt, alloc, file.as_slice(), sample.2)?;
+        compare_sample(alloc, sample)?;
     }
     Ok(())
+}
+
+/// Fails where something else is found than wanted.
+pub(crate) fn compare(asked: &str, found: &str, wanted: &str) -> Result<(), Fail> {
+    if found == wanted {
+        return Ok(());
+    }
+    Err(Fail::new(format_args!("{asked} => {wanted} but {found}")))
+}
+
+/// The answer; the part is dropped.
+pub(crate) fn letting_go<T: Drop, R>(answer: R, _part: T) -> R {
+    answer
 }
 
 #[test]
 fn stored_files_are_read_as_they_are_written(rt: HostRuntime) -> Result<(), Fail> {
-    compare(&rt, rt.alloc(), &stored::SAMPLES)
+    compare_all(rt.alloc(), &stored::SAMPLES)
 }
 
 #[test]
 fn networks_are_read_as_they_are_written(rt: HostRuntime) -> Result<(), Fail> {
-    compare(&rt, rt.alloc(), &networks::SAMPLES)
+    compare_all(rt.alloc(), &networks::SAMPLES)
 }
 
 #[test]
 fn hosts_are_read_as_they_are_written(rt: HostRuntime) -> Result<(), Fail> {
-    compare(&rt, rt.alloc(), &hosts::SAMPLES)
+    compare_all(rt.alloc(), &hosts::SAMPLES)
 }
 
 #[test]
 fn wholes_are_read_as_they_are_written(rt: HostRuntime) -> Result<(), Fail> {
-    compare(&rt, rt.alloc(), &wholes::SAMPLES)
+    compare_all(rt.alloc(), &wholes::SAMPLES)
 }
 
 #[test]
 fn plain_values_are_read_as_they_are_written(rt: HostRuntime) -> Result<(), Fail> {
-    compare(&rt, rt.alloc(), &plain::SAMPLES)
+    compare_all(rt.alloc(), &plain::SAMPLES)
 }

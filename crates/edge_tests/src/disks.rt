@@ -1,6 +1,7 @@
 // Disks in memory.
 ghost use Rattle.std.specs.Prelude.{◌≤◌, ◌+◌, length};
 
+use crate::checks::{check_case, failed};
 use arm_edges::{Disk, Failed, Part};
 use mem_disk::{Contents, MemDisk, RamDisk, Room};
 use std::alloc::Global;
@@ -29,26 +30,32 @@ fn empty(alloc: Global, room: Room) -> Result<MemDisk, Fail> {
 #[test]
 fn a_disk_in_memory_keeps_what_was_written(rt: HostRuntime) -> Result<(), Fail> {
     let mut disk = empty(rt.alloc(), Room { bytes: 7, calls: 7 })?;
-    assert_eq!(rt; write_and_read(&mut disk), Ok((5, 1, *b"\0abc")));
-    assert_eq!(rt; disk.calls().faults, 0);
-    assert_eq!(rt; disk.length(Part::A), Err(Failed), "no call is left");
-    assert_eq!(rt; disk.calls().faults, 1);
+    let read = write_and_read(&mut disk);
+    // After that no call is left.
+    let found = (
+        disk.calls().faults,
+        disk.length(Part::A),
+        disk.calls().faults,
+    );
+    assert!(rt; (read, found) == (Ok((5, 1, *b"\0abc")), (0, Err(Failed), 1)));
     Ok(())
 }
 
 #[test]
 fn a_disk_that_never_fails_keeps_what_was_written(rt: HostRuntime) -> Result<(), Fail> {
     let disk = RamDisk::new(rt.alloc(), 16)?;
-    assert_eq!(rt; write_and_read(disk), Ok((5, 1, *b"\0abc")));
+    assert!(rt; write_and_read(disk) == Ok((5, 1, *b"\0abc")));
     Ok(())
 }
 
-// Writes these bytes to part A.
-fn put(disk: &mut MemDisk, at: u64, bytes: &[u8]) -> Result<(), Fail>
-    requires { at + length bytes.now ≤ 1000 }
+// Writes "old" to part A and syncs it, and after that writes "NE" at 0 and "WER" at 2.
+fn write_over<D: Disk>(disk: &mut D) -> Result<(), Failed>
+    requires { 16 ≤ D.reach disk.old }
 {
-    disk.write_at(Part::A, at, bytes)
-        .map_err(|_| Fail::from("write"))
+    disk.write_at(Part::A, 0, b"old")?;
+    disk.sync(Part::A)?;
+    disk.write_at(Part::A, 0, b"NE")?;
+    disk.write_at(Part::A, 2, b"WER")
 }
 
 // A disk with "old" synced in part A, and after that the writes of "NE" at 0 and "WER" at 2.
@@ -58,42 +65,47 @@ fn half_written(alloc: Global) -> Result<MemDisk, Fail> {
         calls: 100,
     };
     let mut disk = empty(alloc, room)?;
-    put(&mut disk, 0, b"old")?;
-    disk.sync(Part::A).map_err(|_| Fail::from("sync"))?;
-    put(&mut disk, 0, b"NE")?;
-    put(&mut disk, 2, b"WER")?;
-    Ok(disk)
+    match write_over(&mut disk) {
+        Ok(()) => Ok(disk),
+        Err(_) => failed(disk, "a write failed"),
+    }
 }
 
-// What part A of an image holds: a row of five bytes, of which the first so many.
-fn image_of(alloc: Global, disk: &MemDisk, choice: u64) -> Result<(usize, [u8; 5]), Fail> {
-    let mut left = disk.crash(alloc, choice)?;
+// What part A holds: a row of five bytes, of which the first so many.
+fn held_by<D: Disk + Drop>(disk: D) -> Result<(usize, [u8; 5]), Failed> {
+    let mut disk = disk;
     let mut buf = *b"-----";
-    let count = left
-        .read_at(Part::A, 0, &mut buf)
-        .map_err(|_| Fail::from("read"))?;
+    let count = disk.read_at(Part::A, 0, &mut buf)?;
     Ok((count, buf))
+}
+
+// A choice, and what it leaves.
+static IMAGES: [(u64, usize, [u8; 5]); 11] = [
+    (0, 3, *b"old--"),
+    (8, 3, *b"NEd--"),
+    (4, 5, *b"olWER"),
+    (12, 5, *b"NEWER"),
+    (2, 3, *b"NEd--"),
+    (34, 3, *b"NEW--"),
+    (66, 4, *b"NEWE-"),
+    (38, 3, *b"Nld--"),
+    (1, 5, [170; 5]),
+    (5, 5, *b"\xaa\xaaWER"),
+    (35, 5, *b"NEW\xaa\xaa"),
+];
+
+// Compares what the disk holds after a crash with each image.
+fn check_images(alloc: Global, disk: &MemDisk) -> Result<(), Fail> {
+    for image in &IMAGES {
+        let (choice, count, bytes) = *image;
+        let held = held_by(disk.crash(alloc, choice)?);
+        check_case(held == Ok((count, bytes)), choice, 0)?;
+    }
+    Ok(())
 }
 
 #[test]
 fn crashes_leave_each_mixture(rt: HostRuntime) -> Result<(), Fail> {
-    let alloc = rt.alloc();
-    let disk = half_written(alloc)?;
-    // The choice, and what it leaves.
-    for (choice, size, bytes) in [
-        (0, 3, *b"old--"),
-        (8, 3, *b"NEd--"),
-        (4, 5, *b"olWER"),
-        (12, 5, *b"NEWER"),
-        (2, 3, *b"NEd--"),
-        (34, 3, *b"NEW--"),
-        (66, 4, *b"NEWE-"),
-        (38, 3, *b"Nld--"),
-        (1, 5, [170; 5]),
-        (5, 5, *b"\xaa\xaaWER"),
-        (35, 5, *b"NEW\xaa\xaa"),
-    ] {
-        assert_eq!(rt; image_of(alloc, &disk, choice)?, (size, bytes), "{choice}");
-    }
-    Ok(())
+    let disk = half_written(rt.alloc())?;
+    check_images(rt.alloc(), &disk)
 }

@@ -1,21 +1,29 @@
 // Sources and sinks in memory, and the standard output.
 use arm_edges::{Failed, MemSink, MemSource, RealOut, Sink, Source};
+use std::alloc::{AllocError, Global};
 use std::test::Fail;
+
+// Six letters, which come two and then three at most; the second read fails.
+fn letters(alloc: Global) -> Result<MemSource, AllocError> {
+    let cuts = [2, 3].to_vec(alloc)?;
+    let fails = [1].to_vec(alloc)?;
+    Ok(MemSource::new(b"abcdef".to_vec(alloc)?, cuts, fails))
+}
+
+// What five reads answer, and what the third of them gives.
+fn reads<S: Source + Drop>(source: S) -> ([Result<usize, Failed>; 5], [u8; 4]) {
+    let mut source = source;
+    let (mut buf, mut other) = ([0u8; 4], [0u8; 4]);
+    let (first, second) = (source.read(&mut other), source.read(&mut other));
+    let third = source.read(&mut buf);
+    let (fourth, last) = (source.read(&mut other), source.read(&mut other));
+    ([first, second, third, fourth, last], buf)
+}
 
 #[test]
 fn a_source_gives_its_bytes_by_the_cuts(rt: HostRuntime) -> Result<(), Fail> {
-    let alloc = rt.alloc();
-    let (cuts, fails) = ([2, 3].to_vec(alloc)?, [1].to_vec(alloc)?);
-    let mut source = MemSource::new(b"abcdef".to_vec(alloc)?, cuts, fails);
-    let mut buf = [0u8; 4];
-    assert_eq!(rt; source.read(&mut buf), Ok(2));
-    assert_eq!(rt; source.read(&mut buf), Err(Failed));
-    assert_eq!(rt; source.read(&mut buf), Ok(3));
-    assert_eq!(rt; &buf[..3], b"cde".as_slice());
-    assert_eq!(rt;
-        (source.read(&mut buf), source.read(&mut buf)),
-        (Ok(1), Ok(0))
-    );
+    let counts = [Ok(2), Err(Failed), Ok(3), Ok(1), Ok(0)];
+    assert!(rt; reads(letters(rt.alloc())?) == (counts, *b"cde\0"));
     Ok(())
 }
 
@@ -23,17 +31,16 @@ fn a_source_gives_its_bytes_by_the_cuts(rt: HostRuntime) -> Result<(), Fail> {
 fn a_sink_takes_bytes_by_the_cuts_up_to_its_room(rt: HostRuntime) -> Result<(), Fail> {
     let alloc = rt.alloc();
     let mut sink = MemSink::new(alloc, [4, 1].to_vec(alloc)?, Vec::new(alloc), 5)?;
-    assert_eq!(rt; sink.write(b"abcdef"), Ok(4));
-    assert_eq!(rt; sink.write(b"ef"), Ok(1));
-    assert_eq!(rt; sink.write(b"f"), Err(Failed));
-    assert_eq!(rt; sink.write(b""), Ok(0));
-    assert_eq!(rt; sink.as_slice(), b"abcde".as_slice());
+    let two = (sink.write(b"abcdef"), sink.write(b"ef"));
+    let counts = (two, sink.write(b"f"), sink.write(b""));
+    assert!(rt;
+        counts == ((Ok(4), Ok(1)), Err(Failed), Ok(0)) && sink.as_slice() == b"abcde".as_slice()
+    );
     Ok(())
 }
 
 #[test]
 fn standard_output_takes_bytes(rt: HostRuntime) {
     let mut out = RealOut::new(rt);
-    assert_eq!(rt; out.write(b"standard output\n"), Ok(16));
-    assert_eq!(rt; out.faults(), 0);
+    assert!(rt; (out.write(b"standard output\n"), out.faults()) == (Ok(16), 0));
 }

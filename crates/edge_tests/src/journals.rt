@@ -1,7 +1,9 @@
 // Journals that are written and read.
 ghost use Rattle.std.specs.Prelude.{◌≤◌, ◌+◌};
 
-use arm_edges::{Disk, Part, RealDisk};
+use crate::checks::{check_case, failed};
+use crate::real::real_disk;
+use arm_edges::{Disk, Failed, Part, RealDisk};
 use deploy_journal::{AppendFault, FormatFault, Journal, NotOpened, OpenFault, Record};
 use mem_disk::{Contents, MemDisk, Room};
 use std::alloc::Global;
@@ -29,7 +31,7 @@ pub(crate) fn disk_of(
 }
 
 // The bytes of the worked example of docs/JOURNAL.md.
-pub(crate) const EXAMPLE: [u8; 56] = [
+pub(crate) static EXAMPLE: [u8; 56] = [
     0x61, 0x72, 0x6d, 0x64, 0x65, 0x70, 0x6c, 0x6f, 0x79, 0x2d, 0x6a, 0x72, 0x6e, 0x6c, 0x2d, 0x31,
     0x01, 0x04, 0x00, 0x00, 0x00, 0x00, 0x00, 0x00, 0x00, 0x02, 0x00, 0x00, 0x00, 0x00, 0x00, 0x00,
     0x00, 0x00, 0x7b, 0x7d, 0x01, 0x09, 0x00, 0x00, 0x00, 0x00, 0x00, 0x00, 0x00, 0x00, 0x00, 0x00,
@@ -46,7 +48,7 @@ pub(crate) fn count_of<D: Disk + Drop>(opened: (Journal<D>, Vec<Record>)) -> usi
     opened.1.len()
 }
 
-// The journal on that disk, or why there is none, and its records.
+// The journal on that disk and its records, if there is one.
 fn opened<D: Disk + Drop>(
     alloc: Global,
     disk: D,
@@ -56,35 +58,54 @@ fn opened<D: Disk + Drop>(
 {
     match Journal::open(alloc, disk, limit) {
         Ok(opened) => Ok(opened),
-        Err(refused) => Err(not_opened(refused)),
+        Err(refused) => failed(refused, "not opened"),
     }
 }
 
-pub(crate) fn not_opened<D: Drop>(_refused: NotOpened<D>) -> Fail {
-    Fail::from("not opened")
+/// The journal that was opened; its records are dropped.
+pub(crate) fn journal_of<D: Disk + Drop>(opened: (Journal<D>, Vec<Record>)) -> Journal<D> {
+    opened.0
 }
 
-// Formats an empty disk and adds the two records of the example.
-fn written(alloc: Global) -> Result<MemDisk, Fail> {
-    let mut disk = disk_of(alloc, b"", &[], &[])?;
-    Journal::format(&mut disk).map_err(|_| Fail::from("format"))?;
-    let (mut journal, _records) = opened(alloc, disk, 56)?;
-    journal
-        .append(4, b"{}", b"", false)
-        .map_err(|_| Fail::from("first"))?;
-    journal
-        .append(9, b"", b"X", false)
-        .map_err(|_| Fail::from("second"))?;
-    Ok(journal.into_disk())
+// Adds the two records of the example, and returns the disk.
+fn add_two<D: Disk + Drop>(mut journal: Journal<D>) -> Result<D, Fail> {
+    let first = journal.append(4, b"{}", b"", false).is_ok();
+    let second = journal.append(9, b"", b"X", false).is_ok();
+    let disk = journal.into_disk();
+    if first && second {
+        Ok(disk)
+    } else {
+        failed(disk, "not added")
+    }
+}
+
+// Formats a disk and adds the two records of the example.
+fn write_example<D: Disk + Drop>(alloc: Global, disk: D) -> Result<D, Fail>
+    requires { 4153 ≤ D.reach disk }
+{
+    let mut disk = disk;
+    if Journal::format(&mut disk).is_err() {
+        return failed(disk, "not formatted");
+    }
+    add_two(journal_of(opened(alloc, disk, 56)?))
+}
+
+// How many bytes part A of a disk has, whether they are those of the example, and what formatting answers.
+fn read_all<D: Disk + Drop>(disk: D) -> (Result<usize, Failed>, bool, Result<(), FormatFault>)
+    requires { 17 ≤ D.reach disk }
+{
+    let mut disk = disk;
+    let mut bytes = [7u8; 100];
+    let read = disk.read_at(Part::A, 0, &mut bytes);
+    let are_same = bytes.get(..56) == Some(EXAMPLE.as_slice());
+    (read, are_same, Journal::format(&mut disk))
 }
 
 #[test]
 fn the_worked_example_is_written(rt: HostRuntime) -> Result<(), Fail> {
-    let mut disk = written(rt.alloc())?;
-    let mut bytes = [7u8; 100];
-    assert_eq!(rt; disk.read_at(Part::A, 0, &mut bytes), Ok(56));
-    assert_eq!(rt; &bytes[..56], EXAMPLE.as_slice());
-    assert_eq!(rt; Journal::format(&mut disk), Err(FormatFault::NotEmpty(56)));
+    let disk = disk_of(rt.alloc(), b"", &[], &[])?;
+    let found = read_all(write_example(rt.alloc(), disk)?);
+    assert!(rt; found == (Ok(56), true, Err(FormatFault::NotEmpty(56))));
     Ok(())
 }
 
@@ -100,72 +121,81 @@ fn are_of_example(records: &[Record]) -> bool {
     }
 }
 
+// Whether the journal ends after the example, and has its records.
+fn is_example<D: Disk + Drop>(opened: (Journal<D>, Vec<Record>)) -> bool {
+    opened.0.length == 56 && are_of_example(opened.1.as_slice())
+}
+
 #[test]
 fn the_worked_example_is_read(rt: HostRuntime) -> Result<(), Fail> {
-    let alloc = rt.alloc();
     for cut in [1, 3, 100] {
-        let disk = disk_of(alloc, &EXAMPLE, &[cut], &[])?;
-        let (journal, records) = opened(alloc, disk, 0)?;
-        assert_eq!(rt; journal.length, 56);
-        assert!(rt; are_of_example(records.as_slice()), "{cut}");
+        let disk = disk_of(rt.alloc(), &EXAMPLE, &[cut], &[])?;
+        let found = is_example(opened(rt.alloc(), disk, 0)?);
+        check_case(found, cut as u64, 0)?;
     }
     Ok(())
 }
 
-// What the adding of a record of 74 bytes to an empty journal answers, and how long the journal and its file then are.
-fn added(
-    alloc: Global,
-    limit: u64,
-    reserve: bool,
-) -> Result<(Result<(), AppendFault>, u64, u64), Fail>
+// A record of 74 bytes.
+const FIRST: &[u8] = br#"{"group":"g","location":"westeurope","subscription":"s"}"#;
+
+// What the adding of the record answers, how long the journal then is, and how long its file.
+type Added = (Result<(), AppendFault>, u64, Result<u64, Failed>);
+
+// Adds the record to a journal.
+fn add_first<D: Disk + Drop>(mut journal: Journal<D>, reserve: bool) -> Added {
+    let answer = journal.append(1, FIRST, b"", reserve);
+    (answer, journal.length, journal.disk.length(Part::A))
+}
+
+// Adds the record to an empty journal with this limit.
+fn added(alloc: Global, limit: u64, reserve: bool) -> Result<Added, Fail>
     requires { limit ≤ 1000 }
 {
-    let first = br#"{"group":"g","location":"westeurope","subscription":"s"}"#;
     let disk = disk_of(alloc, b"armdeploy-jrnl-1\0", &[], &[])?;
-    let (mut journal, _records) = opened(alloc, disk, limit)?;
-    let answer = journal.append(1, first, b"", reserve);
-    let length = journal.length;
-    let file = journal
-        .disk
-        .length(Part::A)
-        .map_err(|_| Fail::from("length"))?;
-    Ok((answer, length, file))
+    let journal = journal_of(opened(alloc, disk, limit)?);
+    Ok(add_first(journal, reserve))
 }
 
 #[test]
 fn a_record_fits_exactly_up_to_the_limit(rt: HostRuntime) -> Result<(), Fail> {
-    let alloc = rt.alloc();
-    let full = AppendFault::Full {
-        length: 17,
-        needed: 91,
-    };
-    assert_eq!(rt; added(alloc, 91, false)?, (Ok(()), 91, 91));
-    assert_eq!(rt; added(alloc, 90, false)?, (Err(full), 17, 17));
-    assert_eq!(rt; added(alloc, 90, true)?, (Ok(()), 91, 91));
-    assert_eq!(rt; added(alloc, 0, false)?, (Err(full), 17, 17));
+    let (length, needed) = (17, 91);
+    let full = Err(AppendFault::Full { length, needed });
+    let (fits, over) = ((Ok(()), 91, Ok(91)), (full, 17, Ok(17)));
+    let two = (added(rt.alloc(), 91, false)?, added(rt.alloc(), 90, false)?);
+    let more = (added(rt.alloc(), 90, true)?, added(rt.alloc(), 0, false)?);
+    assert!(rt; (two, more) == ((fits, over), (fits, over)));
     Ok(())
 }
 
-// Adds a record to the journal of that disk, and returns how many it had before.
-fn add_one<D: Disk + Drop>(alloc: Global, disk: D) -> Result<usize, Fail>
-    requires { 4196 ≤ D.reach disk }
-{
-    let (mut journal, records) = opened(alloc, disk, 100)?;
-    journal
-        .append(4, b"{}", b"", false)
-        .map_err(|_| Fail::from("not added"))?;
-    Ok(records.len())
+// How many records a journal has, to which one more is added.
+fn add_one<D: Disk + Drop>(opened: (Journal<D>, Vec<Record>)) -> Option<usize> {
+    let (mut journal, records) = opened;
+    match journal.append(4, b"{}", b"", false) {
+        Ok(()) => Some(records.len()),
+        Err(_) => None,
+    }
+}
+
+// Formats a disk, and opens and extends its journal three times.
+fn extend(
+    alloc: Global,
+    mut disk: RealDisk<HostRuntime>,
+) -> Result<(Option<usize>, Option<usize>, Option<usize>), Fail> {
+    if Journal::format(&mut disk).is_err() {
+        return failed(disk, "not formatted");
+    }
+    let first = add_one(opened(alloc, &mut disk, 100)?);
+    let second = add_one(opened(alloc, &mut disk, 100)?);
+    Ok((first, second, add_one(opened(alloc, disk, 100)?)))
 }
 
 #[test]
 fn a_journal_is_kept_in_real_files(rt: HostRuntime) -> Result<(), Fail> {
-    let alloc = rt.alloc();
     let (a, b) = ("edge_tests-journal", "edge_tests-journal.b");
-    let mut disk = RealDisk::new(rt, String::from_str(alloc, a)?, String::from_str(alloc, b)?);
-    assert_eq!(rt; Journal::format(&mut disk), Ok(()));
-    assert_eq!(rt; add_one(alloc, &mut disk)?, 0);
-    assert_eq!(rt; add_one(alloc, &mut disk)?, 1);
-    assert_eq!(rt; add_one(alloc, disk)?, 2);
+    let disk = real_disk(rt, rt.alloc(), (a, b))?;
+    let counts = extend(rt.alloc(), disk)?;
+    assert!(rt; counts == (Some(0), Some(1), Some(2)));
     fs::remove_file(&rt, a)?;
     Ok(())
 }

@@ -1,10 +1,12 @@
 // Links in memory and over TCP, and their connections.
 ghost use Rattle.std.specs.Prelude.{◌≡◌, ◌≤◌, true, ◌++◌, length, take, IfOk};
 
+use crate::checks::failed;
 use arm_edges::{Calls, Connection, Failed, Link, MemConnection, MemEnd, MemLink, RealLink};
 use std::alloc::Global;
+use std::io;
 use std::io::{Read, Write};
-use std::net::{Ipv4Addr, TcpStream};
+use std::net::{Ipv4Addr, Net, TcpStream};
 use std::test::Fail;
 
 // Reads one piece from a connection, and writes it back. Returns how many bytes it read, and how many it wrote.
@@ -52,66 +54,77 @@ fn serve<L: Link>(link: &mut L) -> Result<(usize, usize), Failed> {
 #[test]
 fn a_link_gives_its_connections_in_order(rt: HostRuntime) -> Result<(), Fail> {
     let mut link = two_connections(rt.alloc())?;
-    assert_eq!(rt; link.listen(80), Ok(()));
-    assert_eq!(rt; serve(&mut link), Err(Failed));
-    assert_eq!(rt; serve(&mut link), Ok((3, 3)));
-    assert_eq!(rt; serve(&mut link), Ok((4, 4)));
-    assert_eq!(rt; serve(&mut link), Err(Failed));
-    assert_eq!(rt; (link.calls.made, link.calls.faults), (5, 2));
+    let first = (link.listen(80), serve(&mut link));
+    let two = (serve(&mut link), serve(&mut link));
+    let last = (serve(&mut link), link.calls.made, link.calls.faults);
+    assert!(rt; (first, two) == ((Ok(()), Err(Failed)), (Ok((3, 3)), Ok((4, 4)))));
+    assert!(rt; last == (Err(Failed), 5, 2));
     Ok(())
 }
 
-// What the connection that was finished last received and was sent, as one text.
-fn last(alloc: Global, link: &mut MemLink) -> Result<String, Fail> {
-    let Some(exchange) = link.take_last() else {
-        return Ok(String::from_str(alloc, "none")?);
-    };
-    let received = String::from_utf8(exchange.received.into_vec())?;
-    let written = String::from_utf8(exchange.written.into_vec())?;
-    Ok(format!(in alloc; "{received} {written}")?)
+// Whether the connection that was finished last received these bytes and was sent as many.
+fn is_last(link: &mut MemLink, bytes: &[u8]) -> bool {
+    match link.take_last() {
+        Some(exchange) => exchange.received.as_slice() == bytes
+            && exchange.written.as_slice() == bytes,
+        None => false,
+    }
 }
 
 #[test]
 fn a_link_lists_what_was_read_and_written(rt: HostRuntime) -> Result<(), Fail> {
-    let alloc = rt.alloc();
-    let mut link = two_connections(alloc)?;
-    assert_eq!(rt; serve(&mut link), Ok((3, 3)));
-    assert_eq!(rt; serve(&mut link), Err(Failed));
-    assert_eq!(rt; serve(&mut link), Ok((4, 4)));
-    assert_eq!(rt; last(alloc, &mut link)?.as_str(), "seco seco");
-    assert_eq!(rt; last(alloc, &mut link)?.as_str(), "one one");
-    assert_eq!(rt; last(alloc, &mut link)?.as_str(), "none");
+    let mut link = two_connections(rt.alloc())?;
+    let served = (serve(&mut link), serve(&mut link), serve(&mut link));
+    let last = (is_last(&mut link, b"seco"), is_last(&mut link, b"one"));
+    let found = (served, last, link.take_last().is_none());
+    assert!(rt; found == ((Ok((3, 3)), Err(Failed), Ok((4, 4))), (true, true), true));
     Ok(())
+}
+
+// A connection on which three bytes come in two at a time, with room for two; the second read fails.
+fn two_bytes_of_room(alloc: Global) -> Result<MemEnd, Fail> {
+    let reads = Calls::new([2].to_vec(alloc)?, [1].to_vec(alloc)?);
+    Ok(MemEnd::new(alloc, b"abc".to_vec(alloc)?, reads, steady(alloc), 2)?)
 }
 
 #[test]
 fn a_connection_counts_its_reads_and_writes_apart(rt: HostRuntime) -> Result<(), Fail> {
-    let alloc = rt.alloc();
-    let reads = Calls::new([2].to_vec(alloc)?, [1].to_vec(alloc)?);
-    let mut end = MemEnd::new(alloc, b"abc".to_vec(alloc)?, reads, steady(alloc), 2)?;
+    let mut end = two_bytes_of_room(rt.alloc())?;
     let mut buf = [0u8; 4];
-    assert_eq!(rt; echo(&mut end, &mut buf), Ok((2, 2)));
-    assert_eq!(rt; echo(&mut end, &mut buf), Err(Failed));
-    assert_eq!(rt; echo(&mut end, &mut buf), Err(Failed));
-    assert_eq!(rt; (end.source.calls.faults, end.sink.calls.faults), (1, 1));
-    assert_eq!(rt; end.sink.as_slice(), b"ab".as_slice());
+    let first = echo(&mut end, &mut buf);
+    let more = (echo(&mut end, &mut buf), echo(&mut end, &mut buf));
+    let faults = (end.source.calls.faults, end.sink.calls.faults);
+    assert!(rt; (first, more) == (Ok((2, 2)), (Err(Failed), Err(Failed))));
+    assert!(rt; faults == (1, 1) && end.sink.as_slice() == b"ab".as_slice());
     Ok(())
+}
+
+// A client of a link that listens, which has sent four bytes.
+fn ping<R: Net<Stream = TcpStream>>(rt: &R, port: Option<u16>) -> Result<TcpStream, Fail> {
+    let port = port.ok_or("no port")?;
+    let mut client = TcpStream::connect(rt, (Ipv4Addr::LOCALHOST, port))?;
+    match client.write_all(b"ping") {
+        Ok(()) => Ok(client),
+        Err(error) => failed((client, error), "not sent"),
+    }
+}
+
+// How many bytes the client reads, and how many after these, and the first of them.
+fn answered<S: Read + Drop>(client: S) -> io::Result<(usize, usize, [u8; 4])> {
+    let mut client = client;
+    let (mut buf, mut more) = ([0u8; 4], [0u8; 4]);
+    let count = client.read(&mut buf)?;
+    Ok((count, client.read(&mut more)?, buf))
 }
 
 #[test]
 fn a_real_link_serves_a_client(rt: HostRuntime) -> Result<(), Fail> {
     let mut link = RealLink::new(rt);
-    assert_eq!(rt; serve(&mut link), Err(Failed));
-    assert_eq!(rt; link.listen(0), Ok(()));
-    let port = link.port().ok_or("no port")?;
-    let mut client = TcpStream::connect(&rt, (Ipv4Addr::LOCALHOST, port))?;
-    client.write_all(b"ping")?;
-    assert_eq!(rt; (serve(&mut link), link.faults()), (Ok((4, 4)), 1));
-    let mut buf = [0u8; 8];
-    assert_eq!(rt;
-        (client.read(&mut buf)?, client.read(&mut buf[4..])?),
-        (4, 0)
-    );
-    assert_eq!(rt; &buf[..4], b"ping".as_slice());
+    let early = (serve(&mut link), link.listen(0));
+    let client = ping(&rt, link.port())?;
+    let served = (serve(&mut link), link.faults());
+    assert!(rt; (early, served) == ((Err(Failed), Ok(())), (Ok((4, 4)), 1)));
+    let answer = answered(client)?;
+    assert!(rt; answer == (4, 0, *b"ping"));
     Ok(())
 }

@@ -1,5 +1,7 @@
 // Stops inside an append, at each call, and what a crash then leaves.
-use crate::journals::{count_of, disk_of, not_opened};
+use crate::checks::{check_case, failed};
+use crate::journals::{count_of, disk_of, journal_of};
+use arm_edges::Disk;
 use deploy_journal::Journal;
 use mem_disk::MemDisk;
 use std::alloc::Global;
@@ -10,12 +12,12 @@ use std::test::Fail;
 fn stopped_at(alloc: Global, call: u64) -> Result<(usize, MemDisk), Fail> {
     let disk = disk_of(alloc, b"armdeploy-jrnl-1\0and stale bytes", &[], &[call])?;
     match Journal::open(alloc, disk, 1000) {
-        Ok((journal, _records)) => Ok(added_two(journal)),
+        Ok(opened) => Ok(added_two(journal_of(opened))),
         Err(refused) => Ok((0, refused.disk)),
     }
 }
 
-fn added_two(mut journal: Journal<MemDisk>) -> (usize, MemDisk) {
+fn added_two<D: Disk + Drop>(mut journal: Journal<D>) -> (usize, D) {
     let first = journal.append(1, b"abc", b"", false).is_ok();
     let second = journal.append(2, b"", b"xyz", false).is_ok();
     let count = match (first, second) {
@@ -31,7 +33,7 @@ fn added_two(mut journal: Journal<MemDisk>) -> (usize, MemDisk) {
 fn records_left(alloc: Global, disk: &MemDisk, choice: u64) -> Result<usize, Fail> {
     match Journal::open(alloc, disk.crash(alloc, choice)?, 1000) {
         Ok(opened) => Ok(count_of(opened)),
-        Err(refused) => Err(not_opened(refused)),
+        Err(refused) => failed(refused, "not opened"),
     }
 }
 
@@ -46,43 +48,56 @@ fn most_at(call: u64) -> usize {
     }
 }
 
-#[test]
-fn a_stop_at_any_call_leaves_whole_records(rt: HostRuntime) -> Result<(), Fail> {
-    let alloc = rt.alloc();
-    for call in 0..20 {
-        let (answered, disk) = stopped_at(alloc, call)?;
-        let want = usize::from(call > 10) + usize::from(call > 17);
-        assert_eq!(rt; answered, want, "{call}");
-        for choice in 0..256 {
-            let count = records_left(alloc, &disk, choice)?;
-            assert!(rt;
-                answered <= count && count <= most_at(call),
-                "{call} {choice}"
-            );
-        }
+// The appends that are answered by Ok where the call of that number fails.
+fn answered_at(call: u64) -> usize {
+    usize::from(call > 10) + usize::from(call > 17)
+}
+
+// Fails where another count was answered by Ok, or an image holds fewer records, or more than may be there.
+fn check_images(alloc: Global, call: u64, answered: usize, disk: &MemDisk) -> Result<(), Fail> {
+    for choice in 0..256 {
+        let count = records_left(alloc, disk, choice)?;
+        let may_be_left = answered <= count && count <= most_at(call);
+        check_case(answered == answered_at(call) && may_be_left, call, choice)?;
     }
     Ok(())
 }
 
+fn check_stop(alloc: Global, call: u64) -> Result<(), Fail> {
+    let (answered, disk) = stopped_at(alloc, call)?;
+    check_images(alloc, call, answered, &disk)
+}
+
+#[test]
+fn a_stop_at_any_call_leaves_whole_records(rt: HostRuntime) -> Result<(), Fail> {
+    for call in 0..20 {
+        check_stop(rt.alloc(), call)?;
+    }
+    Ok(())
+}
+
+// The call that fails: the sync of the body, the gate's write, its sync, and the first write of the next record. Then
+// the choice, and how many records are in what it leaves.
+static GATES: [(u64, u64, usize); 6] = [
+    (8, 252, 0),
+    (9, 0, 0),
+    (9, 4, 1),
+    (10, 0, 0),
+    (10, 4, 1),
+    (11, 0, 1),
+];
+
+// How many records the image of that choice holds, after a stop at that call.
+fn left_after(alloc: Global, call: u64, choice: u64) -> Result<usize, Fail> {
+    let (_answered, disk) = stopped_at(alloc, call)?;
+    records_left(alloc, &disk, choice)
+}
+
 #[test]
 fn a_stop_at_the_gate_leaves_the_record_or_not(rt: HostRuntime) -> Result<(), Fail> {
-    let alloc = rt.alloc();
-    // The call that fails: the sync of the body, the gate's write, its sync, and the first write of the next record.
-    // Then the choice, and how many records are in what it leaves.
-    for (call, choice, want) in [
-        (8, 252, 0),
-        (9, 0, 0),
-        (9, 4, 1),
-        (10, 0, 0),
-        (10, 4, 1),
-        (11, 0, 1),
-    ] {
-        let (_answered, disk) = stopped_at(alloc, call)?;
-        assert_eq!(rt;
-            records_left(alloc, &disk, choice)?,
-            want,
-            "{call} {choice}"
-        );
+    for row in &GATES {
+        let (call, choice, want) = *row;
+        check_case(left_after(rt.alloc(), call, choice)? == want, call, choice)?;
     }
     Ok(())
 }

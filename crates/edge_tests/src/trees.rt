@@ -23,7 +23,7 @@ fn sample(alloc: Global) -> Result<MemTree, Fail> {
 }
 
 // How many bytes the tree answers with.
-fn size_in(alloc: Global, tree: &mut MemTree, name: &str) -> Result<Option<usize>, TreeFault> {
+fn size_in<T: Tree>(alloc: Global, tree: &mut T, name: &str) -> Result<Option<usize>, TreeFault> {
     match tree.read_file(alloc, name)? {
         Some(bytes) => Ok(Some(bytes.as_slice().len())),
         None => Ok(None),
@@ -34,23 +34,36 @@ fn size_in(alloc: Global, tree: &mut MemTree, name: &str) -> Result<Option<usize
 fn trees_in_memory_answer_by_name(rt: HostRuntime) -> Result<(), Fail> {
     let alloc = rt.alloc();
     let mut tree = sample(alloc)?;
-    assert_eq!(rt; size_in(alloc, &mut tree, "a"), Ok(Some(3)));
-    assert_eq!(rt; size_in(alloc, &mut tree, "a"), Err(TreeFault::Fault));
-    assert_eq!(rt; size_in(alloc, &mut tree, "b"), Ok(None));
-    assert_eq!(rt;
-        size_in(alloc, &mut tree, "large"),
-        Err(TreeFault::TooLarge)
+    let two = (
+        size_in(alloc, &mut tree, "a"),
+        size_in(alloc, &mut tree, "a"),
     );
-    assert_eq!(rt; size_in(alloc, &mut tree, "largest"), Ok(Some(4_194_304)));
-    assert_eq!(rt; tree.calls.faults, 1);
+    let missing = size_in(alloc, &mut tree, "b");
+    let large = (
+        size_in(alloc, &mut tree, "large"),
+        size_in(alloc, &mut tree, "largest"),
+    );
+    assert!(rt; two == (Ok(Some(3)), Err(TreeFault::Fault)) && missing == Ok(None));
+    assert!(rt; large == (Err(TreeFault::TooLarge), Ok(Some(4_194_304))) && tree.calls.faults == 1);
     Ok(())
+}
+
+// Whether the file of that name has these bytes.
+fn is_in<T: Tree>(
+    alloc: Global,
+    tree: &mut T,
+    name: &str,
+    bytes: &[u8],
+) -> Result<bool, TreeFault> {
+    match tree.read_file(alloc, name)? {
+        Some(found) => Ok(found.as_slice() == bytes),
+        None => Ok(false),
+    }
 }
 
 #[test]
 fn of_two_files_of_one_name_the_first_is_read(rt: HostRuntime) -> Result<(), Fail> {
-    let alloc = rt.alloc();
-    let mut tree = sample(alloc)?;
-    let found = tree.read_file(alloc, "a")?.ok_or("a is missing")?;
-    assert_eq!(rt; found.as_slice(), b"one".as_slice());
+    let mut tree = sample(rt.alloc())?;
+    assert!(rt; is_in(rt.alloc(), &mut tree, "a", b"one") == Ok(true));
     Ok(())
 }

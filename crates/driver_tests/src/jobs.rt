@@ -46,3 +46,8 @@ pub fn compare(asked: &str, found: &str, wanted: &str) -> Result<(), Fail> {
     }
     Err(Fail::new(format_args!("{asked} -> {wanted} but {found}")))
 }
+
+/// The answer; the part is dropped.
+pub fn letting_go<T: Drop, R>(answer: R, _part: T) -> R {
+    answer
+}

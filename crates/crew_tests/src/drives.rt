@@ -1,11 +1,9 @@
 // Drives over scripts: which calls each seat gets, in which order.
 
-use crate::fresh::{Driven, drive_new};
-use crate::jobs::{are_begins, compare, first, plain, put_jobs, told};
-use crate::side_by_side::needs_of;
+use crate::fresh::{Driven, drive_new, steps_of};
+use crate::jobs::{are_begins, compare, first, letting_go, one, plain};
 use arm_value::Text;
 use dealer_trait::DealerStep;
-use driver_fakes::MemBook;
 use provider_trait::{Script, Step};
 use std::alloc::Global;
 use std::sync::Wait;
@@ -86,17 +84,22 @@ fn drive_many<R: Threads + Wait + Sync>(
     seats: u32,
     jobs: u32,
 ) -> Result<(), Fail> {
-    let book = MemBook::new(alloc, 2_000_000, Vec::new(alloc))?;
-    let needs = random_needs(alloc, jobs)?;
-    let driven = drive_new(
-        rt,
-        alloc,
-        put_jobs(alloc, jobs)?,
-        needs,
-        scripts(alloc, seats)?,
-        book,
-    )?;
-    check_all(&driven, jobs)
+    let scripts = scripts(alloc, seats)?;
+    match random_needs(alloc, jobs) {
+        Ok(needs) => drive_all(rt, alloc, (jobs, needs), scripts),
+        Err(fail) => letting_go(Err(fail), scripts),
+    }
+}
+
+fn drive_all<R: Threads + Wait + Sync>(
+    rt: &R,
+    alloc: Global,
+    puts: (u32, Vec<Vec<u32>>),
+    scripts: Vec<Script>,
+) -> Result<(), Fail> {
+    let jobs = puts.0;
+    let driven = drive_new(rt, alloc, puts, scripts, &[])?;
+    letting_go(check_all(&driven, jobs), driven)
 }
 
 #[test]
@@ -119,38 +122,33 @@ fn many_seats_get_the_jobs_that_were_begun_with_their_numbers(rt: HostRuntime) -
     drive_many(&rt, rt.alloc(), 64, 2000)
 }
 
-// The steps of one seat over so many jobs, with its first step.
-fn steps_of_one<R: Threads + Wait + Sync>(
+// Compares the steps of one seat over so many jobs, with this script, and what is returned.
+fn check_one<R: Threads + Wait + Sync>(
     rt: &R,
     alloc: Global,
     script: Script,
     jobs: u32,
-) -> Result<String, Fail> {
-    let mut list = Vec::new(alloc);
-    list.push(script)?;
-    let book = MemBook::new(alloc, 10_000, Vec::new(alloc))?;
-    let needs = needs_of(alloc, "")?;
-    let driven = drive_new(rt, alloc, put_jobs(alloc, jobs)?, needs, list, book)?;
-    told(alloc, driven.dealer.steps())
+    wanted: &str,
+) -> Result<(), Fail> {
+    let scripts = one(alloc, script)?;
+    let steps = steps_of(rt, alloc, (jobs, Vec::new(alloc)), scripts, &[])?;
+    compare("steps", steps.as_str(), wanted)
 }
 
 #[test]
 fn no_job_ends_at_once(rt: HostRuntime) -> Result<(), Fail> {
-    let script = plain(rt.alloc());
-    let steps = steps_of_one(&rt, rt.alloc(), script, 0)?;
-    compare("steps", steps.as_str(), "")
+    check_one(&rt, rt.alloc(), plain(rt.alloc()), 0, "well")
 }
 
 #[test]
 fn a_refusal_is_an_answer(rt: HostRuntime) -> Result<(), Fail> {
     let script = first(rt.alloc(), Step::Refuse(Text::of(rt.alloc(), "Quota")?))?;
-    let steps = steps_of_one(&rt, rt.alloc(), script, 2)?;
-    compare("steps", steps.as_str(), "begin 0 0\nQuota 0\n")
+    check_one(&rt, rt.alloc(), script, 2, "begin 0 0\nQuota 0\nwell")
 }
 
 #[test]
 fn a_fault_is_a_back_and_ends_the_drive(rt: HostRuntime) -> Result<(), Fail> {
     let script = first(rt.alloc(), Step::Fail)?;
-    let steps = steps_of_one(&rt, rt.alloc(), script, 2)?;
-    compare("steps", steps.as_str(), "begin 0 0\nback 0\n")
+    let wanted = "begin 0 0\nback 0\nthe provider of seat 0 failed";
+    check_one(&rt, rt.alloc(), script, 2, wanted)
 }

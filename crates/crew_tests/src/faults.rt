@@ -1,67 +1,49 @@
 // Drives that end by a fault.
 
-use crate::drives::scripts;
-use crate::fresh::drive_new;
-use crate::jobs::{compare, first, plain, put_jobs, told};
+use crate::fresh::steps_of;
+use crate::jobs::{compare, first, one, plain};
 use crate::short::Short;
-use crate::side_by_side::needs_of;
-use driver_fakes::MemBook;
 use provider_trait::{Script, Step};
 use std::alloc::Global;
 use std::sync::Wait;
 use std::test::Fail;
 use std::thread::Threads;
-use worker_crew::DriveFault;
 
-// What a drive returned, as text.
-fn said(alloc: Global, returned: &Result<(), DriveFault>) -> Result<String, Fail> {
-    match returned {
-        Ok(()) => Ok(String::from_str(alloc, "well")?),
-        Err(fault) => Ok(format!(in alloc; "{fault}")?),
+// The script of a seat, which fails at its first call where the seat is this one.
+fn script_of(alloc: Global, seat: u32, faulty: u32) -> Result<Script, Fail> {
+    if seat == faulty {
+        return first(alloc, Step::Fail);
     }
+    Ok(plain(alloc))
 }
 
 // So many scripts, of which the one at this place fails at its first call.
 fn with_fault(alloc: Global, seats: u32, faulty: u32) -> Result<Vec<Script>, Fail> {
     let mut scripts = Vec::new(alloc);
     for seat in 0..seats {
-        if seat == faulty {
-            scripts.push(first(alloc, Step::Fail)?)?;
-        } else {
-            scripts.push(plain(alloc))?;
-        }
+        scripts.push(script_of(alloc, seat, faulty)?)?;
     }
     Ok(scripts)
 }
 
-// What a drive of so many seats over four jobs returns, where the seat of this number fails.
-fn fault_of<R: Threads + Wait + Sync>(
-    rt: &R,
-    alloc: Global,
-    seats: u32,
-    faulty: u32,
-) -> Result<String, Fail> {
-    let driven = drive_new(
-        rt,
-        alloc,
-        put_jobs(alloc, 4)?,
-        needs_of(alloc, "")?,
-        with_fault(alloc, seats, faulty)?,
-        MemBook::new(alloc, 10_000, Vec::new(alloc))?,
-    )?;
-    said(alloc, &driven.returned)
-}
-
-// Fails unless the seat of this number is named where it fails.
+// Fails unless the seat of this number is named where it fails, of so many seats over four jobs.
 fn check_fault<R: Threads + Wait + Sync>(
     rt: &R,
     alloc: Global,
     seats: u32,
     faulty: u32,
 ) -> Result<(), Fail> {
-    let said = fault_of(rt, alloc, seats, faulty)?;
-    let wanted = format!(in alloc; "the provider of seat {faulty} failed")?;
-    compare("fault", said.as_str(), wanted.as_str())
+    let scripts = with_fault(alloc, seats, faulty)?;
+    let steps = steps_of(rt, alloc, (4, Vec::new(alloc)), scripts, &[])?;
+    let wanted = format!(in alloc; "\nthe provider of seat {faulty} failed")?;
+    check_end(steps.as_str(), wanted.as_str())
+}
+
+fn check_end(steps: &str, wanted: &str) -> Result<(), Fail> {
+    if steps.ends_with(wanted) {
+        return Ok(());
+    }
+    compare("fault", steps, wanted)
 }
 
 #[test]
@@ -74,96 +56,57 @@ fn the_seat_that_failed_is_named(rt: HostRuntime) -> Result<(), Fail> {
     Ok(())
 }
 
-// The steps of one seat over three jobs, where the note of this number fails, and what is returned.
-fn note_fails<R: Threads + Wait + Sync>(rt: &R, alloc: Global, note: u64) -> Result<String, Fail> {
-    let mut fails = Vec::new(alloc);
-    fails.push(note)?;
-    let book = MemBook::new(alloc, 10_000, fails)?;
-    let needs = needs_of(alloc, "")?;
-    let driven = drive_new(
-        rt,
-        alloc,
-        put_jobs(alloc, 3)?,
-        needs,
-        scripts(alloc, 1)?,
-        book,
-    )?;
-    let mut text = told(alloc, driven.dealer.steps())?;
-    let said = said(alloc, &driven.returned)?;
-    text.push_str(said.as_str())?;
-    Ok(text)
+// Compares the steps of one seat over three jobs, and what is returned, where the note of this number fails.
+fn check_note<R: Threads + Wait + Sync>(
+    rt: &R,
+    alloc: Global,
+    note: u64,
+    wanted: &str,
+) -> Result<(), Fail> {
+    let scripts = one(alloc, plain(alloc))?;
+    let steps = steps_of(rt, alloc, (3, Vec::new(alloc)), scripts, &[note])?;
+    compare("note", steps.as_str(), wanted)
 }
 
 #[test]
 fn a_note_that_fails_is_a_back_and_ends_the_drive(rt: HostRuntime) -> Result<(), Fail> {
-    let zero = note_fails(&rt, rt.alloc(), 0)?;
-    compare(
-        "note 0",
-        zero.as_str(),
+    let (first, second) = (
         "begin 0 0\nback 0\nthe disk failed",
-    )?;
-    let one = note_fails(&rt, rt.alloc(), 1)?;
-    compare(
-        "note 1",
-        one.as_str(),
         "begin 0 0\nstored 0\nbegin 1 0\nback 1\nthe disk failed",
-    )?;
-    let two = note_fails(&rt, rt.alloc(), 2)?;
-    compare(
-        "note 2",
-        two.as_str(),
-        "begin 0 0\nstored 0\nbegin 1 0\nstored 1\nbegin 2 0\nback 2\nthe disk failed",
-    )
-}
-
-// The steps of one seat over three jobs, whose call of this number is out of memory, and what is
-// returned.
-fn call_is_short<R: Threads + Wait + Sync>(
-    rt: &R,
-    alloc: Global,
-    call: u32,
-) -> Result<String, Fail> {
-    let mut list = Vec::new(alloc);
-    list.push(Short { left: call })?;
-    let book = MemBook::new(alloc, 10_000, Vec::new(alloc))?;
-    let driven = drive_new(
-        rt,
-        alloc,
-        put_jobs(alloc, 3)?,
-        needs_of(alloc, "")?,
-        list,
-        book,
-    )?;
-    let mut text = told(alloc, driven.dealer.steps())?;
-    let said = said(alloc, &driven.returned)?;
-    text.push_str(said.as_str())?;
-    Ok(text)
-}
-
-#[test]
-fn a_call_out_of_memory_is_a_back_and_ends_the_drive(rt: HostRuntime) -> Result<(), Fail> {
-    let zero = call_is_short(&rt, rt.alloc(), 0)?;
-    compare("call 0", zero.as_str(), "begin 0 0\nback 0\nout of memory")?;
-    let one = call_is_short(&rt, rt.alloc(), 1)?;
-    compare(
-        "call 1",
-        one.as_str(),
-        "begin 0 0\nstored 0\nbegin 1 0\nback 1\nout of memory",
-    )?;
-    let two = call_is_short(&rt, rt.alloc(), 2)?;
-    compare(
-        "call 2",
-        two.as_str(),
-        "begin 0 0\nstored 0\nbegin 1 0\nstored 1\nbegin 2 0\nback 2\nout of memory",
-    )
+    );
+    let third = "begin 0 0\nstored 0\nbegin 1 0\nstored 1\nbegin 2 0\nback 2\nthe disk failed";
+    check_note(&rt, rt.alloc(), 0, first)?;
+    check_note(&rt, rt.alloc(), 1, second)?;
+    check_note(&rt, rt.alloc(), 2, third)
 }
 
 #[test]
 fn all_jobs_are_done_where_no_note_fails(rt: HostRuntime) -> Result<(), Fail> {
-    let all = note_fails(&rt, rt.alloc(), 3)?;
-    compare(
-        "no note",
-        all.as_str(),
-        "begin 0 0\nstored 0\nbegin 1 0\nstored 1\nbegin 2 0\nstored 2\nwell",
-    )
+    let wanted = "begin 0 0\nstored 0\nbegin 1 0\nstored 1\nbegin 2 0\nstored 2\nwell";
+    check_note(&rt, rt.alloc(), 3, wanted)
+}
+
+// Compares the steps of one seat over three jobs, and what is returned, where its call of this number is out of
+// memory.
+fn check_call<R: Threads + Wait + Sync>(
+    rt: &R,
+    alloc: Global,
+    call: u32,
+    wanted: &str,
+) -> Result<(), Fail> {
+    let seats = one(alloc, Short { left: call })?;
+    let steps = steps_of(rt, alloc, (3, Vec::new(alloc)), seats, &[])?;
+    compare("call", steps.as_str(), wanted)
+}
+
+#[test]
+fn a_call_out_of_memory_is_a_back_and_ends_the_drive(rt: HostRuntime) -> Result<(), Fail> {
+    let (first, second) = (
+        "begin 0 0\nback 0\nout of memory",
+        "begin 0 0\nstored 0\nbegin 1 0\nback 1\nout of memory",
+    );
+    let third = "begin 0 0\nstored 0\nbegin 1 0\nstored 1\nbegin 2 0\nback 2\nout of memory";
+    check_call(&rt, rt.alloc(), 0, first)?;
+    check_call(&rt, rt.alloc(), 1, second)?;
+    check_call(&rt, rt.alloc(), 2, third)
 }

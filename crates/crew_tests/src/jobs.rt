@@ -1,9 +1,11 @@
 // Jobs for tests, and what their calls and answers are compared with.
 
+ghost use Rattle.std.specs.Prelude.{◌≡◌};
+
 use arm_value::{Fields, Text, Value};
 use dealer_trait::DealerStep;
 use provider_trait::{Act, Answer, Call, Job, JobParts, ProviderFault, Script, Step};
-use std::alloc::Global;
+use std::alloc::{AllocError, Global};
 use std::test::Fail;
 
 /// The put of a resource of its own, with an empty body.
@@ -22,13 +24,21 @@ pub fn put_job(alloc: Global, task: u32) -> Result<Job, Fail> {
     Ok(Job::new(alloc, parts)?)
 }
 
-/// So many puts.
-pub fn put_jobs(alloc: Global, count: u32) -> Result<Vec<Job>, Fail> {
-    let mut jobs = Vec::new(alloc);
+// Adds so many puts.
+fn add_puts(alloc: Global, jobs: &mut Vec<Job>, count: u32) -> Result<(), Fail> {
     for task in 0..count {
         jobs.push(put_job(alloc, task)?)?;
     }
-    Ok(jobs)
+    Ok(())
+}
+
+/// So many puts.
+pub fn put_jobs(alloc: Global, count: u32) -> Result<Vec<Job>, Fail> {
+    let mut jobs = Vec::new(alloc);
+    match add_puts(alloc, &mut jobs, count) {
+        Ok(()) => Ok(jobs),
+        Err(fail) => letting_go(Err(fail), jobs),
+    }
 }
 
 /// A script that does what it is asked.
@@ -36,48 +46,63 @@ pub fn plain(alloc: Global) -> Script {
     Script::new(alloc, Vec::new(alloc))
 }
 
+/// A list of one item.
+pub fn one<T: Drop>(alloc: Global, item: T) -> Result<Vec<T>, AllocError> {
+    let mut list = Vec::new(alloc);
+    list.push(item)?;
+    Ok(list)
+}
+
+/// A list of two items.
+pub fn two<T: Drop>(alloc: Global, items: (T, T)) -> Result<Vec<T>, AllocError> {
+    let mut list = Vec::new(alloc);
+    list.push(items.0)?;
+    list.push(items.1)?;
+    Ok(list)
+}
+
 /// A script that does this at its first call.
 pub fn first(alloc: Global, step: Step) -> Result<Script, Fail> {
-    let mut steps = Vec::new(alloc);
-    steps.push(step)?;
-    Ok(Script::new(alloc, steps))
+    Ok(Script::new(alloc, one(alloc, step)?))
 }
 
 /// A word for what a call returned.
 pub fn word(gave: &Result<Answer, ProviderFault>) -> &str {
     match gave {
-        Ok(Answer::Stored(_)) => "stored",
-        Ok(Answer::Gone) => "gone",
-        Ok(Answer::Refused(code)) => code.as_str(),
+        Ok(answer) => answer_word(answer),
         Err(ProviderFault::Fault) => "fault",
         Err(ProviderFault::OutOfMemory) => "memory",
     }
 }
 
-/// The steps of a dealer as text: `begin TASK WORKER`, `ANSWER TASK` or `back TASK`, each in a line.
-pub fn told(alloc: Global, steps: &[DealerStep]) -> Result<String, Fail> {
-    let mut text = String::new(alloc);
-    for step in steps {
-        let line = line(alloc, step)?;
-        text.push_str(line.as_str())?;
+// A word for an answer.
+fn answer_word(answer: &Answer) -> &str {
+    match answer {
+        Answer::Stored(_) => "stored",
+        Answer::Gone => "gone",
+        Answer::Refused(code) => code.as_str(),
     }
-    Ok(text)
 }
 
-fn line(alloc: Global, step: &DealerStep) -> Result<String, Fail> {
+/// Adds the steps of a dealer: `begin TASK WORKER`, `ANSWER TASK` or `back TASK`, each in a line.
+pub fn tell(text: &mut String, steps: &[DealerStep]) -> Result<(), AllocError> {
+    for step in steps {
+        tell_step(text, step)?;
+    }
+    Ok(())
+}
+
+fn tell_step(text: &mut String, step: &DealerStep) -> Result<(), AllocError> {
     match step {
         DealerStep::Begin(job) => {
-            let task = job.task();
-            let worker = job.worker();
-            Ok(format!(in alloc; "begin {task} {worker}\n")?)
+            let (task, worker) = (job.task(), job.worker());
+            write!(text, "begin {task} {worker}\n")
         }
-        DealerStep::Answer(task, Answer::Stored(_)) => Ok(format!(in alloc; "stored {task}\n")?),
-        DealerStep::Answer(task, Answer::Gone) => Ok(format!(in alloc; "gone {task}\n")?),
-        DealerStep::Answer(task, Answer::Refused(code)) => {
-            let code = code.as_str();
-            Ok(format!(in alloc; "{code} {task}\n")?)
+        DealerStep::Answer(task, answer) => {
+            let word = answer_word(answer);
+            write!(text, "{word} {task}\n")
         }
-        DealerStep::Back(task) => Ok(format!(in alloc; "back {task}\n")?),
+        DealerStep::Back(task) => write!(text, "back {task}\n"),
     }
 }
 
@@ -108,4 +133,11 @@ pub fn compare(asked: &str, found: &str, wanted: &str) -> Result<(), Fail> {
         return Ok(());
     }
     Err(Fail::new(format_args!("{asked} -> {wanted} but {found}")))
+}
+
+/// The answer; the part is dropped.
+pub fn letting_go<T: Drop, R>(answer: R, _part: T) -> R
+    ensures { result ≡ answer }
+{
+    answer
 }

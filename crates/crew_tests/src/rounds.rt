@@ -1,59 +1,88 @@
 // Rounds of calls.
 
-use crate::jobs::{compare, first, plain, put_job, word};
+use crate::jobs::{compare, first, letting_go, plain, put_job, two, word};
 use crate::waiting::{SHORT, Waiting};
 use arm_value::Text;
 use driver_fakes::Pairing;
-use provider_trait::{Call, Provider, Script, Step};
+use provider_trait::{Call, Job, Provider, Script, Step};
 use seat_calls::{Seat, run_round};
-use std::alloc::Global;
+use std::alloc::{AllocError, Global};
+use std::mem;
 use std::test::Fail;
+use std::thread::Threads;
 
 // A seat with the put of this task.
 fn busy<P: Provider>(alloc: Global, provider: P, task: u32) -> Result<Seat<P>, Fail> {
-    let mut seat = Seat::new(provider);
-    seat.job = Some(put_job(alloc, task)?);
-    Ok(seat)
+    match put_job(alloc, task) {
+        Ok(job) => Ok(Seat {
+            provider,
+            job: Some(job),
+            got: None,
+        }),
+        Err(fail) => letting_go(Err(fail), provider),
+    }
 }
 
-// What the last call of a seat returned, and how many calls its script has had.
-fn seen(alloc: Global, seat: &Seat<Script>) -> Result<String, Fail> {
-    let got = match &seat.got {
+// What the last call of a seat returned.
+fn got<P: Provider>(seat: &Seat<P>) -> &str {
+    match &seat.got {
         Some(got) => word(got),
         None => "none",
-    };
-    let calls = seat.provider.calls().len();
-    Ok(format!(in alloc; "{got} {calls}")?)
+    }
 }
 
 // Three seats: one whose script stores, one without a job, and one whose script refuses.
 fn three(alloc: Global) -> Result<Vec<Seat<Script>>, Fail> {
-    let quota = Step::Refuse(Text::of(alloc, "Quota")?);
-    let mut seats = Vec::new(alloc);
-    seats.push(busy(alloc, plain(alloc), 0)?)?;
-    seats.push(Seat::new(plain(alloc)))?;
-    seats.push(busy(alloc, first(alloc, quota)?, 2)?)?;
-    Ok(seats)
+    let storing = busy(alloc, plain(alloc), 0)?;
+    let idle = Seat::new(plain(alloc));
+    match refusing(alloc) {
+        Ok(refusing) => Ok(three_of(alloc, (storing, idle), refusing)?),
+        Err(fail) => letting_go(Err(fail), (storing, idle)),
+    }
 }
 
-// Compares what the seats show with the lines.
-fn compare_seats(alloc: Global, seats: &[Seat<Script>], wanted: &str) -> Result<(), Fail> {
-    let mut text = String::new(alloc);
+fn refusing(alloc: Global) -> Result<Seat<Script>, Fail> {
+    let quota = Step::Refuse(Text::of(alloc, "Quota")?);
+    busy(alloc, first(alloc, quota)?, 2)
+}
+
+fn three_of<T: Drop>(alloc: Global, pair: (T, T), last: T) -> Result<Vec<T>, AllocError> {
+    let mut list = two(alloc, pair)?;
+    list.push(last)?;
+    Ok(list)
+}
+
+// Adds what the last call of each seat returned, and how many calls its script has had.
+fn tell_seats(text: &mut String, seats: &[Seat<Script>]) -> Result<(), AllocError> {
     for seat in seats {
-        let line = seen(alloc, seat)?;
-        text.push_str(line.as_str())?;
-        text.push_str("\n")?;
+        let (got, calls) = (got(seat), seat.provider.calls().len());
+        write!(text, "{got} {calls}\n")?;
+    }
+    Ok(())
+}
+
+// Compares what two rounds leave with the lines.
+fn check_rounds<R: Threads + Sync>(
+    rt: &R,
+    alloc: Global,
+    seats: &mut [Seat<Script>],
+    wanted: &str,
+) -> Result<(), Fail> {
+    let mut text = String::new(alloc);
+    for _ in 0..2 {
+        run_round(rt, alloc, seats);
+        tell_seats(&mut text, seats)?;
     }
     compare("seats", text.as_str(), wanted)
 }
 
+const LEFT: &str = "stored 1\nnone 0\nQuota 1\nstored 2\nnone 0\nstored 2\n";
+
 #[test]
 fn each_seat_with_a_job_makes_one_call(rt: HostRuntime) -> Result<(), Fail> {
     let mut seats = three(rt.alloc())?;
-    run_round(&rt, rt.alloc(), seats.as_mut_slice());
-    compare_seats(rt.alloc(), seats.as_slice(), "stored 1\nnone 0\nQuota 1\n")?;
-    run_round(&rt, rt.alloc(), seats.as_mut_slice());
-    compare_seats(rt.alloc(), seats.as_slice(), "stored 2\nnone 0\nstored 2\n")
+    let checked = check_rounds(&rt, rt.alloc(), seats.as_mut_slice(), LEFT);
+    letting_go(checked, seats)
 }
 
 #[test]
@@ -62,56 +91,71 @@ fn a_round_without_seats_does_nothing(rt: HostRuntime) {
     run_round(&rt, rt.alloc(), seats.as_mut_slice());
 }
 
-// Two seats of a pair, each with a job.
-fn pair_of(alloc: Global) -> Result<Vec<Seat<Pairing>>, Fail> {
-    let (one, other) = Pairing::pair(alloc)?;
-    let mut seats = Vec::new(alloc);
-    seats.push(busy(alloc, one, 0)?)?;
-    seats.push(busy(alloc, other, 1)?)?;
-    Ok(seats)
+// Two seats of these providers, each with a job.
+fn two_busy<P: Provider>(alloc: Global, pair: (P, P)) -> Result<Vec<Seat<P>>, Fail> {
+    let (one, other) = pair;
+    match busy(alloc, one, 0) {
+        Ok(first) => match busy(alloc, other, 1) {
+            Ok(second) => Ok(two(alloc, (first, second))?),
+            Err(fail) => letting_go(Err(fail), first),
+        },
+        Err(fail) => letting_go(Err(fail), other),
+    }
 }
 
-// Fails where the last call of a seat returned something else.
-fn compare_got<P: Provider>(seat: Option<&Seat<P>>, wanted: &str) -> Result<(), Fail> {
-    match seat {
-        Some(seat) => match &seat.got {
-            Some(got) => compare("seat", word(got), wanted),
-            None => Err(Fail::from("no call")),
-        },
-        None => Err(Fail::from("no seat")),
+fn check_both<P: Provider>(one: &Seat<P>, other: &Seat<P>, wanted: &str) -> Result<(), Fail> {
+    compare("one", got(one), wanted)?;
+    compare("other", got(other), "stored")
+}
+
+// Compares what a round of one call each gives to two seats.
+fn check_two<R: Threads + Sync, P: Provider>(
+    rt: &R,
+    alloc: Global,
+    seats: &mut [Seat<P>],
+    wanted: &str,
+) -> Result<(), Fail> {
+    run_round(rt, alloc, seats);
+    match seats {
+        [one, other] => check_both(one, other, wanted),
+        _ => Err(Fail::from("not two seats")),
     }
+}
+
+// Compares what a round of one call each gives to two seats of these providers.
+fn check_pair<R: Threads + Sync, P: Provider>(
+    rt: &R,
+    alloc: Global,
+    pair: (P, P),
+    wanted: &str,
+) -> Result<(), Fail> {
+    let mut seats = two_busy(alloc, pair)?;
+    letting_go(check_two(rt, alloc, seats.as_mut_slice(), wanted), seats)
 }
 
 #[test]
 fn the_calls_of_a_round_overlap(rt: HostRuntime) -> Result<(), Fail> {
-    let mut seats = pair_of(rt.alloc())?;
-    run_round(&rt, rt.alloc(), seats.as_mut_slice());
-    compare_got(seats.as_slice().get(0), "stored")?;
-    compare_got(seats.as_slice().get(1), "stored")
+    check_pair(&rt, rt.alloc(), Pairing::pair(rt.alloc())?, "stored")
 }
 
-// Two seats, of which the first waits for two calls of the other, each with a job.
-fn waiting_of(alloc: Global) -> Result<Vec<Seat<Waiting>>, Fail> {
-    let (one, other) = Waiting::pair(alloc, 2, SHORT)?;
-    let mut seats = Vec::new(alloc);
-    seats.push(busy(alloc, one, 0)?)?;
-    seats.push(busy(alloc, other, 1)?)?;
-    Ok(seats)
-}
-
+// The first provider waits for two calls of the other.
 #[test]
 fn a_round_waits_for_all_its_calls(rt: HostRuntime) -> Result<(), Fail> {
-    let mut seats = waiting_of(rt.alloc())?;
-    run_round(&rt, rt.alloc(), seats.as_mut_slice());
-    compare_got(seats.as_slice().get(0), "Alone")?;
-    compare_got(seats.as_slice().get(1), "stored")
+    let pair = Waiting::pair(rt.alloc(), 2, SHORT)?;
+    check_pair(&rt, rt.alloc(), pair, "Alone")
+}
+
+// Gives a seat a job.
+fn give<P: Provider>(seat: &mut Seat<P>, job: Job) {
+    let old = mem::replace(&mut seat.job, Some(job));
+    letting_go((), old)
 }
 
 // Gives each of these seats a put, of tasks from this number on.
 fn busy_again(alloc: Global, seats: &mut [Seat<Script>], from: u32) -> Result<(), Fail> {
     let mut task = from;
     for seat in seats {
-        seat.job = Some(put_job(alloc, task)?);
+        give(seat, put_job(alloc, task)?);
         task = task.saturating_add(1);
     }
     Ok(())
@@ -138,19 +182,38 @@ fn are_every_fourth(calls: &[Call], from: u32) -> bool {
     true
 }
 
+// Whether each of the seats has made 25 calls, of every fourth task from its number on.
+fn all_are_every_fourth(seats: &[Seat<Script>]) -> bool {
+    let mut first = 0;
+    for seat in seats {
+        let calls = seat.provider.calls();
+        if calls.len() != 25 || !are_every_fourth(calls, first) {
+            return false;
+        }
+        first = first.saturating_add(1);
+    }
+    true
+}
+
+// Runs 25 rounds of four seats, each with a job.
+fn run_rounds<R: Threads + Sync>(
+    rt: &R,
+    alloc: Global,
+    seats: &mut [Seat<Script>],
+) -> Result<(), Fail> {
+    for round in 0..25 {
+        busy_again(alloc, seats, round * 4)?;
+        run_round(rt, alloc, seats);
+    }
+    if all_are_every_fourth(seats) {
+        Ok(())
+    } else {
+        Err(Fail::from("other calls"))
+    }
+}
+
 #[test]
 fn each_seat_makes_the_calls_of_its_rounds(rt: HostRuntime) -> Result<(), Fail> {
     let mut seats = four(rt.alloc())?;
-    for round in 0..25 {
-        busy_again(rt.alloc(), seats.as_mut_slice(), round * 4)?;
-        run_round(&rt, rt.alloc(), seats.as_mut_slice());
-    }
-    let mut first = 0;
-    for seat in seats.as_slice() {
-        let calls = seat.provider.calls();
-        assert_eq!(rt; calls.len(), 25);
-        assert!(rt; are_every_fourth(calls, first));
-        first = first.saturating_add(1);
-    }
-    Ok(())
+    letting_go(run_rounds(&rt, rt.alloc(), seats.as_mut_slice()), seats)
 }

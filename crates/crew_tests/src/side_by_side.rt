@@ -1,9 +1,9 @@
 // Drives whose calls overlap.
 
-use crate::fresh::{Driven, drive_new};
-use crate::jobs::{compare, put_jobs, told};
+use crate::fresh::steps_of;
+use crate::jobs::{compare, letting_go, two};
 use crate::waiting::{LONG, SHORT, Waiting};
-use driver_fakes::{MemBook, Pairing};
+use driver_fakes::Pairing;
 use provider_trait::Provider;
 use std::alloc::Global;
 use std::sync::Wait;
@@ -23,40 +23,24 @@ pub fn needs_of(alloc: Global, text: &str) -> Result<Vec<Vec<u32>>, Fail> {
     Ok(needs)
 }
 
-// Drives two seats over so many puts with these needs.
-fn drive_two<R: Threads + Wait + Sync, P: Provider>(
+// The steps of a drive of two seats over so many puts with these needs, and what is returned.
+fn steps_of_two<R: Threads + Wait + Sync, P: Provider>(
     rt: &R,
     alloc: Global,
-    providers: (P, P),
-    jobs: u32,
-    needs: &str,
-) -> Result<Driven<P>, Fail> {
-    let mut list = Vec::new(alloc);
-    list.push(providers.0)?;
-    list.push(providers.1)?;
-    let book = MemBook::new(alloc, 10_000, Vec::new(alloc))?;
-    drive_new(
-        rt,
-        alloc,
-        put_jobs(alloc, jobs)?,
-        needs_of(alloc, needs)?,
-        list,
-        book,
-    )
-}
-
-// The steps of a drive that came to its dealer's end.
-fn steps_of<P: Provider>(alloc: Global, driven: &Driven<P>) -> Result<String, Fail> {
-    match driven.returned {
-        Ok(()) => told(alloc, driven.dealer.steps()),
-        Err(_) => Err(Fail::from("a fault")),
+    pair: (P, P),
+    (jobs, needs): (u32, &str),
+) -> Result<String, Fail> {
+    let providers = two(alloc, pair)?;
+    match needs_of(alloc, needs) {
+        Ok(needs) => steps_of(rt, alloc, (jobs, needs), providers, &[]),
+        Err(fail) => letting_go(Err(fail), providers),
     }
 }
 
-// Fails where a call was alone.
+// Fails where a call was alone, or the drive did not come to its end.
 fn check_joined(steps: &str) -> Result<(), Fail> {
-    if steps.contains("Alone") {
-        return Err(Fail::from("a call was alone"));
+    if steps.contains("Alone") || !steps.ends_with("well") {
+        return compare("steps", steps, "no call that is alone");
     }
     Ok(())
 }
@@ -64,32 +48,35 @@ fn check_joined(steps: &str) -> Result<(), Fail> {
 #[test]
 fn independent_jobs_overlap(rt: HostRuntime) -> Result<(), Fail> {
     let pair = Pairing::pair(rt.alloc())?;
-    let driven = drive_two(&rt, rt.alloc(), pair, 2, "")?;
-    check_joined(steps_of(rt.alloc(), &driven)?.as_str())
+    let steps = steps_of_two(&rt, rt.alloc(), pair, (2, ""))?;
+    check_joined(steps.as_str())
 }
 
-// The steps of a drive of two puts with these needs, over a new pair of which one call waits for the
-// other.
-fn needing<R: Threads + Wait + Sync>(rt: &R, alloc: Global, needs: &str) -> Result<String, Fail> {
-    let driven = drive_two(rt, alloc, Waiting::pair(alloc, 1, SHORT)?, 2, needs)?;
-    steps_of(alloc, &driven)
+// Compares the steps of a drive of two puts with these needs, over a new pair of which one call waits for the other.
+fn check_needing<R: Threads + Wait + Sync>(
+    rt: &R,
+    alloc: Global,
+    needs: &str,
+    wanted: &str,
+) -> Result<(), Fail> {
+    let pair = Waiting::pair(alloc, 1, SHORT)?;
+    let steps = steps_of_two(rt, alloc, pair, (2, needs))?;
+    compare("steps", steps.as_str(), wanted)
 }
 
 #[test]
 fn a_job_that_is_needed_is_alone(rt: HostRuntime) -> Result<(), Fail> {
-    let steps = needing(&rt, rt.alloc(), "\n0")?;
-    compare("steps", steps.as_str(), "begin 0 0\nAlone 0\n")
+    check_needing(&rt, rt.alloc(), "\n0", "begin 0 0\nAlone 0\nwell")
 }
 
 #[test]
 fn the_later_job_that_is_needed_is_alone(rt: HostRuntime) -> Result<(), Fail> {
-    let steps = needing(&rt, rt.alloc(), "1")?;
-    compare("steps", steps.as_str(), "begin 1 0\nAlone 1\n")
+    check_needing(&rt, rt.alloc(), "1", "begin 1 0\nAlone 1\nwell")
 }
 
 #[test]
 fn a_free_seat_gets_its_next_job_while_another_is_at_work(rt: HostRuntime) -> Result<(), Fail> {
     let pair = Waiting::pair(rt.alloc(), 2, LONG)?;
-    let driven = drive_two(&rt, rt.alloc(), pair, 3, "")?;
-    check_joined(steps_of(rt.alloc(), &driven)?.as_str())
+    let steps = steps_of_two(&rt, rt.alloc(), pair, (3, ""))?;
+    check_joined(steps.as_str())
 }

@@ -1,0 +1,14 @@
+use Rattle.std.proofs.Common.{map, subst}
+use Rattle.bicep_symbols.specs.declared.entry.Entry.{Entry}
+use Rattle.bicep_declared.specs.View.{declared_tree}
+use Rattle.bicep_circles.specs.Links.{links}
+use Rattle.bicep_circles.specs.Orders.{AreSorted}
+use Rattle.bicep_types.proofs.FileLemmas.{no_circle_in}
+use Rattle.bicep_types.proofs.files.types_of.Goals as goal
+
+pub unreachable-requires : goal.unreachable-requires
+unreachable-requires c =
+    no_circle_in c.args.file.now c.as_slice.result.now c.as_slice-declarations.result.now c.in-Circle.field-0
+    c.as_slice.ensures.value c.as_slice-declarations.ensures.value
+    (subst (AreSorted (links (map (λ (e : Entry). e.kind) c.as_slice.result.now)
+    (map declared_tree c.as_slice-declarations.result.now))) c.in-Circle.is c.in_ok-order.ensures) c.requires.free

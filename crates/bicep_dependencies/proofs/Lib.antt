@@ -1,0 +1,3 @@
+pub mod HasLemmas
+pub mod LeadLemmas
+pub mod FillLemmas

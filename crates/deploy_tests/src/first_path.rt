@@ -1,11 +1,13 @@
 // Deployments of literal resources, from the words to the line that is printed.
 
+use crate::calls::{Listing, Shown, say_calls, text_of};
+use crate::checks::{compare, letting_go};
 use arm_edges::{MemFile, MemLink, MemSink, MemTree};
 use arm_value::{Bytes, Text};
 use deploy_cli::run;
 use mem_disk::{Contents, MemDisk, Room};
-use provider_trait::{Answer, Call, Catalog, Provider, Script, Seat, Step};
-use std::alloc::Global;
+use provider_trait::{Catalog, Provider, Script, Seat, Step};
+use std::alloc::{AllocError, Global};
 use std::sync::Wait;
 use std::test::Fail;
 use std::thread::Threads;
@@ -45,8 +47,48 @@ fn no_disk(alloc: Global) -> Result<MemDisk, Fail> {
     Ok(MemDisk::new(alloc, &contents, Vec::new(alloc), Vec::new(alloc), room)?)
 }
 
-// The status of these words over that tree and those seats, and what was printed into an output with room for `room`
-// bytes.
+// The status of these words over that tree and those seats, with an output that takes what is printed.
+fn status_of<R: Threads + Wait + Sync, P: Provider>(
+    rt: &R,
+    alloc: Global,
+    words: &[String],
+    tree: &mut MemTree,
+    crew: &mut Vec<Seat<P>>,
+    out: &mut MemSink,
+) -> Result<u8, Fail> {
+    if crew.is_empty() {
+        return Err(Fail::from("no seat"));
+    }
+    let mut disk = no_disk(alloc)?;
+    let mut link = MemLink::new(alloc, Vec::new(alloc), Vec::new(alloc));
+    let ran = run(rt, alloc, words, tree, &mut disk, crew, &mut link, out);
+    letting_go(Ok(ran.status), (ran, disk, link))
+}
+
+fn said(alloc: Global, status: Result<u8, Fail>, printed: &[u8]) -> Result<String, Fail> {
+    let (status, printed) = (status?, text_of(printed));
+    Ok(format!(in alloc; "{status} {printed}")?)
+}
+
+// The status of these words over that tree and those seats, and what was printed into that output.
+fn printed<R: Threads + Wait + Sync, P: Provider>(
+    rt: &R,
+    alloc: Global,
+    words: &str,
+    tree: &mut MemTree,
+    crew: &mut Vec<Seat<P>>,
+    out: &mut MemSink,
+) -> Result<String, Fail> {
+    let words = apart(alloc, words)?;
+    let status = status_of(rt, alloc, &words, tree, crew, out);
+    letting_go(said(alloc, status, out.as_slice()), words)
+}
+
+fn sink_of(alloc: Global, room: usize) -> Result<MemSink, AllocError> {
+    MemSink::new(alloc, [7].to_vec(alloc)?, Vec::new(alloc), room)
+}
+
+// The same with an output with room for `room` bytes.
 fn outcome<R: Threads + Wait + Sync, P: Provider>(
     rt: &R,
     alloc: Global,
@@ -55,18 +97,8 @@ fn outcome<R: Threads + Wait + Sync, P: Provider>(
     crew: &mut Vec<Seat<P>>,
     room: usize,
 ) -> Result<String, Fail> {
-    if crew.is_empty() {
-        return Err(Fail::from("no seat"));
-    }
-    let words = apart(alloc, words)?;
-    let mut disk = no_disk(alloc)?;
-    let mut link = MemLink::new(alloc, Vec::new(alloc), Vec::new(alloc));
-    let mut out = MemSink::new(alloc, [7].to_vec(alloc)?, Vec::new(alloc), room)?;
-    let ran = run(
-        rt, alloc, &words, tree, &mut disk, crew, &mut link, &mut out,
-    );
-    let printed = String::from_utf8(out.as_slice().to_vec(alloc)?)?;
-    Ok(format!(in alloc; "{} {printed}", ran.status)?)
+    let mut out = sink_of(alloc, room)?;
+    letting_go(printed(rt, alloc, words, tree, crew, &mut out), out)
 }
 
 // Two seats over the catalogue.
@@ -84,237 +116,267 @@ fn script_crew(alloc: Global, steps: Vec<Step>) -> Result<Vec<Seat<Script>>, Fai
     Ok(crew)
 }
 
-// The provider of the seat at that place.
-fn provider_at<P: Provider>(crew: &[Seat<P>], place: usize) -> Result<&P, Fail> {
-    match crew.get(place) {
-        Some(seat) => Ok(&seat.provider),
-        None => Err(Fail::from("no such seat")),
+// The status of the words `FIRST` over that tree and those seats, what was printed, and after it what is shown of the
+// calls of each seat.
+fn outcome_and_calls<R: Threads + Wait + Sync, P: Listing>(
+    rt: &R,
+    alloc: Global,
+    tree: &mut MemTree,
+    crew: &mut Vec<Seat<P>>,
+    room: usize,
+    shown: Shown,
+) -> Result<String, Fail> {
+    let mut said = outcome(rt, alloc, FIRST, tree, crew, room)?;
+    for seat in crew.as_slice() {
+        say_calls(&mut said, alloc, seat.provider.list(), shown)?;
+    }
+    Ok(said)
+}
+
+// Compares that of this file, of which the calls of those numbers fail, over those seats.
+fn check_run<R: Threads + Wait + Sync, P: Listing>(
+    rt: &R,
+    alloc: Global,
+    (main, fails, room): (&str, &[u64], usize),
+    crew: Vec<Seat<P>>,
+    (shown, wanted): (Shown, &str),
+) -> Result<(), Fail> {
+    match tree_of(alloc, main, fails) {
+        Ok(tree) => {
+            let (mut tree, mut crew) = (tree, crew);
+            let said = outcome_and_calls(rt, alloc, &mut tree, &mut crew, room, shown);
+            compare_said(letting_go(said, (tree, crew)), wanted)
+        }
+        Err(fail) => letting_go(Err(fail), crew),
     }
 }
 
+fn compare_said(said: Result<String, Fail>, wanted: &str) -> Result<(), Fail> {
+    compare("the run", said?.as_str(), wanted)
+}
+
 // The status of these words and this file over the catalogue, and what was printed.
-pub fn deployed<R: Threads + Wait + Sync>(
+fn deployed<R: Threads + Wait + Sync>(
     rt: &R,
     alloc: Global,
     main: &str,
     words: &str,
 ) -> Result<String, Fail> {
-    let mut tree = tree_of(alloc, main, &[])?;
-    let mut crew = catalog_crew(alloc)?;
-    outcome(rt, alloc, words, &mut tree, &mut crew, 1000)
-}
-
-// A call: the body, the first part of its record and what was stored, each in a line.
-fn lines_of(alloc: Global, call: &Call) -> Result<String, Fail> {
-    let body = String::from_utf8(call.job.body().to_json(alloc)?.into_vec())?;
-    let first = String::from_utf8(call.job.first().as_slice().to_vec(alloc)?)?;
-    let state = match &call.gave {
-        Ok(Answer::Stored(state)) => String::from_utf8(state.text().as_slice().to_vec(alloc)?)?,
-        _ => String::from_str(alloc, "not stored")?,
-    };
-    Ok(format!(in alloc; "{body}\n{first}\n{state}")?)
-}
-
-// The names after the last slash of the calls' ids, one after another.
-fn names_put(alloc: Global, calls: &[Call]) -> Result<String, Fail> {
-    let mut names = String::new(alloc);
-    for call in calls {
-        let id = call.job.id().as_str();
-        names.push_str(id.rsplit('/').next().unwrap_or(""))?;
+    let tree = tree_of(alloc, main, &[])?;
+    match catalog_crew(alloc) {
+        Ok(crew) => {
+            let (mut tree, mut crew) = (tree, crew);
+            let said = outcome(rt, alloc, words, &mut tree, &mut crew, 1000);
+            letting_go(said, (tree, crew))
+        }
+        Err(fail) => letting_go(Err(fail), tree),
     }
-    Ok(names)
 }
+
+const ONE_CALL: &str = concat!(
+    "0 Succeeded first\n",
+    "[{\"size\":2}\n",
+    "{\"api\":\"2024-01-01\",\"body\":{\"size\":2},",
+    "\"id\":\"/subscriptions/00000000-0000-0000-0000-000000000000",
+    "/resourceGroups/g/providers/Demo.Lab/things/a\",",
+    "\"task\":1,\"worker\":0}\n",
+    "{\"apiVersion\":\"2024-01-01\",",
+    "\"id\":\"/subscriptions/00000000-0000-0000-0000-000000000000",
+    "/resourceGroups/g/providers/Demo.Lab/things/a\",\"name\":\"a\",",
+    "\"properties\":{\"provisioningState\":\"Succeeded\"},",
+    "\"size\":2,\"type\":\"Demo.Lab/things\"}][]",
+);
 
 #[test]
 fn one_resource_is_put_and_stored(rt: HostRuntime) -> Result<(), Fail> {
-    let alloc = rt.alloc();
-    let mut tree = tree_of(alloc, THING, &[])?;
-    let mut crew = catalog_crew(alloc)?;
-    let said = outcome(&rt, alloc, FIRST, &mut tree, &mut crew, 1000)?;
-    assert_eq!(rt; said.as_str(), "0 Succeeded first\n");
-    let [call] = provider_at(&crew, 0)?.calls() else {
-        return Err(Fail::from("not one call"));
-    };
-    let lines = lines_of(alloc, call)?;
-    assert_eq!(rt;
-        lines.as_str(),
+    let crew = catalog_crew(rt.alloc())?;
+    check_run(
+        &rt,
+        rt.alloc(),
+        (THING, &[], 1000),
+        crew,
+        (Shown::Whole, ONE_CALL),
+    )
+}
+
+// A file, the words, and what is said.
+static SAID: [(&str, &str, &str); 11] = [
+    (
+        "",
+        "deploy main.bicep --group g --name e",
+        "0 Succeeded e\n",
+    ),
+    ("param x int\n", FIRST, "1 error NotBuilt: main.bicep\n"),
+    ("var a = 'x", FIRST, "1 error OpenText: main.bicep:8\n"),
+    ("var a = 5 5", FIRST, "1 error NotAFile: main.bicep:10\n"),
+    (
         concat!(
-            "{\"size\":2}\n",
-            "{\"api\":\"2024-01-01\",\"body\":{\"size\":2},",
-            "\"id\":\"/subscriptions/00000000-0000-0000-0000-000000000000",
-            "/resourceGroups/g/providers/Demo.Lab/things/a\",",
-            "\"task\":1,\"worker\":0}\n",
-            "{\"apiVersion\":\"2024-01-01\",",
-            "\"id\":\"/subscriptions/00000000-0000-0000-0000-000000000000",
-            "/resourceGroups/g/providers/Demo.Lab/things/a\",\"name\":\"a\",",
-            "\"properties\":{\"provisioningState\":\"Succeeded\"},",
-            "\"size\":2,\"type\":\"Demo.Lab/things\"}",
-        )
-    );
-    assert_eq!(rt; provider_at(&crew, 1)?.calls().len(), 0);
-    Ok(())
+            "var a = ",
+            "(((((((((((((((((((((((((((((((((((((((((((((((((((((((((((((((((",
+            "1",
+            ")))))))))))))))))))))))))))))))))))))))))))))))))))))))))))))))))",
+            "\n",
+        ),
+        FIRST,
+        "1 error TooDeep: main.bicep:138\n",
+    ),
+    (
+        "resource a 'T/t@1' = {\n  name: 'a'\n  n: 'open\n}\n",
+        FIRST,
+        "1 error OpenText: main.bicep:40\n",
+    ),
+    (
+        THING,
+        "deploy other.bicep --group g --name first",
+        "1 error ModuleMissing: other.bicep\n",
+    ),
+    (
+        THING,
+        "deploy main.bicep --group g/h --name first",
+        "1 error InvalidParameter: BadName g/h\n",
+    ),
+    (
+        THING,
+        "deploy main.bicep --group g --name a%",
+        "1 error InvalidParameter: BadName a%\n",
+    ),
+    (
+        THING,
+        "deploy main.bicep --group g/h --name a%",
+        "1 error InvalidParameter: BadName g/h\n",
+    ),
+    (
+        "param x int\n",
+        "deploy main.bicep --group g/h --name a%",
+        "1 error NotBuilt: main.bicep\n",
+    ),
+];
+
+// Compares what is said of a file and words over the catalogue.
+pub fn check_said<R: Threads + Wait + Sync>(
+    rt: &R,
+    alloc: Global,
+    (main, words, wanted): (&str, &str, &str),
+) -> Result<(), Fail> {
+    let said = deployed(rt, alloc, main, words)?;
+    compare(words, said.as_str(), wanted)
 }
 
 #[test]
 fn files_and_words_come_to_their_lines(rt: HostRuntime) -> Result<(), Fail> {
-    let alloc = rt.alloc();
-    for (main, words, wanted) in [
-        (
-            "",
-            "deploy main.bicep --group g --name e",
-            "0 Succeeded e\n",
-        ),
-        ("param x int\n", FIRST, "1 error NotBuilt: main.bicep\n"),
-        ("var a = 'x", FIRST, "1 error OpenText: main.bicep:8\n"),
-        ("var a = 5 5", FIRST, "1 error NotAFile: main.bicep:10\n"),
-        (
-            concat!(
-                "var a = ",
-                "(((((((((((((((((((((((((((((((((((((((((((((((((((((((((((((((((",
-                "1",
-                ")))))))))))))))))))))))))))))))))))))))))))))))))))))))))))))))))",
-                "\n",
-            ),
-            FIRST,
-            "1 error TooDeep: main.bicep:138\n",
-        ),
-        (
-            "resource a 'T/t@1' = {\n  name: 'a'\n  n: 'open\n}\n",
-            FIRST,
-            "1 error OpenText: main.bicep:40\n",
-        ),
-        (
-            THING,
-            "deploy other.bicep --group g --name first",
-            "1 error ModuleMissing: other.bicep\n",
-        ),
-        (
-            THING,
-            "deploy main.bicep --group g/h --name first",
-            "1 error InvalidParameter: BadName g/h\n",
-        ),
-        (
-            THING,
-            "deploy main.bicep --group g --name a%",
-            "1 error InvalidParameter: BadName a%\n",
-        ),
-        (
-            THING,
-            "deploy main.bicep --group g/h --name a%",
-            "1 error InvalidParameter: BadName g/h\n",
-        ),
-        (
-            "param x int\n",
-            "deploy main.bicep --group g/h --name a%",
-            "1 error NotBuilt: main.bicep\n",
-        ),
-    ] {
-        let said = deployed(&rt, alloc, main, words)?;
-        assert_eq!(rt; said.as_str(), wanted);
+    for row in &SAID {
+        check_said(&rt, rt.alloc(), *row)?;
     }
     Ok(())
 }
 
+static OTHER_WORDS: [&str; 8] = [
+    "",
+    "deploy",
+    "build main.bicep --group g --name first",
+    "deploy main.bicep --name first --group g",
+    "deploy main.bicep --group g --name first more",
+    "deploy main.bicep --group -g --name first",
+    "deploy -f --group g --name first",
+    "deploy  --group g --name first",
+];
+
 #[test]
 fn other_words_are_answered_by_the_usage(rt: HostRuntime) -> Result<(), Fail> {
-    let alloc = rt.alloc();
-    for words in [
-        "",
-        "deploy",
-        "build main.bicep --group g --name first",
-        "deploy main.bicep --name first --group g",
-        "deploy main.bicep --group g --name first more",
-        "deploy main.bicep --group -g --name first",
-        "deploy -f --group g --name first",
-        "deploy  --group g --name first",
-    ] {
-        let said = deployed(&rt, alloc, THING, words)?;
-        assert_eq!(rt; said.as_str(), USAGE);
+    for words in &OTHER_WORDS {
+        check_said(&rt, rt.alloc(), (THING, words, USAGE))?;
     }
     Ok(())
+}
+
+const THREE: &str = concat!(
+    "resource a 'Demo.Lab/things@1' = { name: 'a' }\n",
+    "resource b 'Demo.Lab/things@1' = { name: 'b' }\n",
+    "resource c 'Demo.Lab/things@1' = { name: 'c' }\n",
+);
+
+const QUOTA: &str = concat!(
+    "3 Failed first: Quota: /subscriptions/00000000-0000-0000-0000-000000000000",
+    "/resourceGroups/g/providers/Demo.Lab/things/b\n[ab]",
+);
+
+// A step that stores, and one that refuses.
+fn add_steps(alloc: Global, steps: &mut Vec<Step>) -> Result<(), Fail> {
+    steps.push(Step::Store)?;
+    Ok(steps.push(Step::Refuse(Text::of(alloc, "Quota")?))?)
 }
 
 #[test]
 fn a_refused_put_is_the_last(rt: HostRuntime) -> Result<(), Fail> {
-    let alloc = rt.alloc();
-    let three = concat!(
-        "resource a 'Demo.Lab/things@1' = { name: 'a' }\n",
-        "resource b 'Demo.Lab/things@1' = { name: 'b' }\n",
-        "resource c 'Demo.Lab/things@1' = { name: 'c' }\n",
-    );
-    let mut tree = tree_of(alloc, three, &[])?;
-    let mut steps = Vec::new(alloc);
-    steps.push(Step::Store)?;
-    steps.push(Step::Refuse(Text::of(alloc, "Quota")?))?;
-    let mut crew = script_crew(alloc, steps)?;
-    let said = outcome(&rt, alloc, FIRST, &mut tree, &mut crew, 1000)?;
-    assert_eq!(rt;
-        said.as_str(),
-        concat!(
-            "3 Failed first: Quota: /subscriptions/00000000-0000-0000-0000-000000000000",
-            "/resourceGroups/g/providers/Demo.Lab/things/b\n",
-        )
-    );
-    let names = names_put(alloc, provider_at(&crew, 0)?.calls())?;
-    assert_eq!(rt; names.as_str(), "ab");
-    Ok(())
+    let mut steps = Vec::new(rt.alloc());
+    add_steps(rt.alloc(), &mut steps)?;
+    let crew = script_crew(rt.alloc(), steps)?;
+    check_run(
+        &rt,
+        rt.alloc(),
+        (THREE, &[], 1000),
+        crew,
+        (Shown::Names, QUOTA),
+    )
 }
 
 #[test]
 fn a_failing_provider_is_named(rt: HostRuntime) -> Result<(), Fail> {
-    let alloc = rt.alloc();
-    let mut tree = tree_of(alloc, THING, &[])?;
-    let mut steps = Vec::new(alloc);
+    let mut steps = Vec::new(rt.alloc());
     steps.push(Step::Fail)?;
-    let mut crew = script_crew(alloc, steps)?;
-    let said = outcome(&rt, alloc, FIRST, &mut tree, &mut crew, 1000)?;
-    assert_eq!(rt; said.as_str(), "7 fault provider 0\n");
-    assert_eq!(rt; provider_at(&crew, 0)?.faults(), 1);
-    Ok(())
+    let crew = script_crew(rt.alloc(), steps)?;
+    let wanted = "7 fault provider 0\n[a]";
+    check_run(
+        &rt,
+        rt.alloc(),
+        (THING, &[], 1000),
+        crew,
+        (Shown::Names, wanted),
+    )
 }
 
 #[test]
 fn a_failing_tree_is_named(rt: HostRuntime) -> Result<(), Fail> {
-    let alloc = rt.alloc();
-    let mut tree = tree_of(alloc, THING, &[0])?;
-    let mut crew = catalog_crew(alloc)?;
-    let said = outcome(&rt, alloc, FIRST, &mut tree, &mut crew, 1000)?;
-    assert_eq!(rt; said.as_str(), "4 fault tree\n");
-    assert_eq!(rt; provider_at(&crew, 0)?.calls().len(), 0);
-    Ok(())
+    let crew = catalog_crew(rt.alloc())?;
+    check_run(
+        &rt,
+        rt.alloc(),
+        (THING, &[0], 1000),
+        crew,
+        (Shown::Names, "4 fault tree\n[][]"),
+    )
 }
 
 #[test]
 fn an_output_that_fails_turns_success_into_its_fault(rt: HostRuntime) -> Result<(), Fail> {
-    let alloc = rt.alloc();
-    let mut tree = tree_of(alloc, THING, &[])?;
-    let mut crew = catalog_crew(alloc)?;
-    let said = outcome(&rt, alloc, FIRST, &mut tree, &mut crew, 15)?;
-    assert_eq!(rt; said.as_str(), "5 Succeeded first");
-    assert_eq!(rt; provider_at(&crew, 0)?.calls().len(), 1);
-    Ok(())
+    let crew = catalog_crew(rt.alloc())?;
+    check_run(
+        &rt,
+        rt.alloc(),
+        (THING, &[], 15),
+        crew,
+        (Shown::Names, "5 Succeeded first[a][]"),
+    )
 }
+
+const KINDS: &str = concat!(
+    "resource a 'Demo.Lab/things@1' = {\n  z: ['[a]', '[[b]', '[', 'c\\n']\n  name: '[x]'\n",
+    "  o: { t: true, f: false, n: null, d: 7 }\n}\n",
+);
+
+const BODY: &str = concat!(
+    "0 Succeeded first\n[[x]",
+    "{\"o\":{\"d\":7,\"f\":false,\"n\":null,\"t\":true},\"z\":[\"[a]\",\"[[b]\",\"[\",\"c\\n\"]}][]",
+);
 
 #[test]
 fn every_kind_of_value_comes_through(rt: HostRuntime) -> Result<(), Fail> {
-    let alloc = rt.alloc();
-    let main = concat!(
-        "resource a 'Demo.Lab/things@1' = {\n  z: ['[a]', '[[b]', '[', 'c\\n']\n  name: '[x]'\n",
-        "  o: { t: true, f: false, n: null, d: 7 }\n}\n",
-    );
-    let mut tree = tree_of(alloc, main, &[])?;
-    let mut crew = catalog_crew(alloc)?;
-    let said = outcome(&rt, alloc, FIRST, &mut tree, &mut crew, 1000)?;
-    assert_eq!(rt; said.as_str(), "0 Succeeded first\n");
-    let [call] = provider_at(&crew, 0)?.calls() else {
-        return Err(Fail::from("not one call"));
-    };
-    let body = String::from_utf8(call.job.body().to_json(alloc)?.into_vec())?;
-    assert_eq!(rt;
-        body.as_str(),
-        "{\"o\":{\"d\":7,\"f\":false,\"n\":null,\"t\":true},\"z\":[\"[a]\",\"[[b]\",\"[\",\"c\\n\"]}"
-    );
-    let names = names_put(alloc, provider_at(&crew, 0)?.calls())?;
-    assert_eq!(rt; names.as_str(), "[x]");
-    Ok(())
+    let crew = catalog_crew(rt.alloc())?;
+    check_run(
+        &rt,
+        rt.alloc(),
+        (KINDS, &[], 1000),
+        crew,
+        (Shown::Bodies, BODY),
+    )
 }

@@ -4,6 +4,8 @@ ghost use Rattle.arm_value.specs.View.{json};
 ghost use Rattle.provider_trait.specs.Act.{FitsAct};
 ghost use Rattle.provider_trait.specs.declared.act.Act.TheVariants.{Delete, Put};
 
+use crate::calls::text_of;
+use crate::checks::{compare, letting_go};
 use arm_value::{Fields, Text, Value};
 use provider_trait::{
     Act, Answer, Catalog, Job, JobParts, Provider, ProviderFault, Script, Seat, State, StateFault,
@@ -63,30 +65,15 @@ fn delete_job(alloc: Global, id: &str) -> Result<Job, Fail>
     Ok(Job::new(alloc, parts)?)
 }
 
-// Fails where something else is answered than wanted.
-fn compare(asked: &str, found: &str, wanted: &str) -> Result<(), Fail> {
-    if found == wanted {
-        return Ok(());
-    }
-    Err(Fail::new(format_args!("{asked} -> {wanted} but {found}")))
-}
-
-// Compares the text of a state with the wanted one.
-fn compare_state(alloc: Global, id: &str, state: &State, wanted: &str) -> Result<(), Fail> {
-    let text = String::from_utf8(Vec::from_slice(alloc, state.text().as_slice())?)?;
-    compare(id, text.as_str(), wanted)
-}
-
 // Compares the text of the stored state, the refusal's code, or what else is answered with what is
 // wanted.
 fn compare_answer(
-    alloc: Global,
     id: &str,
     gave: &Result<Answer, ProviderFault>,
     wanted: &str,
 ) -> Result<(), Fail> {
     match gave {
-        Ok(Answer::Stored(state)) => compare_state(alloc, id, state, wanted),
+        Ok(Answer::Stored(state)) => compare(id, text_of(state.text().as_slice()), wanted),
         Ok(Answer::Gone) => compare(id, "Gone", wanted),
         Ok(Answer::Refused(code)) => compare(id, code.as_str(), wanted),
         Err(ProviderFault::Fault) => compare(id, "Fault", wanted),
@@ -95,9 +82,9 @@ fn compare_answer(
 }
 
 // Compares the first part of the job's record with the wanted one.
-fn check_first(alloc: Global, job: &Job, wanted: &str) -> Result<(), Fail> {
-    let first = String::from_utf8(Vec::from_slice(alloc, job.first().as_slice())?)?;
-    compare("first part", first.as_str(), wanted)
+fn check_first(job: Job, wanted: &str) -> Result<(), Fail> {
+    let checked = compare("first part", text_of(job.first().as_slice()), wanted);
+    letting_go(checked, job)
 }
 
 const PUT_FIRST: &str = concat!(
@@ -112,10 +99,8 @@ const DELETE_FIRST: &str = concat!(
 
 #[test]
 fn the_first_part_of_a_record_has_task_and_worker(rt: HostRuntime) -> Result<(), Fail> {
-    let put = put_job(rt.alloc(), THING, r#"{"a":1}"#)?;
-    check_first(rt.alloc(), &put, PUT_FIRST)?;
-    let delete = delete_job(rt.alloc(), THING)?;
-    check_first(rt.alloc(), &delete, DELETE_FIRST)
+    check_first(put_job(rt.alloc(), THING, r#"{"a":1}"#)?, PUT_FIRST)?;
+    check_first(delete_job(rt.alloc(), THING)?, DELETE_FIRST)
 }
 
 fn check_put<P: Provider>(
@@ -127,7 +112,7 @@ fn check_put<P: Provider>(
 ) -> Result<(), Fail> {
     let job = put_job(alloc, id, body)?;
     let gave = provider.put(alloc, &job);
-    compare_answer(alloc, id, &gave, wanted)
+    letting_go(compare_answer(id, &gave, wanted), (gave, job))
 }
 
 fn check_delete<P: Provider>(
@@ -138,7 +123,7 @@ fn check_delete<P: Provider>(
 ) -> Result<(), Fail> {
     let job = delete_job(alloc, id)?;
     let gave = provider.delete(alloc, &job);
-    compare_answer(alloc, id, &gave, wanted)
+    letting_go(compare_answer(id, &gave, wanted), (gave, job))
 }
 
 const THING_STATE: &str = concat!(
@@ -158,14 +143,18 @@ const NAMELESS_STATE: &str = concat!(
     r#""properties":{"provisioningState":"Succeeded"},"type":""}"#,
 );
 
+fn check_bodies(alloc: Global, catalog: &mut Catalog) -> Result<(), Fail> {
+    let thing = r#"{"a":1,"id":"no"}"#;
+    check_put(alloc, catalog, THING, thing, THING_STATE)?;
+    let child = r#"{"properties":{"z":[1]}}"#;
+    check_put(alloc, catalog, CHILD, child, CHILD_STATE)?;
+    check_put(alloc, catalog, "no id", "{}", NAMELESS_STATE)
+}
+
 #[test]
 fn the_catalogue_stores_the_body_with_what_the_id_says(rt: HostRuntime) -> Result<(), Fail> {
     let mut catalog = Catalog::new(rt.alloc());
-    let thing = r#"{"a":1,"id":"no"}"#;
-    check_put(rt.alloc(), &mut catalog, THING, thing, THING_STATE)?;
-    let child = r#"{"properties":{"z":[1]}}"#;
-    check_put(rt.alloc(), &mut catalog, CHILD, child, CHILD_STATE)?;
-    check_put(rt.alloc(), &mut catalog, "no id", "{}", NAMELESS_STATE)
+    letting_go(check_bodies(rt.alloc(), &mut catalog), catalog)
 }
 
 const STORAGE_STATE: &str = concat!(
@@ -177,14 +166,17 @@ const STORAGE_STATE: &str = concat!(
     r#""provisioningState":"Succeeded"},"sku":{"name":"S"},"type":"Microsoft.Storage/storageAccounts"}"#,
 );
 
+fn check_storage(alloc: Global, catalog: &mut Catalog) -> Result<(), Fail> {
+    let body = r#"{"location":"w","sku":{"name":"S"}}"#;
+    check_put(alloc, catalog, STORAGE, body, STORAGE_STATE)?;
+    check_delete(alloc, catalog, STORAGE, "Gone")?;
+    check_count("calls", catalog.calls().len() as u64, 2)
+}
+
 #[test]
 fn the_catalogue_gives_storage_accounts_endpoints(rt: HostRuntime) -> Result<(), Fail> {
     let mut catalog = Catalog::new(rt.alloc());
-    let body = r#"{"location":"w","sku":{"name":"S"}}"#;
-    check_put(rt.alloc(), &mut catalog, STORAGE, body, STORAGE_STATE)?;
-    check_delete(rt.alloc(), &mut catalog, STORAGE, "Gone")?;
-    assert_eq!(rt; catalog.calls().len(), 2);
-    Ok(())
+    letting_go(check_storage(rt.alloc(), &mut catalog), catalog)
 }
 
 // A type with a name, the body of a put, and after an arrow the code of its refusal.
@@ -206,14 +198,17 @@ fn check_refusal(alloc: Global, catalog: &mut Catalog, line: &str) -> Result<(),
     check_put(alloc, catalog, id.as_str(), body, wanted)
 }
 
+fn check_refusals(alloc: Global, catalog: &mut Catalog) -> Result<(), Fail> {
+    for line in REFUSALS.lines() {
+        check_refusal(alloc, catalog, line)?;
+    }
+    check_count("calls", catalog.calls().len() as u64, 10)
+}
+
 #[test]
 fn the_catalogue_refuses_by_its_table(rt: HostRuntime) -> Result<(), Fail> {
     let mut catalog = Catalog::new(rt.alloc());
-    for line in REFUSALS.lines() {
-        check_refusal(rt.alloc(), &mut catalog, line)?;
-    }
-    assert_eq!(rt; catalog.calls().len(), 10);
-    Ok(())
+    letting_go(check_refusals(rt.alloc(), &mut catalog), catalog)
 }
 
 // Adds a refusal, a fault and a step that stores.
@@ -252,10 +247,11 @@ fn check_script(alloc: Global, script: &mut Script) -> Result<(), Fail> {
 // A seat over the script of these steps, which has no job.
 fn check_seat(alloc: Global, steps: Vec<Step>) -> Result<(), Fail> {
     let mut seat = Seat::new(Script::new(alloc, steps));
-    if seat.job.is_some() {
-        return Err(Fail::from("a job"));
-    }
-    check_script(alloc, &mut seat.provider)
+    let checked = match seat.job {
+        None => check_script(alloc, &mut seat.provider),
+        Some(_) => Err(Fail::from("a job")),
+    };
+    letting_go(checked, seat)
 }
 
 #[test]
@@ -284,13 +280,14 @@ fn nested_value(alloc: Global, depth: usize) -> Result<Value, Fail> {
 
 fn check_copy(alloc: Global, state: &State) -> Result<(), Fail> {
     let value = state.copy(alloc)?.into_value();
-    check_count("nesting", value.nesting() as u64, 110)
+    letting_go(check_count("nesting", value.nesting() as u64, 110), value)
 }
 
 fn check_state(alloc: Global, value: Value) -> Result<(), Fail> {
     let state = State::of(alloc, value)?;
-    check_count("bytes", state.text().as_slice().len() as u64, 220)?;
-    check_copy(alloc, &state)
+    let bytes = state.text().as_slice().len() as u64;
+    letting_go(check_copy(alloc, &state), state)?;
+    check_count("bytes", bytes, 220)
 }
 
 #[test]
@@ -302,6 +299,6 @@ fn a_state_nests_110_deep(rt: HostRuntime) -> Result<(), Fail> {
 #[test]
 fn no_state_nests_111_deep(rt: HostRuntime) -> Result<(), Fail> {
     let deeper = State::of(rt.alloc(), nested_value(rt.alloc(), 111)?);
-    assert!(rt; matches!(deeper, Err(StateFault::TooDeep)));
-    Ok(())
+    let is_too_deep = matches!(deeper, Err(StateFault::TooDeep));
+    letting_go(check_count("too deep", u64::from(is_too_deep), 1), deeper)
 }

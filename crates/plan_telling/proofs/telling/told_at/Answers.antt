@@ -1,0 +1,15 @@
+use Rattle.arm_value.specs.View.{json}
+use Rattle.plan_telling.specs.Sources.{site_in}
+use Rattle.plan_telling.proofs.TellLemmas.{place_goes, place_stops}
+use Rattle.plan_telling.proofs.telling.told_at.Goals as goal
+
+pub returns-in-Ok : goal.returns-in-Ok
+returns-in-Ok c =
+    let t = c.args.register.now.table in
+    place_goes t (site_in t c.args.site.now) c.args.source.now json c.told_in_place-told.result c.in-Ok.place
+    c.in-Ok.ensures c.told_in_place-told.ensures
+
+pub returns-in-Err : goal.returns-in-Err
+returns-in-Err c =
+    let t = c.args.register.now.table in
+    place_stops t (site_in t c.args.site.now) c.args.source.now c.in-Err.lack c.in-Err.ensures

@@ -1,0 +1,5 @@
+pub mod BoundLemmas
+pub mod PartLemmas
+pub mod CoalesceLemmas
+pub mod RunLemmas
+pub mod TruthLemmas

@@ -1,0 +1,4 @@
+pub mod BuiltLemmas
+pub mod NameLemmas
+pub mod TextLemmas
+pub mod WordLemmas

@@ -1,0 +1,40 @@
+-- What the declarations of a sample become: parameters and variables by the names of their symbols, and for each
+-- resource the same name and the same id, with the loop around it.
+use Rattle.std.specs.Prelude.{ℕ, false, List, [], map, Option, Some, None, codes, slice_get}
+use Rattle.arm_expr.specs.Tree.{Tree, text, call}
+use Rattle.bicep_names.specs.declared.kind.Kind.{Kind}
+use Rattle.bicep_names.specs.declared.kind.Kind.TheVariants as kind
+use Rattle.bicep_meaning.specs.Files.{SourceFile}
+use Rattle.bicep_emission.specs.Emitted.{one, two, no_value, item_of, index_of}
+use Rattle.emitted_expressions.specs.Sight.{Sight}
+use Rattle.emission_tests.specs.declared.sample.Sample.{Sample}
+
+abbrev pub symbol_of : List ℕ → ℕ × List ℕ × Kind
+symbol_of t = (0, t, kind.Parameter)
+
+-- a file with symbols of these names and nothing else
+abbrev pub file_of : List (List ℕ) → SourceFile
+file_of names = record {
+  symbols = map symbol_of names;
+  declared = record { declarations = []; outputs = [] };
+  outputs = [];
+  modules = [];
+  has_entry = λ n. false;
+  accepts = λ n j. false;
+}
+
+abbrev pub variable_of : Option (List ℕ) → Tree
+variable_of None = no_value
+variable_of (Some t) = call (codes "variables") (one (text t))
+
+abbrev pub sight_of : Sample → Sight
+sight_of x = record {
+  file = file_of x.names.items;
+  files = [];
+  scope = record {
+    variable = λ n. variable_of (slice_get x.names.items n);
+    items = λ n. call (codes "parameters") (one (text (codes "xs")));
+    name = λ n fs. item_of (slice_get fs 0);
+    id = λ n fs. call (codes "resourceId") (two (text (codes "T.N/a")) (index_of (slice_get fs 0)));
+  };
+}

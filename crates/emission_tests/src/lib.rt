@@ -1,0 +1,13 @@
+//! Tests of what Bicep expressions become in templates, over public items.
+//!
+//! A table is one text with a row in each line: an expression, and after an arrow the template expression that it
+//! becomes. There is nothing here but tests, so there is no edit that must be refused.
+#![tactic(auto)]
+
+#[cfg(test)]
+mod expressions;
+#[cfg(test)]
+mod rows;
+pub mod sample;
+#[cfg(test)]
+mod shown;

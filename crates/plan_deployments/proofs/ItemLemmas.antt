@@ -142,7 +142,8 @@ module _ (t : Table) (p : Position) (r : ℕ) where
 
   instance_next : (got : List Json) (i n : ℕ) (x : Named) (j : Json) → told_in t (one_named p (step r i)) ≡ value x
       → j ≡ named_json x
-      → items_after got (told_in t (instances i (suc n))) ≡ items_after (got ++ j ∷ []) (told_in t (instances (suc i) n))
+      → items_after got (told_in t (instances i (suc n))) ≡ items_after (got ++ j ∷ []) (told_in t (instances
+      (suc i) n))
   instance_next got i n x j e q =
       ap (items_after got) (first_told i n
       ∙ ap (λ v. and_then v (λ x. told_in t (continued (instances (suc i) n) (λ xs. pure (x ∷ xs))))) e

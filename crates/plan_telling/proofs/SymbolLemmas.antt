@@ -33,7 +33,8 @@ module _ (got more : List titles.Listed) (xs : List Listed) (i : ℕ) (all : Lis
       let next : drop i xs ≡ x ∷ drop (i + 1) xs =
       drop_more xs i x h ∙ ap (λ y. y ∷ drop (i + 1) xs) (sym e) in
       ap (λ ys. ys ++ rest) (m ∙ ap (λ ys. got ++ ys) s)
-      ∙ append_assoc got (symbol_by (listed_of x) x.declaration.now.symbol (title_in (json x.declaration.now.name))) rest
+      ∙ append_assoc got (symbol_by (listed_of x) x.declaration.now.symbol (title_in
+      (json x.declaration.now.name))) rest
       ∙ ap (λ ys. got ++ symbols_in (map listed_of ys)) (sym next) ∙ before
 
   pub symbols_end : length xs ≤ i → got ++ symbols_in (map listed_of (drop i xs)) ≡ all → got ≡ all

@@ -31,7 +31,8 @@ pub record AreKept (k : Kept) (o : Opened) : Type 0 where
 
 -- what is kept is what the scope at its position has
 abbrev pub IsOfScope : TemplateTree → Kept → Type 0
-IsOfScope t k = map symbolic k.symbols.items ≡ symbols_in (listed_at_scope (template_at t (map step_of k.position.items)))
+IsOfScope t k = map symbolic k.symbols.items ≡ symbols_in (listed_at_scope (template_at t
+    (map step_of k.position.items)))
 
 -- the table may be asked, and what is kept is what scopes have
 pub record IsComplete (r : Register) : Type 0 where

@@ -43,7 +43,8 @@ loop-copy-preserved c =
     let p = (scope_at t c.args.frame).position in
     let one = item_nests t c.in-Ok.item (told_in t (one_named p (step c.args.number c.loop-copy.copy))) c.in-Ok.ensures
     in (
-      items_more t p c.args.number c.loop-copy.items _ c.loop-copy.copy c.args.count c.in-Ok.item _ c.loop-copy-test.true
+      items_more t p c.args.number c.loop-copy.items _ c.loop-copy.copy c.args.count c.in-Ok.item _
+          c.loop-copy-test.true
           c.in-Ok.ensures c.in_ok-push-in-Ok.ensures c.loop-copy.invariant.0,
       one_more_nests c.loop-copy.items _ (json c.in-Ok.item) 1 c.loop-copy.invariant.1 (omega (arith, one))
           c.in_ok-push-in-Ok.ensures,

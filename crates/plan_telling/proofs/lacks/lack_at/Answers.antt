@@ -23,8 +23,10 @@ returns-in-Variable c =
     λ loops.
     let t = c.args.register.now.table in
     let seat = seat_of t c.args.frame c.args.place.now loops c.args.by_names in
-    subst (λ x. Stops {A = Json} t c.lack_in-in-Variable.result (stop_of (seen_in seat (look_of x)))) (sym c.in-Variable.is)
-    (c.lack_in-in-Variable.ensures (λ v. a_value (json v.now)) t _ (c.look_variable.ensures c.args.place.now (site_of seat) refl))
+    subst (λ x. Stops {A = Json} t c.lack_in-in-Variable.result (stop_of (seen_in seat (look_of x))))
+    (sym c.in-Variable.is)
+    (c.lack_in-in-Variable.ensures (λ v. a_value (json v.now)) t _ (c.look_variable.ensures c.args.place.now
+    (site_of seat) refl))
 
 pub returns-in-Output : goal.returns-in-Output
 returns-in-Output c =
@@ -40,7 +42,8 @@ returns-in-State c =
     let t = c.args.register.now.table in
     let seat = seat_of t c.args.frame c.args.place.now loops c.args.by_names in
     subst (λ x. Stops {A = Json} t c.state_lack.result (stop_of (seen_in seat (look_of x)))) (sym c.in-State.is)
-    (subst (λ u. Stops {A = Json} t c.state_lack.result (stop_of u)) (sym (state_waits t c.in-State.key)) (c.state_lack.ensures t))
+    (subst (λ u. Stops {A = Json} t c.state_lack.result (stop_of u)) (sym (state_waits t c.in-State.key))
+    (c.state_lack.ensures t))
 
 pub returns-in-Named : goal.returns-in-Named
 returns-in-Named c =
@@ -55,7 +58,8 @@ returns-in-Deployment c =
     λ loops.
     let t = c.args.register.now.table in
     let seat = seat_of t c.args.frame c.args.place.now loops c.args.by_names in
-    subst (λ x. Stops {A = Json} t c.lack_in-in-Deployment.result (stop_of (seen_in seat (look_of x)))) (sym c.in-Deployment.is)
+    subst (λ x. Stops {A = Json} t c.lack_in-in-Deployment.result (stop_of (seen_in seat (look_of x))))
+    (sym c.in-Deployment.is)
     (c.lack_in-in-Deployment.ensures (λ b. a_truth b) t _ (c.look_deployment.ensures (site_of seat) refl))
 
 pub returns-in-Outputs : goal.returns-in-Outputs
@@ -63,5 +67,7 @@ returns-in-Outputs c =
     λ loops.
     let t = c.args.register.now.table in
     let seat = seat_of t c.args.frame c.args.place.now loops c.args.by_names in
-    subst (λ x. Stops {A = Json} t c.lack_in-in-Outputs.result (stop_of (seen_in seat (look_of x)))) (sym c.in-Outputs.is)
-    (c.lack_in-in-Outputs.ensures (λ v. a_list (map declared_of v.items)) t _ (c.look_outputs.ensures (site_of seat) refl))
+    subst (λ x. Stops {A = Json} t c.lack_in-in-Outputs.result (stop_of (seen_in seat (look_of x))))
+    (sym c.in-Outputs.is)
+    (c.lack_in-in-Outputs.ensures (λ v. a_list (map declared_of v.items)) t _ (c.look_outputs.ensures
+    (site_of seat) refl))

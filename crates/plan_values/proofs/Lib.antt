@@ -1,0 +1,5 @@
+mod SiteLemmas
+pub mod RawLemmas
+mod NameLemmas
+mod BoundLemmas
+mod ValueLemmas

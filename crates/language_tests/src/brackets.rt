@@ -1,9 +1,10 @@
 // Which texts of a template are expressions, and how plain texts are written.
 
-use crate::environment::compare;
+use crate::answers::Question;
+use crate::table::check;
 use arm_expr::{Meaning, escaped, is_bracketed, meaning_of};
 use arm_value::Text;
-use std::alloc::Global;
+use std::alloc::{AllocError, Global};
 use std::test::Fail;
 
 // What the text means, in words.
@@ -14,9 +15,9 @@ fn shown<'a>(text: &'a str) -> &'a str {
     }
 }
 
-fn check_meaning(line: &str) -> Result<(), Fail> {
-    let (text, wanted) = line.split_once(" -> ").unwrap_or((line, line));
-    compare(line, shown(text), wanted)
+/// Adds what the text means.
+pub fn say_meaning(out: &mut String, asked: &str) -> Result<(), AllocError> {
+    out.push_str(shown(asked))
 }
 
 const MEANINGS: &str = r#"[concat('a')] -> an expression
@@ -36,19 +37,21 @@ a[0]
 [größe] -> an expression"#;
 
 #[test]
-fn texts_in_one_bracket_are_expressions(_rt: HostRuntime) -> Result<(), Fail> {
-    for line in MEANINGS.lines() {
-        check_meaning(line)?;
-    }
-    Ok(())
+fn texts_in_one_bracket_are_expressions(rt: HostRuntime) -> Result<(), Fail> {
+    check(rt.alloc(), Question::Meaning, MEANINGS)
 }
 
-fn check_escaped(alloc: Global, line: &str) -> Result<(), Fail> {
-    let (text, wanted) = line.split_once(" -> ").unwrap_or((line, line));
-    let plain = Text::of(alloc, text)?;
+/// Adds how the text is written as a plain one, and whether that means another text.
+pub fn say_escaped(out: &mut String, alloc: Global, asked: &str) -> Result<(), AllocError> {
+    let plain = Text::of(alloc, asked)?;
     let written = escaped(alloc, &plain)?;
-    compare(line, written.as_str(), wanted)?;
-    compare(line, shown(written.as_str()), text)
+    out.push_str(written.as_str())?;
+    let means_it = shown(written.as_str()) == asked;
+    out.push_str(if means_it {
+        ""
+    } else {
+        ", which means another text"
+    })
 }
 
 const ESCAPED: &str = r#"[a] -> [[a]
@@ -61,20 +64,20 @@ größe"#;
 
 #[test]
 fn plain_texts_are_written_as_themselves(rt: HostRuntime) -> Result<(), Fail> {
-    for line in ESCAPED.lines() {
-        check_escaped(rt.alloc(), line)?;
-    }
-    Ok(())
+    check(rt.alloc(), Question::Escaped, ESCAPED)
 }
 
+/// Adds whether brackets are at both ends.
+pub fn say_bracketed(out: &mut String, asked: &str) -> Result<(), AllocError> {
+    out.push_str(if is_bracketed(asked) { "true" } else { "false" })
+}
+
+const BRACKETED: &str = "[[a] -> true
+[a -> false
+a] -> false
+[ -> false";
+
 #[test]
-fn brackets_are_at_both_ends(_rt: HostRuntime) -> Result<(), Fail> {
-    let both = is_bracketed("[[a]");
-    let front = is_bracketed("[a");
-    let back = is_bracketed("a]");
-    let one = is_bracketed("[");
-    if both && !front && !back && !one {
-        return Ok(());
-    }
-    Err(Fail::new(format_args!("brackets at both ends")))
+fn brackets_are_at_both_ends(rt: HostRuntime) -> Result<(), Fail> {
+    check(rt.alloc(), Question::Bracketed, BRACKETED)
 }

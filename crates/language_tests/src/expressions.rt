@@ -1,6 +1,7 @@
 // Expressions of literals, parameters, variables and functions, and of where a template is deployed.
 
-use crate::environment::{Texts, check};
+use crate::answers::Question;
+use crate::table::check;
 use std::test::Fail;
 
 const ACCESSES: &str = r#"'a''b' -> "a'b"
@@ -32,7 +33,7 @@ parameters() -> none"#;
 
 #[test]
 fn parts_are_looked_up_in_parameters_and_variables(rt: HostRuntime) -> Result<(), Fail> {
-    check(rt.alloc(), Texts::Expressions, ACCESSES)
+    check(rt.alloc(), Question::Expression, ACCESSES)
 }
 
 const LAZY: &str = r#"if(parameters('On'), 1, parameters('soon')) -> 1
@@ -65,7 +66,7 @@ concat('a', string(1), variables('v')) -> "a1var""#;
 
 #[test]
 fn functions_look_only_as_far_as_their_value_needs(rt: HostRuntime) -> Result<(), Fail> {
-    check(rt.alloc(), Texts::Expressions, LAZY)
+    check(rt.alloc(), Question::Expression, LAZY)
 }
 
 const INDICES: &str = r#"copyIndex() -> 5
@@ -81,7 +82,7 @@ copyIndex('vms', 1, 1) -> none"#;
 
 #[test]
 fn copy_index_is_that_of_the_named_or_the_main_loop(rt: HostRuntime) -> Result<(), Fail> {
-    check(rt.alloc(), Texts::Expressions, INDICES)
+    check(rt.alloc(), Question::Expression, INDICES)
 }
 
 const PLACES: &str = r#"resourceGroup().id -> "/subscriptions/S1/resourceGroups/g"
@@ -96,7 +97,7 @@ deployment() -> {"name":"first"}"#;
 
 #[test]
 fn a_template_sees_where_it_is_deployed(rt: HostRuntime) -> Result<(), Fail> {
-    check(rt.alloc(), Texts::Expressions, PLACES)
+    check(rt.alloc(), Question::Expression, PLACES)
 }
 
 const IDS: &str = r#"resourceId('N/t', 'x') -> "/subscriptions/S1/resourceGroups/g/providers/N/t/x"
@@ -118,5 +119,5 @@ resourceId('s2', 'G2', 'N/t/u', 'x', 'y') -> "/subscriptions/s2/resourceGroups/G
 
 #[test]
 fn ids_are_made_of_a_place_types_and_names(rt: HostRuntime) -> Result<(), Fail> {
-    check(rt.alloc(), Texts::Expressions, IDS)
+    check(rt.alloc(), Question::Expression, IDS)
 }

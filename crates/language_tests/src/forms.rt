@@ -1,20 +1,16 @@
 // References in templates of both forms, and the titles of symbolic names.
 
-use crate::environment::{add_loop, check_expression, compare_found, empty, fill, place, push};
+use crate::answers::Question;
+use crate::environment::{add_loop, push};
+use crate::table::{check, letting_go};
+use crate::told::say_found;
 use arm_env::entries::Around;
 use arm_env::env::{Env, Looping, Symbol};
 use arm_eval::symbols::Listed;
 use arm_eval::{Titles, titled_value};
 use arm_value::{Text, Value};
-use std::alloc::Global;
+use std::alloc::{AllocError, Global};
 use std::test::Fail;
-
-// A template of the first form, or of the second, where texts are symbolic names.
-#[derive(Clone, Copy)]
-enum Form {
-    One,
-    Two,
-}
 
 // After the arrow is the answer in the first form, and after a bar that in the second; one alone is
 // the answer in both.
@@ -85,7 +81,7 @@ by_id A/b [reference(resourceId('A/b', 'namer')).name]
 elsewhere A/b [concat('st', sub(copyIndex('vms'), 4))]
 deployed Microsoft.Resources/deployments whole";
 
-fn symbol(alloc: Global, line: &str) -> Result<Symbol, Fail> {
+fn symbol(alloc: Global, line: &str) -> Result<Symbol, AllocError> {
     let (name, rest) = line.split_once(' ').unwrap_or((line, ""));
     let (kind, title) = rest.split_once(' ').unwrap_or((rest, ""));
     Ok(Symbol {
@@ -97,68 +93,33 @@ fn symbol(alloc: Global, line: &str) -> Result<Symbol, Fail> {
 }
 
 // Adds the symbols of the lines, of which `n` has a loop.
-fn add_symbols(alloc: Global, list: &mut Vec<Symbol>, table: &str) -> Result<(), Fail> {
+fn add_symbols(alloc: Global, list: &mut Vec<Symbol>, table: &str) -> Result<(), AllocError> {
     for line in table.lines() {
         push(list, symbol(alloc, line)?)?;
     }
     Ok(())
 }
 
-// The answer in the form.
-fn answer(wanted: &str, form: Form) -> &str {
-    let (one, two) = wanted.split_once(" | ").unwrap_or((wanted, wanted));
-    match form {
-        Form::One => one,
-        Form::Two => two,
-    }
-}
-
-fn check_lines(alloc: Global, env: &Env, form: Form, table: &str) -> Result<(), Fail> {
-    for line in table.lines() {
-        let (text, wanted) = line.split_once(" -> ").unwrap_or((line, ""));
-        check_expression(alloc, env, text, answer(wanted, form))?;
-    }
-    Ok(())
-}
-
-fn check_forms(alloc: Global, env: &mut Env) -> Result<(), Fail> {
-    fill(alloc, env)?;
-    check_lines(alloc, env, Form::One, REFERENCES)?;
+/// Adds the entries of a template of the second form, at a place inside a name or not.
+pub fn fill(alloc: Global, env: &mut Env, inside_name: bool) -> Result<(), Fail> {
+    env.inside_name = inside_name;
     add_symbols(alloc, &mut env.symbols, SYMBOLS)?;
-    check_lines(alloc, env, Form::Two, REFERENCES)?;
-    env.inside_name = true;
-    check_lines(alloc, env, Form::Two, INSIDE)
+    crate::environment::fill(alloc, env)
 }
 
 #[test]
-fn references_mean_what_their_form_says(rt: HostRuntime) -> Result<(), Fail> {
-    let place = place(rt.alloc(), "g")?;
-    let mut env = empty(rt.alloc(), &place);
-    check_forms(rt.alloc(), &mut env)
+fn references_mean_what_the_first_form_says(rt: HostRuntime) -> Result<(), Fail> {
+    check(rt.alloc(), Question::Expression, REFERENCES)
 }
 
-fn check_title(
-    alloc: Global,
-    env: &Env,
-    titles: &Titles,
-    text: &str,
-    wanted: &str,
-) -> Result<(), Fail> {
-    let spelled = Text::from_string(format!(in alloc; "[{text}]")?);
-    let around = Around {
-        loops: env.loops.as_slice(),
-        place: env.place,
-    };
-    let found = titled_value(alloc, env, titles, &around, &Value::Text(spelled));
-    compare_found(alloc, text, &found, wanted)
+#[test]
+fn references_mean_what_the_second_form_says(rt: HostRuntime) -> Result<(), Fail> {
+    check(rt.alloc(), Question::InFormTwo, REFERENCES)
 }
 
-fn check_titles(alloc: Global, env: &Env, titles: &Titles, table: &str) -> Result<(), Fail> {
-    for line in table.lines() {
-        let (text, wanted) = line.split_once(" -> ").unwrap_or((line, ""));
-        check_title(alloc, env, titles, text, wanted)?;
-    }
-    Ok(())
+#[test]
+fn inside_a_name_a_text_is_an_id(rt: HostRuntime) -> Result<(), Fail> {
+    check(rt.alloc(), Question::InsideName, INSIDE)
 }
 
 // A name, a type and a title in each line. The loop of `n` is named `each`, and a loop named
@@ -173,12 +134,28 @@ reference('around').p.q -> [10]
 reference('elsewhere') -> none
 copyIndex('vms') -> 5"#;
 
+fn say_by(
+    out: &mut String,
+    alloc: Global,
+    env: &Env,
+    titles: &Titles,
+    asked: &str,
+) -> Result<(), AllocError> {
+    let spelled = Value::Text(Text::from_string(format!(in alloc; "[{asked}]")?));
+    let around = Around {
+        loops: env.loops.as_slice(),
+        place: env.place,
+    };
+    let found = titled_value(alloc, env, titles, &around, &spelled);
+    letting_go(say_found(out, alloc, &found), (found, spelled))
+}
+
 // The symbols, with the name of the loop of those that have one.
 fn listed<'a>(
     alloc: Global,
     symbols: &'a [Symbol],
     each: &'a Text,
-) -> Result<Vec<Listed<'a>>, Fail> {
+) -> Result<Vec<Listed<'a>>, AllocError> {
     let mut list = Vec::new(alloc);
     for symbol in symbols {
         let copy = if symbol.looped { Some(each) } else { None };
@@ -187,40 +164,39 @@ fn listed<'a>(
     Ok(list)
 }
 
-// Checks the titles of symbols, whose loop is named `each`, in the loops around the template.
-fn check_around(
+// Adds what is answered by the symbols, whose loop has the name, in the loops around the template.
+fn say_listed(
+    out: &mut String,
     alloc: Global,
     env: &Env,
-    symbols: &[Symbol],
-    loops: &[Looping],
-) -> Result<(), Fail> {
-    let each = Text::of(alloc, "each")?;
-    let listed = listed(alloc, symbols, &each)?;
+    (symbols, each, loops): (&[Symbol], &Text, &[Looping]),
+    asked: &str,
+) -> Result<(), AllocError> {
+    let listed = listed(alloc, symbols, each)?;
     let titles = Titles {
         symbols: listed.as_slice(),
         loops,
     };
-    check_titles(alloc, env, &titles, TITLES)
+    say_by(out, alloc, env, &titles, asked)
 }
 
-fn check_listed(alloc: Global, env: &Env) -> Result<(), Fail> {
-    let mut symbols = Vec::new(alloc);
+/// Adds the value of the expression as a title of a symbol.
+pub fn say_titled(
+    out: &mut String,
+    alloc: Global,
+    env: &Env,
+    asked: &str,
+) -> Result<(), AllocError> {
+    let (mut symbols, mut loops) = (Vec::new(alloc), Vec::new(alloc));
     add_symbols(alloc, &mut symbols, LOOPED)?;
-    let mut loops = Vec::new(alloc);
     add_loop(alloc, &mut loops, "group", 10, true)?;
-    check_around(alloc, env, &symbols, &loops)
-}
-
-fn fill_and_check(alloc: Global, env: &mut Env) -> Result<(), Fail> {
-    fill(alloc, env)?;
-    check_listed(alloc, env)
+    let each = Text::of(alloc, "each")?;
+    say_listed(out, alloc, env, (&symbols, &each, &loops), asked)
 }
 
 #[test]
 fn a_title_is_read_in_its_own_loop_and_those_around_the_template(
     rt: HostRuntime,
 ) -> Result<(), Fail> {
-    let place = place(rt.alloc(), "g")?;
-    let mut env = empty(rt.alloc(), &place);
-    fill_and_check(rt.alloc(), &mut env)
+    check(rt.alloc(), Question::InTitle, TITLES)
 }

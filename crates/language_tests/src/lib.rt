@@ -7,6 +7,8 @@
 #![tactic(auto)]
 
 #[cfg(test)]
+mod answers;
+#[cfg(test)]
 mod brackets;
 #[cfg(test)]
 mod environment;
@@ -28,5 +30,9 @@ mod references;
 mod spelling;
 #[cfg(test)]
 mod symbols;
+#[cfg(test)]
+mod table;
+#[cfg(test)]
+mod told;
 #[cfg(test)]
 mod trees;

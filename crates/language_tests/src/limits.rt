@@ -3,125 +3,122 @@ ghost use Rattle.std.specs.Prelude.{IfOk};
 ghost use Rattle.arm_expr.specs.Print.{HasNames};
 ghost use Rattle.arm_expr.specs.View.{tree_of};
 
-use crate::environment::compare;
-use arm_expr::{Expr, print, read};
+use crate::answers::Question;
+use crate::table::{check, letting_go};
+use arm_expr::{Expr, ExprFault, print, read};
 use arm_value::Text;
 use std::alloc::{AllocError, Global};
 use std::test::Fail;
 
-// `times` copies of a text.
-fn repeated(alloc: Global, text: &str, times: usize) -> Result<String, AllocError> {
-    let mut all = String::new(alloc);
+// Adds so many copies of a part.
+fn add_times(text: &mut String, part: &str, times: usize) -> Result<(), AllocError> {
     for _ in 0..times {
-        all.push_str(text)?;
+        text.push_str(part)?;
     }
-    Ok(all)
+    Ok(())
+}
+
+fn say_whether(out: &mut String, read: &Result<Expr, ExprFault>) -> Result<(), AllocError> {
+    match read {
+        Ok(_) => out.push_str("read"),
+        Err(fault) => write!(out, "{fault}"),
+    }
+}
+
+// Adds why the text is not read, or that it is.
+fn say_read(out: &mut String, alloc: Global, text: &str) -> Result<(), AllocError> {
+    let read = read(alloc, text);
+    letting_go(say_whether(out, &read), read)
+}
+
+// Adds a text in brackets: as often as the row says what opens, then what is between, and as often what closes.
+fn add_row(text: &mut String, row: &str) -> Result<(), AllocError> {
+    let (times, rest) = row.split_once('|').unwrap_or((row, ""));
+    let (open, rest) = rest.split_once('|').unwrap_or((rest, ""));
+    let (inner, close) = rest.split_once('|').unwrap_or((rest, ""));
+    let times = times.parse().unwrap_or(0);
+    text.push_str("[")?;
+    add_times(text, open, times)?;
+    text.push_str(inner)?;
+    add_times(text, close, times)?;
+    text.push_str("]")
+}
+
+/// Adds why the text of a row is not read, or that it is. A row has a number, what opens, what is between and what closes.
+pub fn say_nested(out: &mut String, alloc: Global, asked: &str) -> Result<(), AllocError> {
+    let mut text = String::new(alloc);
+    add_row(&mut text, asked)?;
+    say_read(out, alloc, text.as_str())
+}
+
+// Calls, arguments after others, members and indices.
+const NESTED: &str = "\
+64|a(|'x'|) -> read
+64|f(1, 'y', |'x'|) -> read
+64||0|.b -> read
+64||0|[0] -> read
+65|a(|'x'|) -> nested above 64
+65|f(1, 'y', |'x'|) -> nested above 64
+65||0|.b -> nested above 64
+65||0|[0] -> nested above 64";
+
+#[test]
+fn an_expression_that_is_read_nests_at_most_64(rt: HostRuntime) -> Result<(), Fail> {
+    check(rt.alloc(), Question::Nested, NESTED)
+}
+
+// These texts nest thousands deep.
+const DEEP: &str = "\
+8191|a(||) -> nested above 64
+4914|x()[|0|] -> nested above 64
+12287|a(|| -> no expression
+6143|x()[|| -> no expression";
+
+#[test]
+fn a_deep_text_is_decided_without_a_deep_tree(rt: HostRuntime) -> Result<(), Fail> {
+    check(rt.alloc(), Question::Nested, DEEP)
 }
 
 // A string of so many characters, each of two bytes.
 fn string_of(alloc: Global, characters: usize) -> Result<Expr, AllocError>
     ensures { IfOk result (λ e. HasNames (tree_of e)) }
 {
-    let text = repeated(alloc, "ö", characters)?;
+    let mut text = String::new(alloc);
+    add_times(&mut text, "ö", characters)?;
     Ok(Expr::Text(Text::from_string(text)))
 }
 
-// Compares why the text is not read with what is wanted; empty where it is read.
-fn check_read(alloc: Global, text: &str, wanted: &str) -> Result<(), Fail> {
-    match read(alloc, text) {
-        Ok(_) => compare("the text is read", "", wanted),
-        Err(fault) => {
-            let found = format!(in alloc; "{fault}")?;
-            compare("the text is not read", found.as_str(), wanted)
-        }
-    }
+// Adds whether the text is read, and whether it is with a blank after it.
+fn say_longer(out: &mut String, alloc: Global, text: &str) -> Result<(), AllocError> {
+    say_read(out, alloc, text)?;
+    out.push_str(", ")?;
+    let longer = format!(in alloc; "{text} ")?;
+    say_read(out, alloc, longer.as_str())
 }
 
-fn check_longer(alloc: Global, longest: &str) -> Result<(), Fail> {
-    let longer = format!(in alloc; "{longest} ")?;
-    check_read(alloc, longer.as_str(), "longer than 24576 characters")
-}
-
-// The text of an expression of 24,576 characters.
-fn longest(alloc: Global) -> Result<Text, Fail> {
-    let string = string_of(alloc, 24_572)?;
-    Ok(print(alloc, &string)?)
-}
-
-#[test]
-fn a_text_that_is_read_has_at_most_24_576_characters(rt: HostRuntime) -> Result<(), Fail> {
-    let longest = longest(rt.alloc())?;
-    check_read(rt.alloc(), longest.as_str(), "")?;
-    check_longer(rt.alloc(), longest.as_str())
-}
-
-// Compares why the expression is not written with what is wanted; empty where it is written.
-fn check_print(alloc: Global, e: &Expr, wanted: &str) -> Result<(), Fail>
+// Adds why the expression is not written, or whether what is written is read, and with a blank after it.
+fn say_printed(out: &mut String, alloc: Global, e: &Expr) -> Result<(), AllocError>
     requires { HasNames (tree_of e.now) }
 {
     match print(alloc, e) {
-        Ok(_) => compare("the expression is written", "", wanted),
-        Err(fault) => {
-            let found = format!(in alloc; "{fault}")?;
-            compare("the expression is not written", found.as_str(), wanted)
-        }
+        Ok(text) => say_longer(out, alloc, text.as_str()),
+        Err(fault) => write!(out, "{fault}"),
     }
 }
 
-#[test]
-fn a_text_that_is_written_has_at_most_24_576_characters(rt: HostRuntime) -> Result<(), Fail> {
-    let string = string_of(rt.alloc(), 24_573)?;
-    check_print(rt.alloc(), &string, "longer than 24576 characters")
+/// Adds the same of a string of so many characters.
+pub fn say_strung(out: &mut String, alloc: Global, asked: &str) -> Result<(), AllocError> {
+    let string = string_of(alloc, asked.parse().unwrap_or(0))?;
+    letting_go(say_printed(out, alloc, &string), string)
 }
 
-// `open` and `close` as often, and what is between them, in brackets.
-fn nested(
-    alloc: Global,
-    open: &str,
-    inner: &str,
-    close: &str,
-    times: usize,
-) -> Result<String, AllocError> {
-    let opened = repeated(alloc, open, times)?;
-    let closed = repeated(alloc, close, times)?;
-    format!(in alloc; "[{opened}{inner}{closed}]")
-}
-
-fn check_nested(
-    alloc: Global,
-    open: &str,
-    inner: &str,
-    close: &str,
-    wanted: &str,
-    times: usize,
-) -> Result<(), Fail> {
-    let text = nested(alloc, open, inner, close, times)?;
-    check_read(alloc, text.as_str(), wanted)
-}
-
-const DEEP: &str = "nested above 64";
-
-// Calls, arguments after others, members and indices.
-fn check_depth(alloc: Global, times: usize, wanted: &str) -> Result<(), Fail> {
-    check_nested(alloc, "a(", "'x'", ")", wanted, times)?;
-    check_nested(alloc, "f(1, 'y', ", "'x'", ")", wanted, times)?;
-    check_nested(alloc, "", "0", ".b", wanted, times)?;
-    check_nested(alloc, "", "0", "[0]", wanted, times)
-}
+// With its brackets and its quotes the first string is a text of 24,576 characters.
+const STRUNG: &str = "24572 -> read, longer than 24576 characters
+24573 -> longer than 24576 characters";
 
 #[test]
-fn an_expression_that_is_read_nests_at_most_64(rt: HostRuntime) -> Result<(), Fail> {
-    check_depth(rt.alloc(), 64, "")?;
-    check_depth(rt.alloc(), 65, DEEP)
-}
-
-// These texts nest thousands deep.
-#[test]
-fn a_deep_text_is_decided_without_a_deep_tree(rt: HostRuntime) -> Result<(), Fail> {
-    check_nested(rt.alloc(), "a(", "", ")", DEEP, 8_191)?;
-    check_nested(rt.alloc(), "x()[", "0", "]", DEEP, 4_914)?;
-    check_nested(rt.alloc(), "a(", "", "", "no expression", 12_287)?;
-    check_nested(rt.alloc(), "x()[", "", "", "no expression", 6_143)
+fn a_text_has_at_most_24_576_characters(rt: HostRuntime) -> Result<(), Fail> {
+    check(rt.alloc(), Question::Strung, STRUNG)
 }
 
 // An int indexed so often, which nests so deep.
@@ -136,14 +133,17 @@ fn indexed(alloc: Global, times: usize) -> Result<Expr, AllocError>
     Ok(e)
 }
 
-fn check_indexed(alloc: Global, times: usize, wanted: &str) -> Result<(), Fail> {
-    let e = indexed(alloc, times)?;
-    check_print(alloc, &e, wanted)
+/// Adds the same of an int that is indexed so often.
+pub fn say_indexed(out: &mut String, alloc: Global, asked: &str) -> Result<(), AllocError> {
+    let e = indexed(alloc, asked.parse().unwrap_or(0))?;
+    say_printed(out, alloc, &e)
 }
+
+const INDEXED: &str = "64 -> read, no expression
+65 -> nested above 64
+8192 -> longer than 24576 characters";
 
 #[test]
 fn an_expression_that_is_written_nests_at_most_64(rt: HostRuntime) -> Result<(), Fail> {
-    check_indexed(rt.alloc(), 64, "")?;
-    check_indexed(rt.alloc(), 65, DEEP)?;
-    check_indexed(rt.alloc(), 8_192, "longer than 24576 characters")
+    check(rt.alloc(), Question::Indexed, INDEXED)
 }

@@ -1,80 +1,60 @@
 // Where trees have no value: paths to their deepest parts that have none.
 
-use crate::environment::{compare, compare_stop, empty, fill, place};
+use crate::answers::Question;
+use crate::table::{check, letting_go};
+use crate::told::say_stop;
 use arm_env::entries::Around;
 use arm_env::env::Env;
 use arm_env::stop::Stop;
 use arm_value::Value;
 use missing_values::{Step, missing_path};
-use std::alloc::Global;
+use std::alloc::{AllocError, Global};
 use std::test::Fail;
 
-// The path after a step around it.
-fn after(alloc: Global, step: &Step, path: &str) -> Result<String, Fail> {
+fn say_step(out: &mut String, step: &Step) -> Result<(), AllocError> {
     match step {
-        Step::Member(name) => Ok(format!(in alloc; "/{}{path}", name.as_str())?),
-        Step::Item(place) => Ok(format!(in alloc; "/{place}{path}")?),
+        Step::Member(name) => write!(out, "/{}", name.as_str()),
+        Step::Item(place) => write!(out, "/{place}"),
     }
 }
 
-// The path, its outermost step first.
-fn pointer(alloc: Global, steps: &[Step]) -> Result<String, Fail> {
-    let mut path = String::new(alloc);
-    for step in steps {
-        path = after(alloc, step, path.as_str())?;
-    }
-    Ok(path)
-}
-
-fn compare_steps(alloc: Global, asked: &str, steps: &[Step], wanted: &str) -> Result<(), Fail> {
+// Adds the path, or `itself` where it is empty. The step that is nearest to the part comes first.
+fn say_steps(out: &mut String, steps: &[Step]) -> Result<(), AllocError> {
     if steps.is_empty() {
-        return compare(asked, "itself", wanted);
+        return out.push_str("itself");
     }
-    let path = pointer(alloc, steps)?;
-    compare(asked, path.as_str(), wanted)
+    for step in steps.iter().rev() {
+        say_step(out, step)?;
+    }
+    Ok(())
 }
 
-// Compares the path, or `itself` where it is empty, or `there` where the tree has a value.
-fn compare_path(
+// Adds the path, or `there` where the tree has a value.
+fn say_found(
+    out: &mut String,
     alloc: Global,
-    asked: &str,
-    found: &Option<Vec<Step>>,
-    wanted: &str,
-) -> Result<(), Fail> {
-    match found {
-        Some(steps) => compare_steps(alloc, asked, steps.as_slice(), wanted),
-        None => compare(asked, "there", wanted),
-    }
-}
-
-fn compare_found(
-    alloc: Global,
-    asked: &str,
     found: &Result<Option<Vec<Step>>, Stop>,
-    wanted: &str,
-) -> Result<(), Fail> {
+) -> Result<(), AllocError> {
     match found {
-        Ok(found) => compare_path(alloc, asked, found, wanted),
-        Err(stop) => compare_stop(alloc, asked, stop, wanted),
+        Ok(Some(steps)) => say_steps(out, steps.as_slice()),
+        Ok(None) => out.push_str("there"),
+        Err(stop) => say_stop(out, alloc, stop),
     }
 }
 
-fn check_line(alloc: Global, env: &Env, text: &str, wanted: &str) -> Result<(), Fail> {
-    let tree = Value::from_json(alloc, text.as_bytes())?;
+/// Adds the path to the deepest part of the tree that has no value.
+pub fn say_path(
+    out: &mut String,
+    alloc: Global,
+    env: &Env,
+    tree: &Value,
+) -> Result<(), AllocError> {
     let around = Around {
         loops: env.loops.as_slice(),
         place: env.place,
     };
-    let found = missing_path(alloc, env, &around, &tree);
-    compare_found(alloc, text, &found, wanted)
-}
-
-fn check(alloc: Global, env: &Env, table: &str) -> Result<(), Fail> {
-    for line in table.lines() {
-        let (text, wanted) = line.split_once(" -> ").unwrap_or((line, ""));
-        check_line(alloc, env, text, wanted)?;
-    }
-    Ok(())
+    let found = missing_path(alloc, env, &around, tree);
+    letting_go(say_found(out, alloc, &found), found)
 }
 
 const PATHS: &str = r#"1 -> there
@@ -98,14 +78,7 @@ const PATHS: &str = r#"1 -> there
 {"copy":[{"name":"n","count":1,"input":{"copy":[{"name":"i","count":2,"input":"[x]"}]}}]} -> /copy/0/input/copy/0/input
 {"copy":[1],"a":"[nope()]"} -> /a"#;
 
-fn fill_and_check(alloc: Global, env: &mut Env) -> Result<(), Fail> {
-    fill(alloc, env)?;
-    check(alloc, env, PATHS)
-}
-
 #[test]
 fn a_path_leads_to_the_deepest_part_without_a_value(rt: HostRuntime) -> Result<(), Fail> {
-    let place = place(rt.alloc(), "g")?;
-    let mut env = empty(rt.alloc(), &place);
-    fill_and_check(rt.alloc(), &mut env)
+    check(rt.alloc(), Question::Path, PATHS)
 }

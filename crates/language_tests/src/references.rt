@@ -1,6 +1,7 @@
 // Expressions that look at states of resources and at outputs of nested deployments.
 
-use crate::environment::{Texts, check};
+use crate::answers::Question;
+use crate::table::check;
 use std::test::Fail;
 
 const STATES: &str = r#"reference('st1').p.q[0] -> 7
@@ -19,7 +20,7 @@ reference(1) -> none"#;
 
 #[test]
 fn references_give_states_by_name_and_by_id(rt: HostRuntime) -> Result<(), Fail> {
-    check(rt.alloc(), Texts::Expressions, STATES)
+    check(rt.alloc(), Question::Expression, STATES)
 }
 
 const OUTPUTS: &str = r#"reference('whole').outputs.x.value -> "hello"
@@ -54,5 +55,5 @@ reference(resourceId('Microsoft.Resources/deployments', 'WHOLE')).outputs.y.valu
 
 #[test]
 fn references_to_nested_deployments_look_at_outputs(rt: HostRuntime) -> Result<(), Fail> {
-    check(rt.alloc(), Texts::Expressions, OUTPUTS)
+    check(rt.alloc(), Question::Expression, OUTPUTS)
 }

@@ -1,31 +1,29 @@
 // Which texts spell an expression, and how it is written.
+ghost use Rattle.arm_expr.specs.Print.{HasNames};
+ghost use Rattle.arm_expr.specs.View.{tree_of};
 
-use crate::environment::compare;
+use crate::answers::Question;
+use crate::table::{check, check_one, letting_go};
 use arm_expr::{Expr, print, read};
-use std::alloc::Global;
+use std::alloc::{AllocError, Global};
 use std::test::Fail;
 
-// The text that is written for the expression that the text spells, or why it is not read.
-fn written(alloc: Global, text: &str) -> Result<String, Fail> {
-    match read(alloc, text) {
-        Ok(e) => Ok(print(alloc, &e)?.into_string()),
-        Err(fault) => Ok(format!(in alloc; "{fault}")?),
+// Adds the text that is written for the expression.
+fn say_printed(out: &mut String, alloc: Global, e: &Expr) -> Result<(), AllocError>
+    requires { HasNames (tree_of e.now) }
+{
+    match print(alloc, e) {
+        Ok(text) => out.push_str(text.as_str()),
+        Err(fault) => write!(out, "{fault}"),
     }
 }
 
-fn check_text(alloc: Global, text: &str, wanted: &str) -> Result<(), Fail> {
-    let found = written(alloc, text)?;
-    compare(text, found.as_str(), wanted)
-}
-
-// Fails at the first line whose text has another answer than the one that follows the arrow; where
-// there is none, than the text itself.
-fn check(alloc: Global, table: &str) -> Result<(), Fail> {
-    for line in table.lines() {
-        let (text, wanted) = line.split_once(" -> ").unwrap_or((line, line));
-        check_text(alloc, text, wanted)?;
+/// Adds the text that is written for the expression that the text spells, or why it is not read.
+pub fn say_written(out: &mut String, alloc: Global, asked: &str) -> Result<(), AllocError> {
+    match read(alloc, asked) {
+        Ok(e) => letting_go(say_printed(out, alloc, &e), e),
+        Err(fault) => write!(out, "{fault}"),
     }
-    Ok(())
 }
 
 // Expressions as they are written.
@@ -54,7 +52,7 @@ const WRITTEN: &str = r#"['a''b']
 
 #[test]
 fn what_is_written_is_read_and_written_again(rt: HostRuntime) -> Result<(), Fail> {
-    check(rt.alloc(), WRITTEN)
+    check(rt.alloc(), Question::Written, WRITTEN)
 }
 
 const SPELLED: &str = r#"[concat('a','b')] -> [concat('a', 'b')]
@@ -75,15 +73,25 @@ const SPELLED: &str = r#"[concat('a','b')] -> [concat('a', 'b')]
 
 #[test]
 fn other_spellings_are_read(rt: HostRuntime) -> Result<(), Fail> {
-    check(rt.alloc(), SPELLED)
+    check(rt.alloc(), Question::Written, SPELLED)
 }
 
 #[test]
 fn blanks_and_newlines_may_be_between_tokens(rt: HostRuntime) -> Result<(), Fail> {
     let arguments = "[concat(\r\n  'a',\r\n\t'b'\r\n)]";
-    check_text(rt.alloc(), arguments, "[concat('a', 'b')]")?;
+    check_one(
+        rt.alloc(),
+        Question::Written,
+        arguments,
+        "[concat('a', 'b')]",
+    )?;
     let names = "[parameters('a').\n  b\n  .c]";
-    check_text(rt.alloc(), names, "[parameters('a').b.c]")
+    check_one(
+        rt.alloc(),
+        Question::Written,
+        names,
+        "[parameters('a').b.c]",
+    )
 }
 
 const NOT_SPELLED: &str = r#" -> no expression
@@ -121,12 +129,26 @@ concat('a') -> no expression
 
 #[test]
 fn other_texts_are_no_expressions(rt: HostRuntime) -> Result<(), Fail> {
-    check(rt.alloc(), NOT_SPELLED)
+    check(rt.alloc(), Question::Written, NOT_SPELLED)
+}
+
+// The text of an expression that is one.
+fn text_in(e: &Expr) -> &str {
+    match e {
+        Expr::Text(text) => text.as_str(),
+        _ => "no text",
+    }
+}
+
+/// Adds the text that is spelled.
+pub fn say_spelled(out: &mut String, alloc: Global, asked: &str) -> Result<(), AllocError> {
+    match read(alloc, asked) {
+        Ok(e) => letting_go(out.push_str(text_in(&e)), e),
+        Err(fault) => write!(out, "{fault}"),
+    }
 }
 
 #[test]
 fn two_quotes_spell_one(rt: HostRuntime) -> Result<(), Fail> {
-    let e = read(rt.alloc(), "['a''b']")?;
-    assert!(rt; matches!(&e, Expr::Text(s) if s.as_str() == "a'b"));
-    Ok(())
+    check(rt.alloc(), Question::Spelled, "['a''b'] -> a'b")
 }

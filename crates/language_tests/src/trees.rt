@@ -1,6 +1,7 @@
 // Trees of JSON with expressions and loops in them.
 
-use crate::environment::{Texts, check};
+use crate::answers::Question;
+use crate::table::check;
 use std::test::Fail;
 
 const TEXTS: &str = r#"[1,true,null,"a"] -> [1,true,null,"a"]
@@ -19,7 +20,7 @@ const TEXTS: &str = r#"[1,true,null,"a"] -> [1,true,null,"a"]
 
 #[test]
 fn texts_in_brackets_are_expressions(rt: HostRuntime) -> Result<(), Fail> {
-    check(rt.alloc(), Texts::Trees, TEXTS)
+    check(rt.alloc(), Question::Tree, TEXTS)
 }
 
 const LOOPS: &str = r#"{"copy":[{"name":"n","count":3,"input":"[copyIndex('n')]"}]} -> {"n":[0,1,2]}
@@ -52,6 +53,6 @@ const LONG_LOOPS: &str = concat!(
 
 #[test]
 fn members_named_copy_are_loops(rt: HostRuntime) -> Result<(), Fail> {
-    check(rt.alloc(), Texts::Trees, LOOPS)?;
-    check(rt.alloc(), Texts::Trees, LONG_LOOPS)
+    check(rt.alloc(), Question::Tree, LOOPS)?;
+    check(rt.alloc(), Question::Tree, LONG_LOOPS)
 }

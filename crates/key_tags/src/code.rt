@@ -3,7 +3,7 @@ ghost use Rattle.std.specs.Prelude.{◌≡◌, ◌++◌, ◌+◌, ℕ, List, map
 ghost use Rattle.key_tags.specs.KeyCodes.{text_code, texts_code, key_code};
 
 use arm_ids::Key;
-use arm_value::{OutOfMemory, Text, Texts};
+use arm_value::{OutOfMemory, Text};
 use std::alloc::Global;
 
 // Adds each character plus 1.
@@ -17,7 +17,7 @@ fn push_characters(tag: &mut Vec<usize>, text: &str) -> Result<(), OutOfMemory>
 }
 
 // Adds the text.
-fn push_text(tag: &mut Vec<usize>, text: &Text) -> Result<(), OutOfMemory>
+pub(crate) fn push_text(tag: &mut Vec<usize>, text: &Text) -> Result<(), OutOfMemory>
     ensures { IfOk result (λ _. (rest : List ℕ) → tag.new.items ++ rest ≡ tag.old.items ++ text_code text.now rest) }
 {
     push_characters(tag, text.as_str())?;
@@ -26,11 +26,10 @@ fn push_text(tag: &mut Vec<usize>, text: &Text) -> Result<(), OutOfMemory>
 }
 
 // Adds the texts.
-fn push_texts(tag: &mut Vec<usize>, texts: &Texts) -> Result<(), OutOfMemory>
+pub(crate) fn push_texts(tag: &mut Vec<usize>, texts: &[Text]) -> Result<(), OutOfMemory>
     ensures { IfOk result (λ _. (rest : List ℕ) → tag.new.items ++ rest
         ≡ tag.old.items ++ texts_code texts.now rest) }
 {
-    let texts = texts.as_slice();
     for text in texts {
         tag.push(1)?;
         push_text(tag, text)?;
@@ -47,7 +46,7 @@ pub fn key_tag(alloc: Global, key: &Key) -> Result<Vec<usize>, OutOfMemory>
     let mut tag = Vec::new(alloc);
     push_text(&mut tag, &parts.subscription)?;
     push_text(&mut tag, &parts.group)?;
-    push_texts(&mut tag, &parts.types)?;
-    push_texts(&mut tag, &parts.names)?;
+    push_texts(&mut tag, parts.types.as_slice())?;
+    push_texts(&mut tag, parts.names.as_slice())?;
     Ok(tag)
 }

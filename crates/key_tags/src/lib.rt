@@ -5,7 +5,9 @@
 
 mod code;
 pub mod laws;
+mod parent;
 mod same;
 
 pub use code::key_tag;
+pub use parent::parent_tag;
 pub use same::find_same;

@@ -1,0 +1,3 @@
+pub mod OpenerLemmas
+pub mod NestedLemmas
+pub mod SameLemmas

@@ -8,12 +8,13 @@ mod reading;
 mod requests;
 mod writing;
 
+use reading::Made;
 use requests::{deployment, listed, mix};
 use std::alloc::{AllocError, Global};
 use std::io::Print;
 use std::rt::{Clock, Env};
 use std::{env, io};
-use writing::{done, refusal};
+use writing::{done, letting_go, refusal};
 
 // How often each case is timed.
 const RUNS: u32 = 7;
@@ -27,7 +28,8 @@ const FEW: u64 = 2_000;
 // What is timed.
 #[derive(Clone, Copy)]
 enum Case {
-    Mix,
+    MixOnce,
+    MixEach,
     Deployment,
     Refusal,
     List,
@@ -36,8 +38,9 @@ enum Case {
 // A case, how many are read or written, and the case in words.
 type Timed = (Case, u64, &'static str);
 
-static CASES: [Timed; 4] = [
-    (Case::Mix, MANY, "read, a mix of 5"),
+static CASES: [Timed; 5] = [
+    (Case::MixOnce, MANY, "read, a mix of 5, routes made once"),
+    (Case::MixEach, MANY, "read, a mix of 5, routes made each"),
     (Case::Deployment, FEW, "read, 64 resources to deploy"),
     (Case::Refusal, MANY, "write, a refusal"),
     (Case::List, FEW, "write, 64 resources"),
@@ -46,32 +49,37 @@ static CASES: [Timed; 4] = [
 // The microseconds of one run of the case, and how many were read or written.
 fn micros<R: Clock + Alloc<A = Global>>(rt: &R, case: Case, count: u64) -> io::Result<(u64, u64)> {
     match case {
-        Case::Mix => mix_micros(rt, count),
+        Case::MixOnce => mix_micros(rt, Made::Once, count),
+        Case::MixEach => mix_micros(rt, Made::Each, count),
         Case::Deployment => deployment_micros(rt, count),
         Case::Refusal => refusal_micros(rt, count),
         Case::List => list_micros(rt, count),
     }
 }
 
-fn mix_micros<R: Clock + Alloc<A = Global>>(rt: &R, count: u64) -> io::Result<(u64, u64)> {
+fn mix_micros<R: Clock + Alloc<A = Global>>(
+    rt: &R,
+    made: Made,
+    count: u64,
+) -> io::Result<(u64, u64)> {
     let bytes = mix(rt.alloc())?;
-    reading::micros(rt, bytes.as_bytes(), 5, count)
+    reading::micros(rt, made, bytes.as_bytes(), 5, count)
 }
 
 fn deployment_micros<R: Clock + Alloc<A = Global>>(rt: &R, count: u64) -> io::Result<(u64, u64)> {
     let bytes = deployment(rt.alloc())?;
-    reading::micros(rt, bytes.as_bytes(), 1, count)
+    reading::micros(rt, Made::Once, bytes.as_bytes(), 1, count)
 }
 
 fn refusal_micros<R: Clock + Alloc<A = Global>>(rt: &R, count: u64) -> io::Result<(u64, u64)> {
     let reply = refusal(rt.alloc())?;
-    writing::micros(rt, &reply, count)
+    letting_go(writing::micros(rt, &reply, count), reply)
 }
 
 fn list_micros<R: Clock + Alloc<A = Global>>(rt: &R, count: u64) -> io::Result<(u64, u64)> {
     let json = listed(rt.alloc())?;
     let reply = done(rt.alloc(), json.as_str());
-    writing::micros(rt, &reply, count)
+    letting_go(writing::micros(rt, &reply, count), reply)
 }
 
 // The least microseconds of some runs of the case, and whether each run read or wrote all.

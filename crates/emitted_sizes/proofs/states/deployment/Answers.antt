@@ -1,0 +1,11 @@
+use Rattle.std.proofs.Common.{codes, refl}
+use Rattle.arm_expr.specs.Tree.{text, call}
+use Rattle.bicep_meaning.specs.Meaning.{deployment_type}
+use Rattle.bicep_emission.specs.Emitted.{two}
+use Rattle.emitted_sizes.proofs.states.deployment.Goals as goal
+
+pub returns : goal.returns
+returns c =
+    λ a i. c.call_one.ensures (codes "reference")
+    (call (codes "resourceId") (two (text deployment_type) a)) refl
+    (c.call_two.ensures (codes "resourceId") (text deployment_type) a refl (c.word.ensures refl) i)

@@ -1,5 +1,5 @@
 // From a program to the same with its names found, or what is wrong with it.
-ghost use Rattle.std.specs.Prelude.{◌≡◌, map, IfOk, IfErr, OnOk, None, Err};
+ghost use Rattle.std.specs.Prelude.{◌≡◌, map, IfOk, IfErr, OnOk, None};
 ghost use Rattle.bicep_program.specs.Program.{program_file, files_of};
 ghost use Rattle.resolved_program.specs.Programs.{IsResolved};
 ghost use Rattle.resolved_program.specs.Faults as names;
@@ -15,15 +15,8 @@ use crate::decorators::check_decorators;
 use crate::fault::CheckFault;
 use crate::places::check_places;
 use bicep_program::{Program, SourceFile};
-use resolved_program::{ResolveFault, ResolvedFile, ResolvedProgram, resolve_names};
+use resolved_program::{ResolveFault, ResolvedFile, ResolvedProgram, drop_program, resolve_names};
 use std::alloc::Global;
-
-// Drops a program, since something is wrong with it.
-fn refuse(_program: ResolvedProgram, fault: CheckFault) -> Result<ResolvedProgram, CheckFault>
-    ensures { result ≡ Err fault }
-{
-    Err(fault)
-}
 
 // The fault of a name.
 fn fault_of(fault: ResolveFault) -> CheckFault
@@ -86,6 +79,9 @@ pub fn resolve(alloc: Global, program: &Program) -> Result<ResolvedProgram, Chec
     };
     match check_files(alloc, files, resolved.files.as_slice()) {
         Ok(()) => Ok(resolved),
-        Err(fault) => refuse(resolved, fault),
+        Err(fault) => {
+            drop_program(resolved);
+            Err(fault)
+        }
     }
 }

@@ -1,5 +1,5 @@
 // From a program to the same with its names found and its types, or what is wrong with it.
-ghost use Rattle.std.specs.Prelude.{◌≡◌, ℕ, map, IfOk, IfErr, OnOk, None, Err};
+ghost use Rattle.std.specs.Prelude.{◌≡◌, ℕ, map, IfOk, IfErr, OnOk, None};
 ghost use Rattle.std.specs.List.{AllByRecursion};
 ghost use Rattle.bicep_program.specs.Program.{program_file, files_of};
 ghost use Rattle.resolved_program.specs.Programs.{IsResolved};
@@ -19,15 +19,8 @@ use crate::metadata::first_metadata;
 use crate::untyped::fault_of;
 use bicep_checks::resolve;
 use bicep_program::{Program, SourceFile};
-use resolved_program::{ResolvedFile, ResolvedProgram};
+use resolved_program::{ResolvedFile, drop_program};
 use std::alloc::Global;
-
-// Drops a program, since something is wrong with it.
-fn refuse(_program: ResolvedProgram, fault: CheckFault) -> Result<Checked, CheckFault>
-    ensures { result ≡ Err fault }
-{
-    Err(fault)
-}
 
 // The types of files whose names are found.
 fn types_of(
@@ -99,6 +92,9 @@ pub fn check(alloc: Global, program: &Program) -> Result<Checked, CheckFault>
     let types = check_types(alloc, program.files.as_slice(), resolved.files.as_slice());
     match types {
         Ok(types) => Ok(Checked { resolved, types }),
-        Err(fault) => refuse(resolved, fault),
+        Err(fault) => {
+            drop_program(resolved);
+            Err(fault)
+        }
     }
 }

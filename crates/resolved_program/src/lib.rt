@@ -6,6 +6,7 @@
 //! resources and expressions nest.
 #![tactic(auto)]
 
+mod dropping;
 mod fault;
 pub mod laws;
 mod named;
@@ -13,6 +14,7 @@ mod outputs;
 pub mod resolved;
 mod resolving;
 
+pub use dropping::drop_program;
 pub use fault::ResolveFault;
 pub use resolved::{ResolvedFile, ResolvedProgram};
 pub use resolving::resolve_names;

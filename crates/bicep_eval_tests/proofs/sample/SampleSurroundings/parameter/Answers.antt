@@ -1,0 +1,5 @@
+use Rattle.bicep_eval_tests.proofs.SampleLemmas.{no_parameter}
+use Rattle.bicep_eval_tests.proofs.sample.SampleSurroundings.parameter.Goals as goal
+
+pub returns : goal.returns
+returns c = no_parameter c.args.self.now.place c.args._number

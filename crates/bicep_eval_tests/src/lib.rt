@@ -1,0 +1,18 @@
+//! Tests of the values of Bicep expressions, over public items.
+//!
+//! A table is one text with a row in each line: an expression, and after an arrow its value as compact JSON, `none`, or
+//! the name of the variable that it waits for. There is nothing here but tests, so there is no edit that must be
+//! refused.
+#![tactic(auto)]
+
+#[cfg(test)]
+mod accesses;
+#[cfg(test)]
+mod functions;
+#[cfg(test)]
+mod loops;
+#[cfg(test)]
+mod operators;
+#[cfg(test)]
+mod rows;
+pub mod sample;

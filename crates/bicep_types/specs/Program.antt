@@ -3,7 +3,7 @@ use Rattle.std.specs.Prelude.{ℕ, List, map, Option, Some, None, Ok, Err}
 use Rattle.bicep_signatures.specs.declared.value_type.ValueType.{ValueType}
 use Rattle.bicep_typing.specs.Typed.{Fitting}
 use Rattle.bicep_type_faults.specs.Files.{file_fits}
-use Rattle.bicep_symbol_types.specs.SymbolTypes.{with_outputs, symbol_types}
+use Rattle.bicep_symbol_types.specs.SymbolTypes.{with_outputs, symbol_types, AreTypes}
 use Rattle.bicep_symbol_types.specs.Outputs.{output_types}
 use Rattle.bicep_program.specs.Program.{ProgramFile}
 use Rattle.resolved_program.specs.Programs.{ResolvedFileTree}
@@ -20,6 +20,10 @@ all_output_types files = map output_types_of files
 -- the types of the symbols of a file, in a program whose files have these outputs
 abbrev pub symbol_types_by : List (List ValueType) → ResolvedFileTree → List ValueType
 symbol_types_by os r = symbol_types os r.declared.declarations
+
+-- these types are those that the declarations of the file say by these types themselves
+abbrev pub IsSettledBy : List (List ValueType) → ResolvedFileTree → Type 0
+IsSettledBy os r = AreTypes os r.declared.declarations (symbol_types_by os r)
 
 -- the place of the first part that does not fit, where one does not
 abbrev pub place_of : Fitting → Option ℕ

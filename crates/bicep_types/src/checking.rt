@@ -8,7 +8,7 @@ ghost use Rattle.resolved_program.specs.View.{file_view, files_view};
 ghost use Rattle.bicep_checks.specs.Faults.{OfFile};
 ghost use Rattle.bicep_types.specs.Program.{type_place};
 ghost use Rattle.bicep_types.specs.Faults.{HasFault, IsMistyped, HasNoUntyped, IsAnswer};
-ghost use Rattle.bicep_types.specs.Checked.{AreTypesOf, IsChecked, Fits};
+ghost use Rattle.bicep_types.specs.Checked.{AreTypesOf, IsChecked, IsSettled, Fits};
 ghost use Rattle.bicep_types.specs.Steps.{IsWrongAt};
 ghost use Rattle.bicep_types.specs.declared.fault.CheckFault.{CheckFault as Fault};
 
@@ -31,6 +31,8 @@ fn types_of(
     requires resolved { IsResolved (map program_file files.now) (map file_view resolved.now) }
     requires none { HasNoUntyped (map program_file files.now) }
     ensures types { IfOk result (AreTypesOf (map program_file files.now) (map file_view resolved.now)) }
+    ensures settled { OnOk result (AllByRecursion (IsSettled (map program_file files.now))
+        (map file_view resolved.now)) }
     ensures none { OnOk result
         (first_in (type_place (map program_file files.now)) (map file_view resolved.now) ≡ None) }
     ensures fault { IfErr result
@@ -55,6 +57,8 @@ fn check_types(
     requires resolved { IsResolved (map program_file files.now) (map file_view resolved.now) }
     requires none { HasNoUntyped (map program_file files.now) }
     ensures types { IfOk result (AreTypesOf (map program_file files.now) (map file_view resolved.now)) }
+    ensures settled { OnOk result (AllByRecursion (IsSettled (map program_file files.now))
+        (map file_view resolved.now)) }
     ensures none { OnOk result ((k at : ℕ)
         → ¬ OfFile (map program_file files.now) k (IsMistyped (map program_file files.now) at)) }
     ensures fault { IfErr result (IsAnswer (map program_file files.now)) }
@@ -81,6 +85,7 @@ fn check_types(
 /// - `OutOfMemory`.
 pub fn check(alloc: Global, program: &Program) -> Result<Checked, CheckFault>
     ensures checked { IfOk result (IsChecked (files_of program.now)) }
+    ensures settled { IfOk result (λ c. AllByRecursion (IsSettled (files_of program.now)) (files_view c.resolved)) }
     ensures fits { IfOk result (λ c. AllByRecursion (Fits (files_of program.now)) (files_view c.resolved)) }
     ensures none { OnOk result ((fault : Fault) → ¬ HasFault (files_of program.now) fault) }
     ensures fault { IfErr result (IsAnswer (files_of program.now)) }

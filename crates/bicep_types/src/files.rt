@@ -2,6 +2,8 @@
 ghost use Rattle.std.specs.Prelude.{◌≡◌, map, IfOk, IfErr, OnOk, None};
 ghost use Rattle.std.specs.List.{AllByRecursion};
 ghost use Rattle.bicep_program.specs.Program.{program_file};
+ghost use Rattle.bicep_circles.specs.Orders.{IsLinkOrder};
+ghost use Rattle.bicep_checks.specs.Faults.{links_of};
 ghost use Rattle.bicep_typing.specs.Names.{listed};
 ghost use Rattle.resolved_program.specs.Faults.{first_in};
 ghost use Rattle.resolved_program.specs.View.{file_view};
@@ -34,6 +36,22 @@ pub(crate) fn all_output_types(
     Ok(outputs)
 }
 
+// The types of the symbols of a file, by an order of them.
+fn types_along(
+    alloc: Global,
+    outputs: &[Vec<ValueType>],
+    file: &ResolvedFile,
+    order: &[u32],
+) -> Result<Vec<ValueType>, OutOfMemory>
+    requires declared { HasDeclarations (file_view file.now) }
+    requires order { IsLinkOrder (links_of (file_view file.now)) order.now }
+    ensures types { IfOk result (λ ts. ts.items
+        ≡ spec.symbol_types_by (map listed outputs.now) (file_view file.now)) }
+    ensures settled { OnOk result (spec.IsSettledBy (map listed outputs.now) (file_view file.now)) }
+{
+    symbol_types(alloc, outputs, file.declared.declarations.as_slice(), order)
+}
+
 // The types of the symbols of a file.
 fn types_of(
     alloc: Global,
@@ -42,11 +60,13 @@ fn types_of(
 ) -> Result<Vec<ValueType>, OutOfMemory>
     requires declared { HasDeclarations (file_view file.now) }
     requires free { HasNoCircle (file_view file.now) }
-    ensures { IfOk result (λ ts. ts.items ≡ spec.symbol_types_by (map listed outputs.now) (file_view file.now)) }
+    ensures types { IfOk result (λ ts. ts.items
+        ≡ spec.symbol_types_by (map listed outputs.now) (file_view file.now)) }
+    ensures settled { OnOk result (spec.IsSettledBy (map listed outputs.now) (file_view file.now)) }
 {
     let declarations = file.declared.declarations.as_slice();
     match symbol_order(alloc, file.entries.as_slice(), declarations)? {
-        Sorted::Order(order) => symbol_types(alloc, outputs, declarations, order.as_slice()),
+        Sorted::Order(order) => types_along(alloc, outputs, file, order.as_slice()),
         Sorted::Circle(_) => unreachable!(),
     }
 }
@@ -85,8 +105,9 @@ fn types_or_place(
 ) -> Result<Result<Vec<ValueType>, usize>, OutOfMemory>
     requires declared { HasDeclarations (file_view file.now) }
     requires free { HasNoCircle (file_view file.now) }
-    ensures { IfOk result (AreFound (spec.symbol_types_by (map listed outputs.now) (file_view file.now))
+    ensures found { IfOk result (AreFound (spec.symbol_types_by (map listed outputs.now) (file_view file.now))
         (spec.type_place_by (map program_file files.now) (map listed outputs.now) (file_view file.now))) }
+    ensures settled { OnOk result (spec.IsSettledBy (map listed outputs.now) (file_view file.now)) }
 {
     let types = types_of(alloc, outputs, file)?;
     match place_in(files, outputs, types.as_slice(), file) {
@@ -110,6 +131,8 @@ pub(crate) fn all_symbol_types(
     requires free { AllByRecursion HasNoCircle (map file_view resolved.now) }
     ensures types { IfOk result (λ tss. map listed tss.items
         ≡ map (spec.symbol_types_by (map listed outputs.now)) (map file_view resolved.now)) }
+    ensures settled { OnOk result (AllByRecursion (spec.IsSettledBy (map listed outputs.now))
+        (map file_view resolved.now)) }
     ensures none { OnOk result (first_in (spec.type_place_by (map program_file files.now) (map listed outputs.now))
         (map file_view resolved.now) ≡ None) }
     ensures fault { IfErr result (IsWrongAt (first_in

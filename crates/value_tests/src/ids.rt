@@ -1,9 +1,10 @@
 // How ids are made, spelled and read.
 
-use crate::table::compare;
+use crate::answers::Question;
+use crate::table::{check, letting_go, two};
 use arm_ids::{IdFault, Key, Place, ResourceId, id_text};
 use arm_value::{OutOfMemory, Text};
-use std::alloc::Global;
+use std::alloc::{AllocError, Global};
 use std::test::Fail;
 
 fn place(alloc: Global) -> Result<Place, OutOfMemory> {
@@ -15,58 +16,30 @@ fn place(alloc: Global) -> Result<Place, OutOfMemory> {
     })
 }
 
-fn compare_fault(alloc: Global, asked: &str, fault: IdFault, wanted: &str) -> Result<(), Fail> {
-    let message = format!(in alloc; "{fault}")?;
-    compare(asked, message.as_str(), wanted)
-}
-
-// Compares the id of the key, or the fault's message.
-fn compare_key(
+/// Adds the id of the key, or the fault's message.
+pub fn say_key(
+    out: &mut String,
     alloc: Global,
-    asked: &str,
     key: &Result<Key, IdFault>,
-    wanted: &str,
-) -> Result<(), Fail> {
+) -> Result<(), AllocError> {
     match key {
-        Ok(key) => compare(asked, key.to_id(alloc)?.as_str(), wanted),
-        Err(fault) => compare_fault(alloc, asked, *fault, wanted),
+        Ok(key) => out.push_str(key.to_id(alloc)?.as_str()),
+        Err(fault) => write!(out, "{fault}"),
     }
 }
 
-// The type and the name, with a blank between them.
-fn type_and_name(text: &str) -> (&str, &str) {
-    text.split_once(' ').unwrap_or((text, ""))
-}
-
-// What is asked of the texts of a table: the key of a type and a name, or that of an id.
-#[derive(Clone, Copy)]
-enum Question {
-    KeyOf,
-    ReadId,
-}
-
-fn check_key_of(alloc: Global, text: &str, wanted: &str) -> Result<(), Fail> {
-    let (kind, name) = type_and_name(text);
+/// Adds the key of a type and a name.
+pub fn say_key_of(out: &mut String, alloc: Global, asked: &str) -> Result<(), AllocError> {
+    let (kind, name) = two(asked);
     let place = place(alloc)?;
     let key = Key::of(alloc, &place, kind, name);
-    compare_key(alloc, text, &key, wanted)
+    letting_go(say_key(out, alloc, &key), (key, place))
 }
 
-fn check_read_id(alloc: Global, text: &str, wanted: &str) -> Result<(), Fail> {
-    let key = Key::read_id(alloc, text);
-    compare_key(alloc, text, &key, wanted)
-}
-
-// Fails at the first line whose answer is another than the one that follows the arrow.
-fn check(alloc: Global, question: Question, table: &str) -> Result<(), Fail> {
-    for line in table.lines() {
-        let (text, wanted) = line.split_once(" -> ").unwrap_or((line, "a wanted answer"));
-        match question {
-            Question::KeyOf => check_key_of(alloc, text, wanted)?,
-            Question::ReadId => check_read_id(alloc, text, wanted)?,
-        }
-    }
-    Ok(())
+/// Adds the key that is read of an id.
+pub fn say_key_read(out: &mut String, alloc: Global, asked: &str) -> Result<(), AllocError> {
+    let key = Key::read_id(alloc, asked);
+    letting_go(say_key(out, alloc, &key), key)
 }
 
 const KEYS: &str = "\
@@ -96,67 +69,82 @@ x -> the text is no resource id
 
 #[test]
 fn texts_are_read_as_keys_or_refused(rt: HostRuntime) -> Result<(), Fail> {
-    check(rt.alloc(), Question::ReadId, READ)
+    check(rt.alloc(), Question::KeyRead, READ)
 }
 
-// The id of a type and a name, as spelled.
-fn spelled(alloc: Global, kind: &str, name: &str) -> Result<Text, Fail> {
-    let place = place(alloc)?;
-    Ok(id_text(alloc, &place, kind, name)?)
+fn say_id(out: &mut String, id: &Result<Text, IdFault>) -> Result<(), AllocError> {
+    match id {
+        Ok(id) => out.push_str(id.as_str()),
+        Err(fault) => write!(out, "{fault}"),
+    }
 }
+
+/// Adds the id of a type and a name, as spelled.
+pub fn say_spelled(out: &mut String, alloc: Global, asked: &str) -> Result<(), AllocError> {
+    let (kind, name) = two(asked);
+    let place = place(alloc)?;
+    let id = id_text(alloc, &place, kind, name);
+    letting_go(say_id(out, &id), (id, place))
+}
+
+const SPELLED: &str =
+    "A/b X -> /subscriptions/00000000-0000-0000-0000-000000000000/resourceGroups/g/providers/A/b/X";
 
 #[test]
 fn ids_keep_their_spelling(rt: HostRuntime) -> Result<(), Fail> {
-    let id = spelled(rt.alloc(), "A/b", "X")?;
-    let wanted =
-        "/subscriptions/00000000-0000-0000-0000-000000000000/resourceGroups/g/providers/A/b/X";
-    compare("A/b X", id.as_str(), wanted)
+    check(rt.alloc(), Question::Spelled, SPELLED)
 }
 
-fn check_text(alloc: Global, id: &ResourceId, wanted: &str) -> Result<(), Fail> {
-    let text = id.text(alloc)?;
-    compare("the text", text.as_str(), wanted)
+// Adds the text, the full type and the full name of an id.
+fn say_all_parts(out: &mut String, alloc: Global, id: &ResourceId) -> Result<(), AllocError> {
+    out.push_str(id.text(alloc)?.as_str())?;
+    out.push_str(" ")?;
+    out.push_str(id.full_type(alloc)?.as_str())?;
+    out.push_str(" ")?;
+    out.push_str(id.full_name(alloc)?.as_str())
 }
 
-fn check_type(alloc: Global, id: &ResourceId, wanted: &str) -> Result<(), Fail> {
-    let kind = id.full_type(alloc)?;
-    compare("the type", kind.as_str(), wanted)
+fn say_read_parts(
+    out: &mut String,
+    alloc: Global,
+    id: &Result<ResourceId, IdFault>,
+) -> Result<(), AllocError> {
+    match id {
+        Ok(id) => say_all_parts(out, alloc, id),
+        Err(fault) => write!(out, "{fault}"),
+    }
 }
 
-fn check_name(alloc: Global, id: &ResourceId, wanted: &str) -> Result<(), Fail> {
-    let name = id.full_name(alloc)?;
-    compare("the name", name.as_str(), wanted)
+/// Adds the text, the full type and the full name of the id that is read.
+pub fn say_parts(out: &mut String, alloc: Global, asked: &str) -> Result<(), AllocError> {
+    let id = ResourceId::read(alloc, asked);
+    letting_go(say_read_parts(out, alloc, &id), id)
 }
 
-fn check_parts(alloc: Global, id: &ResourceId) -> Result<(), Fail> {
-    check_text(
-        alloc,
-        id,
-        "/subscriptions/S/resourceGroups/G/providers/N.M/t/U/k/v",
-    )?;
-    check_type(alloc, id, "N.M/t/k")?;
-    check_name(alloc, id, "U/v")
-}
+const PARTS: &str = "\
+/SUBSCRIPTIONS/S/ResourceGroups/G/Providers/N.M/t/U/k/v -> \
+/subscriptions/S/resourceGroups/G/providers/N.M/t/U/k/v N.M/t/k U/v";
 
 #[test]
 fn an_id_has_a_text_a_full_type_and_a_full_name(rt: HostRuntime) -> Result<(), Fail> {
-    let text = "/SUBSCRIPTIONS/S/ResourceGroups/G/Providers/N.M/t/U/k/v";
-    let id = ResourceId::read(rt.alloc(), text)?;
-    check_parts(rt.alloc(), &id)
+    check(rt.alloc(), Question::Parts, PARTS)
 }
 
-fn check_place(alloc: Global, place: &Place) -> Result<(), Fail> {
+fn say_place(out: &mut String, place: &Place) -> Result<(), AllocError> {
+    out.push_str(place.subscription.as_str())?;
+    out.push_str(" ")?;
+    out.push_str(place.group.as_str())
+}
+
+/// Adds the subscription and the group of the copy of a place.
+pub fn say_place_copy(out: &mut String, alloc: Global) -> Result<(), AllocError> {
+    let place = place(alloc)?;
     let copy = place.copy(alloc)?;
-    compare(
-        "the subscription",
-        copy.subscription.as_str(),
-        place.subscription.as_str(),
-    )?;
-    compare("the group", copy.group.as_str(), "g")
+    letting_go(say_place(out, &copy), (copy, place))
 }
 
 #[test]
 fn a_place_is_copied(rt: HostRuntime) -> Result<(), Fail> {
-    let place = place(rt.alloc())?;
-    check_place(rt.alloc(), &place)
+    let line = "its copy -> 00000000-0000-0000-0000-000000000000 g";
+    check(rt.alloc(), Question::PlaceCopy, line)
 }

@@ -1,41 +1,55 @@
 // Looking for members, and comparing texts whatever the case of ASCII letters.
 
-use crate::table::compare_truth;
-use arm_value::{Value, folded_eq};
+use crate::answers::Question;
+use crate::table::{check, letting_go, say_truth, two};
+use crate::written::say_maybe;
+use arm_value::{JsonFault, Value, folded_eq};
+use std::alloc::{AllocError, Global};
 use std::test::Fail;
 
-// Whether the value has this whole number under this name.
-fn has(value: &Value, name: &str, wanted: i64) -> bool {
-    match value.look(name) {
-        Some(Value::Int(number)) => *number == wanted,
-        _ => false,
+fn say_in(
+    out: &mut String,
+    alloc: Global,
+    read: &Result<Value, JsonFault>,
+    name: &str,
+) -> Result<(), AllocError> {
+    match read {
+        Ok(value) => say_maybe(out, alloc, value.look(name)),
+        Err(_) => out.push_str("no value"),
     }
 }
 
-// Where the members are `Sku` 1, `sku` 2 and a name of no ASCII letter 3.
-fn check_members(value: &Value) -> Result<(), Fail> {
-    compare_truth("Sku", has(value, "Sku", 1), true)?;
-    compare_truth("sku", has(value, "sku", 2), true)?;
-    compare_truth("SKU", has(value, "SKU", 1), true)?;
-    compare_truth("\u{c4}", has(value, "\u{c4}", 3), true)?;
-    compare_truth("\u{e4}", value.look("\u{e4}").is_none(), true)?;
-    compare_truth("x", value.look("x").is_none(), true)
+/// Adds the member of JSON without blanks by the name after it, or `none`.
+pub fn say_member(out: &mut String, alloc: Global, asked: &str) -> Result<(), AllocError> {
+    let (json, name) = two(asked);
+    let read = Value::from_json(alloc, json.as_bytes());
+    letting_go(say_in(out, alloc, &read, name), read)
 }
+
+const MEMBERS: &str = r#"{"sku":2,"Sku":1,"Ä":3} Sku -> 1
+{"sku":2,"Sku":1,"Ä":3} sku -> 2
+{"sku":2,"Sku":1,"Ä":3} SKU -> 1
+{"sku":2,"Sku":1,"Ä":3} Ä -> 3
+{"sku":2,"Sku":1,"Ä":3} ä -> none
+{"sku":2,"Sku":1,"Ä":3} x -> none
+7 x -> none"#;
 
 #[test]
 fn members_are_found_by_exact_and_then_by_folded_name(rt: HostRuntime) -> Result<(), Fail> {
-    let value = Value::from_json(rt.alloc(), b"{\"sku\":2,\"Sku\":1,\"\xc3\x84\":3}")?;
-    check_members(&value)
+    check(rt.alloc(), Question::Member, MEMBERS)
 }
 
-#[test]
-fn a_number_has_no_members(rt: HostRuntime) {
-    assert!(rt; Value::Int(7).look("x").is_none());
+/// Adds whether the words are one whatever the case of ASCII letters.
+pub fn say_folded(out: &mut String, asked: &str) -> Result<(), AllocError> {
+    let (word, other) = two(asked);
+    say_truth(out, folded_eq(word, other))
 }
 
+const FOLDED: &str = "aZ[ä Az[ä -> true
+@ ` -> false
+Ä ä -> false";
+
 #[test]
-fn letters_from_a_to_z_alone_are_folded(rt: HostRuntime) {
-    assert!(rt; folded_eq("aZ[\u{e4}", "Az[\u{e4}"));
-    assert!(rt; !folded_eq("@", "`"));
-    assert!(rt; !folded_eq("\u{c4}", "\u{e4}"));
+fn letters_from_a_to_z_alone_are_folded(rt: HostRuntime) -> Result<(), Fail> {
+    check(rt.alloc(), Question::Folded, FOLDED)
 }

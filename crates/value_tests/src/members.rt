@@ -1,11 +1,12 @@
 // What the members of a resource are for, and the segments of types and names.
 
-use crate::table::{compare, compare_count, compare_truth};
+use crate::answers::Question;
+use crate::table::{check, say_truth};
 use arm_ids::{
     has_empty_segment, is_declaration_member, is_deployment_type, is_refused_member, segments,
 };
 use arm_value::Text;
-use std::alloc::Global;
+use std::alloc::{AllocError, Global};
 use std::test::Fail;
 
 const MEMBERS: &str = "\
@@ -30,36 +31,44 @@ fn role(name: &Text) -> &'static str {
     "is in the body"
 }
 
-#[test]
-fn members_declare_are_refused_or_are_in_the_body(rt: HostRuntime) -> Result<(), Fail> {
-    for line in MEMBERS.lines() {
-        let (text, wanted) = line.split_once(" -> ").unwrap_or((line, "a wanted answer"));
-        let name = Text::of(rt.alloc(), text)?;
-        compare(text, role(&name), wanted)?;
-    }
-    Ok(())
+/// Adds what the member of this name is for.
+pub fn say_role(out: &mut String, alloc: Global, asked: &str) -> Result<(), AllocError> {
+    let name = Text::of(alloc, asked)?;
+    out.push_str(role(&name))
 }
 
-fn check_deployment(alloc: Global, text: &str, wanted: bool) -> Result<(), Fail> {
-    let kind = Text::of(alloc, text)?;
-    compare_truth(text, is_deployment_type(&kind), wanted)
+#[test]
+fn members_declare_are_refused_or_are_in_the_body(rt: HostRuntime) -> Result<(), Fail> {
+    check(rt.alloc(), Question::Role, MEMBERS)
 }
+
+/// Adds whether it is the type of nested deployments.
+pub fn say_deployment(out: &mut String, alloc: Global, asked: &str) -> Result<(), AllocError> {
+    let kind = Text::of(alloc, asked)?;
+    say_truth(out, is_deployment_type(&kind))
+}
+
+const DEPLOYMENTS: &str = "\
+microsoft.resources/DEPLOYMENTS -> true
+Microsoft.Resources/deployments/x -> false";
 
 #[test]
 fn the_type_of_nested_deployments_has_letters_of_any_case(rt: HostRuntime) -> Result<(), Fail> {
-    check_deployment(rt.alloc(), "microsoft.resources/DEPLOYMENTS", true)?;
-    check_deployment(rt.alloc(), "Microsoft.Resources/deployments/x", false)
+    check(rt.alloc(), Question::Deployment, DEPLOYMENTS)
 }
 
-fn check_segments(alloc: Global, text: &str, count: usize, has_empty: bool) -> Result<(), Fail> {
-    let found = segments(alloc, text)?;
-    compare_count(text, found.len(), count)?;
-    compare_truth(text, has_empty_segment(found.as_slice()), has_empty)
+/// Adds how many segments it has, and whether one is empty.
+pub fn say_segments(out: &mut String, alloc: Global, asked: &str) -> Result<(), AllocError> {
+    let found = segments(alloc, asked)?;
+    write!(out, "{} ", found.len())?;
+    say_truth(out, has_empty_segment(found.as_slice()))
 }
+
+const SEGMENTS: &str = "A/b/c -> 3 false
+A//c -> 3 true
+ -> 1 true";
 
 #[test]
 fn a_text_has_one_segment_more_than_slashes(rt: HostRuntime) -> Result<(), Fail> {
-    check_segments(rt.alloc(), "A/b/c", 3, false)?;
-    check_segments(rt.alloc(), "A//c", 3, true)?;
-    check_segments(rt.alloc(), "", 1, true)
+    check(rt.alloc(), Question::Segments, SEGMENTS)
 }

@@ -1,42 +1,40 @@
 // Which bytes are read as a value, and how it is written.
 
-use crate::table::{compare, compare_count};
-use crate::written::compare_json;
+use crate::answers::Question;
+use crate::table::{check, compare, letting_go, two};
+use crate::written::{say_json, say_maybe};
 use arm_value::{JsonFault, Value};
 use std::alloc::{AllocError, Global};
 use std::test::Fail;
 
-// Compares what is read with a compact text, or with the name of a fault that its path follows.
-fn compare_read(
-    alloc: Global,
-    asked: &str,
-    read: &Result<Value, JsonFault>,
-    wanted: &str,
-) -> Result<(), Fail> {
-    match read {
-        Ok(value) => compare_json(alloc, asked, value, wanted),
-        Err(JsonFault::NotJson) => compare(asked, "NotJson", wanted),
-        Err(JsonFault::TooDeep) => compare(asked, "TooDeep", wanted),
-        Err(JsonFault::NotWhole(path)) => {
-            let wanted = wanted.strip_prefix("NotWhole").unwrap_or("another answer");
-            compare(asked, path.as_str(), wanted)
+// Adds why nothing was read; the path follows the name of a fault that has one.
+fn say_fault(out: &mut String, fault: &JsonFault) -> Result<(), AllocError> {
+    match fault {
+        JsonFault::NotJson => out.push_str("NotJson"),
+        JsonFault::TooDeep => out.push_str("TooDeep"),
+        JsonFault::NotWhole(path) => {
+            out.push_str("NotWhole")?;
+            out.push_str(path.as_str())
         }
-        Err(JsonFault::OutOfMemory) => compare(asked, "OutOfMemory", wanted),
+        JsonFault::OutOfMemory => out.push_str("OutOfMemory"),
     }
 }
 
-fn check_bytes(alloc: Global, asked: &str, bytes: &[u8], wanted: &str) -> Result<(), Fail> {
+fn say_found(
+    out: &mut String,
+    alloc: Global,
+    read: &Result<Value, JsonFault>,
+) -> Result<(), AllocError> {
+    match read {
+        Ok(value) => say_json(out, alloc, value),
+        Err(fault) => say_fault(out, fault),
+    }
+}
+
+/// Adds the compact text of what is read, or why nothing is.
+pub fn say_read(out: &mut String, alloc: Global, bytes: &[u8]) -> Result<(), AllocError> {
     let read = Value::from_json(alloc, bytes);
-    compare_read(alloc, asked, &read, wanted)
-}
-
-// Fails at the first line whose text is read as something else than what follows the arrow.
-fn check(alloc: Global, table: &str) -> Result<(), Fail> {
-    for line in table.lines() {
-        let (text, wanted) = line.split_once(" -> ").unwrap_or((line, "a wanted answer"));
-        check_bytes(alloc, text, text.as_bytes(), wanted)?;
-    }
-    Ok(())
+    letting_go(say_found(out, alloc, &read), read)
 }
 
 const VALUES: &str = r#"7 -> 7
@@ -49,7 +47,14 @@ const VALUES: &str = r#"7 -> 7
 
 #[test]
 fn a_text_of_json_is_read_as_its_value(rt: HostRuntime) -> Result<(), Fail> {
-    check(rt.alloc(), VALUES)
+    check(rt.alloc(), Question::Read, VALUES)
+}
+
+// Compares what is read of bytes that are not those of a line.
+fn check_bytes(alloc: Global, asked: &str, bytes: &[u8], wanted: &str) -> Result<(), Fail> {
+    let mut found = String::new(alloc);
+    say_read(&mut found, alloc, bytes)?;
+    compare(asked, found.as_str(), wanted)
 }
 
 #[test]
@@ -57,6 +62,11 @@ fn blanks_and_newlines_may_be_between_tokens(rt: HostRuntime) -> Result<(), Fail
     let bytes = b" {\"b\" : [1, null, true],\n\t\"a\":\"x\"} ";
     let wanted = r#"{"a":"x","b":[1,null,true]}"#;
     check_bytes(rt.alloc(), "blanks", bytes, wanted)
+}
+
+#[test]
+fn bytes_that_are_no_utf_8_are_no_json(rt: HostRuntime) -> Result<(), Fail> {
+    check_bytes(rt.alloc(), "no UTF-8", b"\"\xff\"", "NotJson")
 }
 
 const NO_JSON: &str = r#""\ud83d" -> NotJson
@@ -70,9 +80,8 @@ const NO_JSON: &str = r#""\ud83d" -> NotJson
 1e999 -> NotJson"#;
 
 #[test]
-fn other_bytes_are_no_json(rt: HostRuntime) -> Result<(), Fail> {
-    check(rt.alloc(), NO_JSON)?;
-    check_bytes(rt.alloc(), "no UTF-8", b"\"\xff\"", "NotJson")
+fn other_texts_are_no_json(rt: HostRuntime) -> Result<(), Fail> {
+    check(rt.alloc(), Question::Read, NO_JSON)
 }
 
 // A path follows the fault's name; that of the whole value is empty.
@@ -89,7 +98,7 @@ const NOT_WHOLE: &str = r#"1.5 -> NotWhole
 
 #[test]
 fn the_first_number_that_is_not_whole_is_named_by_its_path(rt: HostRuntime) -> Result<(), Fail> {
-    check(rt.alloc(), NOT_WHOLE)
+    check(rt.alloc(), Question::Read, NOT_WHOLE)
 }
 
 fn push_times(text: &mut String, bracket: char, times: usize) -> Result<(), AllocError> {
@@ -106,42 +115,40 @@ fn add_nested(text: &mut String, depth: usize, inside: &str) -> Result<(), Alloc
     push_times(text, ']', depth)
 }
 
-fn check_nested(alloc: Global, depth: usize, inside: &str, wanted: &str) -> Result<(), Fail> {
+// Adds how deep what is read nests, or why nothing is read.
+fn say_nesting(out: &mut String, read: &Result<Value, JsonFault>) -> Result<(), AllocError> {
+    match read {
+        Ok(value) => write!(out, "{}", value.nesting()),
+        Err(fault) => say_fault(out, fault),
+    }
+}
+
+/// Adds how deep what is read nests, or why nothing is read, of a text within so many arrays; their number is before it.
+pub fn say_nested(out: &mut String, alloc: Global, asked: &str) -> Result<(), AllocError> {
+    let (depth, inside) = two(asked);
     let mut text = String::new(alloc);
-    add_nested(&mut text, depth, inside)?;
-    check_bytes(alloc, inside, text.as_bytes(), wanted)
+    add_nested(&mut text, depth.parse().unwrap_or(0), inside)?;
+    let read = Value::from_json(alloc, text.as_bytes());
+    letting_go(say_nesting(out, &read), read)
 }
+
+const NESTED: &str = "120 -> 120
+121 -> TooDeep
+121 1.5 -> TooDeep
+127 7 -> TooDeep
+128 -> NotJson";
 
 #[test]
-fn no_value_nests_above_120(rt: HostRuntime) -> Result<(), Fail> {
-    check_nested(rt.alloc(), 121, "", "TooDeep")?;
-    check_nested(rt.alloc(), 121, "1.5", "TooDeep")?;
-    check_nested(rt.alloc(), 127, "7", "TooDeep")?;
-    check_nested(rt.alloc(), 128, "", "NotJson")
-}
-
-fn check_nesting(alloc: Global, text: &str, wanted: usize) -> Result<(), Fail> {
-    let value = Value::from_json(alloc, text.as_bytes())?;
-    compare_count("nesting", value.nesting() as usize, wanted)
-}
-
-#[test]
-fn a_value_nests_120_deep(rt: HostRuntime) -> Result<(), Fail> {
-    let mut text = String::new(rt.alloc());
-    add_nested(&mut text, 120, "")?;
-    check_nesting(rt.alloc(), text.as_str(), 120)
-}
-
-fn add_member(alloc: Global, text: &mut String, number: u32) -> Result<(), AllocError> {
-    let member = format!(in alloc; ",\"k{number}\":{number}")?;
-    text.push_str(member.as_str())
+fn values_nest_at_most_120_deep(rt: HostRuntime) -> Result<(), Fail> {
+    check(rt.alloc(), Question::Nested, NESTED)
 }
 
 // Adds an object whose 300,001 members come in falling order of their names.
-fn add_many(alloc: Global, text: &mut String) -> Result<(), AllocError> {
+fn add_falling(text: &mut String) -> Result<(), AllocError> {
     text.push_str("{\"last\":0")?;
     for i in 0..300_000u32 {
-        add_member(alloc, text, 999_999 - i)?;
+        let number = 999_999 - i;
+        write!(text, ",\"k{number}\":{number}")?;
     }
     text.push_str("}")
 }
@@ -157,30 +164,53 @@ fn name_at(value: &Value, place: usize) -> &str {
     }
 }
 
-fn check_names(value: &Value) -> Result<(), Fail> {
-    compare("0", name_at(value, 0), "k700000")?;
-    compare("300000", name_at(value, 300_000), "last")?;
-    compare("300001", name_at(value, 300_001), "none")
+// Adds the names of the first member, of the last, and of none after it, and the member of a name.
+fn say_members(out: &mut String, alloc: Global, value: &Value) -> Result<(), AllocError> {
+    let (first, last) = (name_at(value, 0), name_at(value, 300_000));
+    write!(out, "{first} {last} {} ", name_at(value, 300_001))?;
+    say_maybe(out, alloc, value.look("k850000"))
 }
 
-// Compares the member of a name, and the length of the text, which is as it was read but for the order.
-fn check_members(alloc: Global, value: &Value, length: usize) -> Result<(), Fail> {
-    if !matches!(value.look("k850000"), Some(Value::Int(850_000))) {
-        return Err(Fail::from("another member"));
-    }
+// Adds what its members are, and whether its text has the length of the text that was read.
+fn say_large(
+    out: &mut String,
+    alloc: Global,
+    value: &Value,
+    length: usize,
+) -> Result<(), AllocError> {
+    say_members(out, alloc, value)?;
     let text = value.to_json(alloc)?;
-    compare_count("bytes", text.as_slice().len(), length)
+    let is_as_long = text.as_slice().len() == length;
+    out.push_str(if is_as_long {
+        ", as long"
+    } else {
+        ", of another length"
+    })
 }
 
-fn check_many(alloc: Global, text: &str) -> Result<(), Fail> {
-    let value = Value::from_json(alloc, text.as_bytes())?;
-    check_names(&value)?;
-    check_members(alloc, &value, text.len())
+// Adds the same of what was read, or why nothing was.
+fn say_read_large(
+    out: &mut String,
+    alloc: Global,
+    read: &Result<Value, JsonFault>,
+    length: usize,
+) -> Result<(), AllocError> {
+    match read {
+        Ok(value) => say_large(out, alloc, value, length),
+        Err(fault) => say_fault(out, fault),
+    }
+}
+
+/// Adds what is read of an object of 300,001 members in falling order.
+pub fn say_falling(out: &mut String, alloc: Global) -> Result<(), AllocError> {
+    let mut text = String::new(alloc);
+    add_falling(&mut text)?;
+    let read = Value::from_json(alloc, text.as_bytes());
+    letting_go(say_read_large(out, alloc, &read, text.len()), read)
 }
 
 #[test]
 fn an_object_of_300001_members_in_falling_order_is_read(rt: HostRuntime) -> Result<(), Fail> {
-    let mut text = String::new(rt.alloc());
-    add_many(rt.alloc(), &mut text)?;
-    check_many(rt.alloc(), text.as_str())
+    let line = "its members -> k700000 last none 850000, as long";
+    check(rt.alloc(), Question::Falling, line)
 }

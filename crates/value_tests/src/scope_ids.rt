@@ -1,20 +1,11 @@
 // How scopes are read and spelled, which are one, and which cover a group.
 
-use crate::table::{compare, compare_truth};
-use arm_ids::Scope;
+use crate::answers::Question;
+use crate::table::{check, letting_go, say_truth, two};
+use arm_ids::{IdFault, Scope};
 use arm_value::Text;
-use std::alloc::Global;
+use std::alloc::{AllocError, Global};
 use std::test::Fail;
-
-const ZERO: &str = "/subscriptions/S";
-
-const GROUP: &str = "/subscriptions/S/resourceGroups/G";
-
-const SMALL_GROUP: &str = "/SUBSCRIPTIONS/s/ResourceGroups/g";
-
-const OTHER_GROUP: &str = "/subscriptions/T/resourceGroups/G";
-
-const RESOURCE: &str = "/subscriptions/S/resourceGroups/G/providers/N/t/R";
 
 const READ: &str = "\
 /subscriptions/S -> /subscriptions/S
@@ -35,85 +26,141 @@ subscriptions/S -> the text is no resource id
 x/subscriptions/S/resourceGroups/G -> the text is no resource id
 /subscriptions/S/resourceGroups/G/providers/N/t -> the text is no resource id";
 
-// Compares the id of the scope of which the text is the id, or the fault's message.
-fn check_read(alloc: Global, text: &str, wanted: &str) -> Result<(), Fail> {
-    match Scope::read_id(alloc, text) {
-        Ok(scope) => compare(text, scope.to_id(alloc)?.as_str(), wanted),
-        Err(fault) => {
-            let message = format!(in alloc; "{fault}")?;
-            compare(text, message.as_str(), wanted)
-        }
+fn say_read(
+    out: &mut String,
+    alloc: Global,
+    scope: &Result<Scope, IdFault>,
+) -> Result<(), AllocError> {
+    match scope {
+        Ok(scope) => out.push_str(scope.to_id(alloc)?.as_str()),
+        Err(fault) => write!(out, "{fault}"),
     }
+}
+
+/// Adds the id of the scope of which it is the id, or the fault's message.
+pub fn say_scope(out: &mut String, alloc: Global, asked: &str) -> Result<(), AllocError> {
+    let scope = Scope::read_id(alloc, asked);
+    letting_go(say_read(out, alloc, &scope), scope)
 }
 
 #[test]
 fn texts_are_read_as_scopes_or_refused(rt: HostRuntime) -> Result<(), Fail> {
-    for line in READ.lines() {
-        let (text, wanted) = line.split_once(" -> ").unwrap_or((line, "a wanted answer"));
-        check_read(rt.alloc(), text, wanted)?;
-    }
-    Ok(())
+    check(rt.alloc(), Question::ScopeRead, READ)
 }
 
-fn check_same(alloc: Global, id: &str, other: &str, wanted: bool) -> Result<(), Fail> {
-    let scope = Scope::read_id(alloc, id)?;
-    let other_scope = Scope::read_id(alloc, other)?;
-    compare_truth(other, scope.same(&other_scope), wanted)
+type Read = Result<Scope, IdFault>;
+
+fn say_both_same(out: &mut String, scope: &Read, other: &Read) -> Result<(), AllocError> {
+    match (scope, other) {
+        (Ok(scope), Ok(other)) => say_truth(out, scope.same(other)),
+        _ => out.push_str("no scope"),
+    }
 }
+
+/// Adds whether the ids are of one scope.
+pub fn say_same(out: &mut String, alloc: Global, asked: &str) -> Result<(), AllocError> {
+    let (id, other) = two(asked);
+    let (scope, other) = (Scope::read_id(alloc, id), Scope::read_id(alloc, other));
+    letting_go(say_both_same(out, &scope, &other), (scope, other))
+}
+
+const SAME: &str = "\
+/subscriptions/S/resourceGroups/G /SUBSCRIPTIONS/s/ResourceGroups/g -> true
+/subscriptions/S/resourceGroups/G /subscriptions/T/resourceGroups/G -> false
+/subscriptions/S/resourceGroups/G /subscriptions/S -> false
+/subscriptions/S /subscriptions/S/resourceGroups/G -> false
+/subscriptions/S/resourceGroups/G/providers/N/t/R /subscriptions/S/resourceGroups/G -> false
+/subscriptions/S/resourceGroups/G/providers/N/t/R /subscriptions/S/resourceGroups/G/providers/N/t/R -> true";
 
 #[test]
 fn scopes_are_one_whatever_the_case(rt: HostRuntime) -> Result<(), Fail> {
-    check_same(rt.alloc(), GROUP, SMALL_GROUP, true)?;
-    check_same(rt.alloc(), GROUP, OTHER_GROUP, false)?;
-    check_same(rt.alloc(), GROUP, ZERO, false)?;
-    check_same(rt.alloc(), ZERO, GROUP, false)?;
-    check_same(rt.alloc(), RESOURCE, GROUP, false)?;
-    check_same(rt.alloc(), RESOURCE, RESOURCE, true)
+    check(rt.alloc(), Question::Same, SAME)
 }
 
-fn check_copy(alloc: Global, id: &str) -> Result<(), Fail> {
-    let scope = Scope::read_id(alloc, id)?;
+fn say_copied(out: &mut String, alloc: Global, scope: &Scope) -> Result<(), AllocError> {
     let copy = scope.copy(alloc)?;
-    compare_truth(id, copy.same(&scope), true)
+    letting_go(say_truth(out, copy.same(scope)), copy)
 }
+
+fn say_read_copied(out: &mut String, alloc: Global, scope: &Read) -> Result<(), AllocError> {
+    match scope {
+        Ok(scope) => say_copied(out, alloc, scope),
+        Err(_) => out.push_str("no scope"),
+    }
+}
+
+/// Adds whether the copy of the scope is that scope.
+pub fn say_copy(out: &mut String, alloc: Global, asked: &str) -> Result<(), AllocError> {
+    let scope = Scope::read_id(alloc, asked);
+    letting_go(say_read_copied(out, alloc, &scope), scope)
+}
+
+const COPIED: &str = "\
+/subscriptions/S -> true
+/subscriptions/S/resourceGroups/G -> true
+/subscriptions/S/resourceGroups/G/providers/N/t/R -> true";
 
 #[test]
 fn a_scope_is_copied(rt: HostRuntime) -> Result<(), Fail> {
-    check_copy(rt.alloc(), ZERO)?;
-    check_copy(rt.alloc(), GROUP)?;
-    check_copy(rt.alloc(), RESOURCE)
+    check(rt.alloc(), Question::ScopeCopy, COPIED)
 }
 
-// What is asked of a scope and the group `g` of the subscription `s`.
-#[derive(Clone, Copy)]
-enum Question {
-    Covers,
-    IsIn,
+fn say_covering(
+    out: &mut String,
+    scope: &Read,
+    subscription: &Text,
+    group: &Text,
+) -> Result<(), AllocError> {
+    match scope {
+        Ok(scope) => say_truth(out, scope.covers_group(subscription, group)),
+        Err(_) => out.push_str("no scope"),
+    }
 }
 
-fn check_group(alloc: Global, question: Question, id: &str, wanted: bool) -> Result<(), Fail> {
-    let scope = Scope::read_id(alloc, id)?;
-    let subscription = Text::of(alloc, "s")?;
-    let group = Text::of(alloc, "g")?;
-    let answer = match question {
-        Question::Covers => scope.covers_group(&subscription, &group),
-        Question::IsIn => scope.is_in_group(&subscription, &group),
-    };
-    compare_truth(id, answer, wanted)
+/// Adds whether the scope covers the group `g` of the subscription `s`.
+pub fn say_covers(out: &mut String, alloc: Global, asked: &str) -> Result<(), AllocError> {
+    let (subscription, group) = (Text::of(alloc, "s")?, Text::of(alloc, "g")?);
+    let scope = Scope::read_id(alloc, asked);
+    letting_go(say_covering(out, &scope, &subscription, &group), scope)
 }
+
+const COVERS: &str = "\
+/subscriptions/S -> true
+/subscriptions/S/resourceGroups/G -> true
+/subscriptions/T/resourceGroups/G -> false
+/subscriptions/S/resourceGroups/G/providers/N/t/R -> false";
 
 #[test]
 fn a_subscription_and_a_group_cover_the_group(rt: HostRuntime) -> Result<(), Fail> {
-    check_group(rt.alloc(), Question::Covers, ZERO, true)?;
-    check_group(rt.alloc(), Question::Covers, GROUP, true)?;
-    check_group(rt.alloc(), Question::Covers, OTHER_GROUP, false)?;
-    check_group(rt.alloc(), Question::Covers, RESOURCE, false)
+    check(rt.alloc(), Question::Covers, COVERS)
 }
+
+fn say_inside(
+    out: &mut String,
+    scope: &Read,
+    subscription: &Text,
+    group: &Text,
+) -> Result<(), AllocError> {
+    match scope {
+        Ok(scope) => say_truth(out, scope.is_in_group(subscription, group)),
+        Err(_) => out.push_str("no scope"),
+    }
+}
+
+/// Adds whether the scope is in that group.
+pub fn say_is_in(out: &mut String, alloc: Global, asked: &str) -> Result<(), AllocError> {
+    let (subscription, group) = (Text::of(alloc, "s")?, Text::of(alloc, "g")?);
+    let scope = Scope::read_id(alloc, asked);
+    letting_go(say_inside(out, &scope, &subscription, &group), scope)
+}
+
+const IS_IN: &str = "\
+/subscriptions/S -> false
+/subscriptions/S/resourceGroups/G -> true
+/subscriptions/T/resourceGroups/G -> false
+/subscriptions/S/resourceGroups/G/providers/N/t/R -> true";
 
 #[test]
 fn a_group_and_its_resources_are_in_the_group(rt: HostRuntime) -> Result<(), Fail> {
-    check_group(rt.alloc(), Question::IsIn, ZERO, false)?;
-    check_group(rt.alloc(), Question::IsIn, GROUP, true)?;
-    check_group(rt.alloc(), Question::IsIn, OTHER_GROUP, false)?;
-    check_group(rt.alloc(), Question::IsIn, RESOURCE, true)
+    check(rt.alloc(), Question::IsIn, IS_IN)
 }

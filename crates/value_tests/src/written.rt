@@ -1,12 +1,26 @@
-// Compares the text of a value.
+// Values as texts.
 
-use crate::table::compare;
 use arm_value::Value;
-use std::alloc::Global;
-use std::test::Fail;
+use std::alloc::{AllocError, Global};
 
-/// Compares the compact text of the value with the wanted one.
-pub fn compare_json(alloc: Global, asked: &str, value: &Value, wanted: &str) -> Result<(), Fail> {
-    let text = String::from_utf8(value.to_json(alloc)?.into_vec())?;
-    compare(asked, text.as_str(), wanted)
+/// The bytes as a text.
+pub fn text_of(bytes: &[u8]) -> &str {
+    match str::from_utf8(bytes) {
+        Ok(text) => text,
+        Err(_) => "no text",
+    }
+}
+
+/// Adds the compact text of the value.
+pub fn say_json(out: &mut String, alloc: Global, value: &Value) -> Result<(), AllocError> {
+    let bytes = value.to_json(alloc)?;
+    out.push_str(text_of(bytes.as_slice()))
+}
+
+/// Adds the compact text of the value, or `none`.
+pub fn say_maybe(out: &mut String, alloc: Global, value: Option<&Value>) -> Result<(), AllocError> {
+    match value {
+        Some(value) => say_json(out, alloc, value),
+        None => out.push_str("none"),
+    }
 }

@@ -46,7 +46,8 @@ pub fn is_of_open_job(opens: &[Option<OpenJob>], done: &Done) -> bool
 
 /// Whether no seat has an open job.
 pub fn has_no_job(opens: &[Option<OpenJob>]) -> bool
-    ensures { result ≡ true → (k : ℕ) → slice_index_or opens.now k None ≡ None }
+    ensures yes { result ≡ true → (k : ℕ) → slice_index_or opens.now k None ≡ None }
+    ensures no { result ≡ false → ¬ ((k : ℕ) → slice_index_or opens.now k None ≡ None) }
 {
     for opened in opens {
         if opened.is_some() {

@@ -28,7 +28,7 @@ returns-in-Some-clause-turned g c m0 p0 was =
     = goes_ask g.B.Book.tells m0 p0 m n p c.args.fault.now c.ask-ended.new.fault was c.ask-ended.ensures.ran in
     closes g.B.Book.tells m0 p0 n p (Some c.in-Some.fault)
     (subst (λ x. GoesOn g.B.Book.tells m0 n p0 p x) c.in-Some.is asked) c.ask-ended.ensures.tied
-    (c.has_no_job.ensures (search rules))
+    (c.has_no_job.ensures.yes (search rules))
 
 pub returns-then-ended-clause-turned : goal.returns-then-ended-clause-turned
 returns-then-ended-clause-turned g c m0 p0 was =
@@ -43,7 +43,7 @@ returns-then-ended-clause-turned g c m0 p0 was =
     let e = c.ask-ended.ensures.end c.if-ended.true in (
       e.0,
       closes g.B.Book.tells m0 p0 n p None (subst (λ x. GoesOn g.B.Book.tells m0 n p0 p x) e.1 asked)
-          c.ask-ended.ensures.tied (c.has_no_job.ensures (search rules)),
+          c.ask-ended.ensures.tied (c.has_no_job.ensures.yes (search rules)),
     )
 
 pub returns-else-ended-clause-turned : goal.returns-else-ended-clause-turned

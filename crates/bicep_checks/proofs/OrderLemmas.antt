@@ -139,7 +139,8 @@ module _ (files : List ProgramFile) where
   none_place_of rs m e fault.OutOfMemory r h = h
 
   pub places_none : (rs : List ResolvedFileTree) → IsResolved files rs → HasNone 4 files
-      → either (first_in text_place files) (either (first_in link_place rs) (first_in state_place rs)) ≡ None → HasNone 5 files
+      → either (first_in text_place files) (either (first_in link_place rs) (first_in state_place rs)) ≡ None
+      → HasNone 5 files
   places_none rs h before e = more 4 before (none_place_of rs h e)
 
   pub place_first : (rs : List ResolvedFileTree) → IsResolved files rs → HasNone 4 files → (k at : ℕ)

@@ -80,7 +80,8 @@ module _ (p : Cell → Known Json) {A : Type 0} where
       ∙ ap (λ t. and_then t (λ q. value (q.0 ∷ q.1))) (told-both p r (all rs))
 
 module _ (cell : ℕ → Cell) {X A : Type 0} (view : X → A) where
-  seen_one : (o : Option (List X)) (x : X) → option_map (map view) (with_one o x) ≡ with_one (option_map (map view) o) (view x)
+  seen_one : (o : Option (List X)) (x : X) → option_map (map view) (with_one o x)
+      ≡ with_one (option_map (map view) o) (view x)
   seen_one (Some xs) x = ap Some (map-push view xs x)
   seen_one None x = refl
 
@@ -117,7 +118,8 @@ module _ (cell : ℕ → Cell) {X A : Type 0} (view : X → A) where
 
   module _ (p : Cell → Known Json) where
     -- a turn of a loop that goes on
-    pub turned : (found : Option (Vec X Global)) (one : Result X Stop) (more : Option (Vec X Global)) (total : Told Cell (List A))
+    pub turned : (found : Option (Vec X Global)) (one : Result X Stop) (more : Option (Vec X Global))
+        (total : Told Cell (List A))
         (r : Reads A) (rs : List (Reads A)) → total ≡ follow (seen view found) (told p (all (r ∷ rs)))
         → Gives cell view one (told p r) → IsAdded found one (Ok more)
         → total ≡ follow (seen view more) (told p (all rs))
@@ -137,5 +139,6 @@ module _ (cell : ℕ → Cell) {X A : Type 0} (view : X → A) where
     pub all_given : (found : Option (Vec X Global)) (t : Told Cell (List A))
         → t ≡ follow (seen view found) (told p (all {A = A} []))
         → Gives cell (λ (v : Vec X Global). map view v.items) (whole found) t
-    all_given (Some v) t e = e ∙ ap (follow (Some (map view v.items))) (all-nil p) ∙ follow-end (Some (map view v.items))
+    all_given (Some v) t e = e ∙ ap (follow (Some (map view v.items))) (all-nil p)
+        ∙ follow-end (Some (map view v.items))
     all_given None t e = e ∙ ap (follow None) (all-nil p) ∙ follow-end None

@@ -2,7 +2,8 @@
 use Rattle.std.proofs.Common.{◌≡◌, ℕ, Option, Some, None, refl, sym, ap, ◌∙◌, subst}
 use Rattle.std.specs.Prelude.{Result, Ok, Err}
 use Rattle.reading.specs.Reading.{Reading, done, continued, both}
-use Rattle.reading.specs.Knowledge.{Known, Told, value, no_value, waits, told, finished, and_then, both_told, beside_told}
+use Rattle.reading.specs.Knowledge.{Known, Told, value, no_value, waits, told, finished, and_then}
+use Rattle.reading.specs.Knowledge.{both_told, beside_told}
 use Rattle.reading.proofs.Parts as parts
 use Rattle.arm_value.specs.Json.{Json}
 use Rattle.arm_value.specs.View.{json}
@@ -46,7 +47,8 @@ module _ {C : Type 0} (cell : ℕ → C) where
   stays (stop.Waits n) t k h = ap (λ u. and_then u k) h
   stays stop.OutOfMemory t k h = tt
 
-  stays_beside : {A B : Type 0} (o : Option A) (s : Stop) (t : Told C B) → Stops cell s t → Stops cell s (beside_told o t)
+  stays_beside : {A B : Type 0} (o : Option A) (s : Stop) (t : Told C B) → Stops cell s t
+      → Stops cell s (beside_told o t)
   stays_beside o stop.NoValue t h = ap (beside_told o) h
   stays_beside o (stop.Waits n) t h = ap (beside_told o) h
   stays_beside o stop.OutOfMemory t h = tt
@@ -58,8 +60,8 @@ module _ {C : Type 0} (cell : ℕ → C) where
   found_gives to o (Err (stop.Waits n)) h = absurd h
   found_gives to o (Err stop.OutOfMemory) h = tt
 
-  pub stop_gives : {Y B : Type 0} (to : Y → B) (s : Stop) (r : Result Y Stop) (t : Told C B) → r ≡ Err s → Stops cell s t
-      → Gives cell to r t
+  pub stop_gives : {Y B : Type 0} (to : Y → B) (s : Stop) (r : Result Y Stop) (t : Told C B) → r ≡ Err s
+      → Stops cell s t → Gives cell to r t
   stop_gives {Y = Y} to s r t e h = subst (λ (x : Result Y Stop). Gives cell to x t) (sym e) h
 
   -- of a value that is given

@@ -5,7 +5,8 @@ ghost use Rattle.arm_value.specs.View.{json};
 ghost use Rattle.arm_env.specs.Part.{part_of};
 ghost use Rattle.function_lists.specs.Sizes.{size_of};
 ghost use Rattle.bicep_meaning.specs.Rows.{few, runs_of};
-ghost use Rattle.bicep_outcomes.specs.Outcomes.{IsFound, Then, IsElement, Lacks, IsCopy, IsInner, IsItem, IsIndex, value_and_runs, json_first};
+ghost use Rattle.bicep_outcomes.specs.Outcomes.{IsFound, Then, IsElement, Lacks, IsCopy, IsInner, IsItem};
+ghost use Rattle.bicep_outcomes.specs.Outcomes.{IsIndex, value_and_runs, json_first};
 
 use crate::accesses::indexed;
 use crate::joins::{pair, push, same, stopped};

@@ -6,7 +6,8 @@ ghost use Rattle.arm_env.specs.Object.{object_of};
 ghost use Rattle.function_prints.specs.Printed.{printed};
 ghost use Rattle.bicep_meaning.specs.Rows.{array_of};
 ghost use Rattle.bicep_meaning.specs.Meaning.{joined};
-ghost use Rattle.bicep_outcomes.specs.Outcomes.{IsFound, Then, all_json, all_members, all_texts, ThenItems, ThenMembers};
+ghost use Rattle.bicep_outcomes.specs.Outcomes.{IsFound, Then, all_json, all_members, all_texts};
+ghost use Rattle.bicep_outcomes.specs.Outcomes.{ThenItems, ThenMembers};
 
 use crate::joins::{found, stopped};
 use crate::stop::Stop;

@@ -108,7 +108,8 @@ module _ (xs : List Kind) (ds : List DeclaredTree) (order : List ℕ) where
         here =
             let right = next_right own whole i x d h f at in (
               ap (λ bs. get_or bs (get_or order i 0) false) first
-                  ∙ get_or-set_at own (get_or order i 0) (get_or order i 0) a false refl (has_place xs ds order o i (length own) h f.own_size)
+                  ∙ get_or-set_at own (get_or order i 0) (get_or order i 0) a false refl
+                  (has_place xs ds order o i (length own) h f.own_size)
                   ∙ e ∙ right.0,
               ap (λ bs. get_or bs (get_or order i 0) false) second
                   ∙ get_or-set_at whole (get_or order i 0) (get_or order i 0) b false refl

@@ -137,7 +137,8 @@ module _ (p : Cell → Known Json) (cell : ℕ → Cell) where
       → told p (coalesce_value x y) ≡ told p y
   unfolding coalesce_value
   coalesce_null v x y g e =
-      goes p x (λ j. or_if_null j y) (json v) g ∙ ap (told p) (null_if (json v) y (nowhere (null_left (json v)) (json v) e))
+      goes p x (λ j. or_if_null j y) (json v) g
+      ∙ ap (told p) (null_if (json v) y (nowhere (null_left (json v)) (json v) e))
 
   pub coalesce_stops : (s : Stop) (x y : Reads Json) → Stops cell s (told p x)
       → Stops cell s (told p (coalesce_value x y))

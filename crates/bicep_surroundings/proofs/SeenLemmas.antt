@@ -18,7 +18,8 @@ use Rattle.bicep_outcomes.specs.declared.loops.Turn.{Turn}
 use Rattle.bicep_outcomes.specs.declared.stop.Stop.{Stop}
 use Rattle.bicep_outcomes.specs.declared.stop.Stop.TheVariants as stop
 use Rattle.bicep_outcomes.specs.Outcomes.{Stops, Gives, Then, IsItem, IsIndex, IsElement, paired, AreCopies, IsInner}
-use Rattle.bicep_outcomes.proofs.OutcomeLemmas.{told-done, told-continued, goes, stays, same_gives, stop_gives, then_gives}
+use Rattle.bicep_outcomes.proofs.OutcomeLemmas.{told-done, told-continued, goes, stays, same_gives}
+use Rattle.bicep_outcomes.proofs.OutcomeLemmas.{stop_gives, then_gives}
 use Rattle.bicep_surroundings.specs.Sight.{Sight, IsSeen, AreSeen}
 use Rattle.bicep_surroundings.proofs.ReadLemmas.{of_equal, both_reads, then_reads}
 
@@ -101,4 +102,5 @@ module _ (s : Sight) where
   state_stops name q e h =
       subst (λ (t : Told Cell Json). Stops s.cell e t)
       (sym (told-continued s.known q (λ k. continued (read (state (folded k))) (λ j. done (look name j)))))
-      (stays s.cell e (told s.known q) (λ k. told s.known (continued (read (state (folded k))) (λ j. done (look name j)))) h)
+      (stays s.cell e (told s.known q)
+      (λ k. told s.known (continued (read (state (folded k))) (λ j. done (look name j)))) h)

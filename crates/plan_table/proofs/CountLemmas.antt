@@ -28,12 +28,14 @@ use Rattle.plan_table.specs.declared.line.Spot.TheVariants.{Name, Deployments}
 use Rattle.plan_table.specs.declared.line.State.{State}
 use Rattle.plan_table.specs.declared.line.State.TheVariants as how
 use Rattle.plan_table.specs.Opened.{Opened, opened_of, opened_at}
-use Rattle.plan_table.specs.Lines.{frame_of, IsPlaced, cell_of, status_in, rows_of, row_of, new_line, line_at, with_state}
+use Rattle.plan_table.specs.Lines.{frame_of, IsPlaced, cell_of, status_in, rows_of, row_of}
+use Rattle.plan_table.specs.Lines.{new_line, line_at, with_state}
 use Rattle.plan_table.specs.Keys.{Index}
 use Rattle.plan_table.specs.Laid.{Laid, IsAlone}
 use Rattle.plan_table.specs.declared.table.Table.{Table}
 use Rattle.plan_table.specs.Whole.{scopes_of}
-use Rattle.plan_table.specs.Counted.{IsCounted, numbers_of, listed_by, listed_in, any_scope, Numbers, number_at, AreNumbers, Exceeds}
+use Rattle.plan_table.specs.Counted.{IsCounted, numbers_of, listed_by, listed_in, any_scope, Numbers}
+use Rattle.plan_table.specs.Counted.{number_at, AreNumbers, Exceeds}
 use Rattle.plan_table.proofs.LaidLemmas.{row_here, length_rows}
 
 -- ---- what lines list
@@ -70,15 +72,16 @@ unfinished_line os ls at h u = subst (λ (r : Row). IsUnfinished r.status) (row_
 module _ (ls : List Line) (at : ℕ) (x : State) (g : ℕ) (h : at < length ls)
     (open0 : IsUnfinished (status_in (line_at ls at).state)) where
   -- a cell that is not finished lists nothing
-  listed_with : (f : ℕ → Bool) → listed_in f (with_state ls at x g) ≡ listed_in f ls + listed_by f x (line_at ls at).spot
+  listed_with : (f : ℕ → Bool) → listed_in f (with_state ls at x g)
+      ≡ listed_in f ls + listed_by f x (line_at ls at).spot
   listed_with f =
       let e = listed_set f ls at (record { spot = (line_at ls at).spot; state = x; opened = g }) h in
       let z = unfinished_none f (line_at ls at).state (line_at ls at).spot open0 in
       omega (arith, e, z)
 
   -- a state that lists nothing
-  pub numbers_set : (os : List Opened) (n : Numbers) → ((f : ℕ → Bool) → listed_by f x (line_at ls at).spot ≡ 0) → AreNumbers os ls n
-      → AreNumbers os (with_state ls at x g) n
+  pub numbers_set : (os : List Opened) (n : Numbers) → ((f : ℕ → Bool) → listed_by f x (line_at ls at).spot ≡ 0)
+      → AreNumbers os ls n → AreNumbers os (with_state ls at x g) n
   numbers_set os n z a = record {
     long = a.long;
     each = λ f l. (let e = a.each f l in let w = listed_with (nat_eq f) in let o = z (nat_eq f) in

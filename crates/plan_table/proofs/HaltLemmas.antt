@@ -28,12 +28,14 @@ use Rattle.plan_table.specs.declared.line.Spot.TheVariants.{Name, Deployments}
 use Rattle.plan_table.specs.declared.line.State.{State}
 use Rattle.plan_table.specs.declared.line.State.TheVariants as how
 use Rattle.plan_table.specs.Opened.{Opened, opened_of, opened_at}
-use Rattle.plan_table.specs.Lines.{frame_of, IsPlaced, cell_of, status_in, rows_of, row_of, new_line, line_at, with_state}
+use Rattle.plan_table.specs.Lines.{frame_of, IsPlaced, cell_of, status_in, rows_of, row_of}
+use Rattle.plan_table.specs.Lines.{new_line, line_at, with_state}
 use Rattle.plan_table.specs.Keys.{Index}
 use Rattle.plan_table.specs.Laid.{Laid, IsAlone}
 use Rattle.plan_table.specs.declared.table.Table.{Table}
 use Rattle.plan_table.specs.Whole.{scopes_of}
-use Rattle.plan_table.specs.Counted.{IsCounted, numbers_of, listed_by, listed_in, any_scope, Numbers, number_at, AreNumbers, Exceeds}
+use Rattle.plan_table.specs.Counted.{IsCounted, numbers_of, listed_by, listed_in, any_scope, Numbers}
+use Rattle.plan_table.specs.Counted.{number_at, AreNumbers, Exceeds}
 use Rattle.plan_table.proofs.LaidLemmas.{row_here, length_rows}
 use Rattle.plan_table.proofs.CountLemmas.{same_number, other_number, is_number}
 
@@ -41,7 +43,8 @@ use Rattle.plan_table.proofs.CountLemmas.{same_number, other_number, is_number}
 
 -- what the rows list in scopes that pass a test is what the lines list in those whose numbers do
 pub rows_list : (os : List Opened) (ls : List Line) (F : Scopes) (f : ℕ → Bool)
-    → ((j : ℕ) → j < length ls → F (opened_at os (frame_of (line_at ls j).spot)).position ≡ f (frame_of (line_at ls j).spot))
+    → ((j : ℕ) → j < length ls
+    → F (opened_at os (frame_of (line_at ls j).spot)).position ≡ f (frame_of (line_at ls j).spot))
     → instances_in F (rows_of os ls) ≡ listed_in f ls
 rows_list os [] F f h = refl
 rows_list os (l ∷ ls) F f h =
@@ -82,7 +85,8 @@ position_of _ = []
 module _ (d : Deployment) (os : List Opened) (ix : Index) (ls : List Line) (laid : Laid d os ix ls)
     (distinct : AreDistinct (rows_of os ls)) where
   -- scopes at one position have one number
-  pub one_scope : (f g : ℕ) → f < length os → g < length os → (opened_at os f).position ≡ (opened_at os g).position → f ≡ g
+  pub one_scope : (f g : ℕ) → f < length os → g < length os
+      → (opened_at os f).position ≡ (opened_at os g).position → f ≡ g
   one_scope f g h k e =
       let x = laid.cells f h (Deployments f) refl tt tt in
       let y = laid.cells g k (Deployments g) refl tt tt in

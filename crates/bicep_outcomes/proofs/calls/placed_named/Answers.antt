@@ -7,5 +7,6 @@ use Rattle.bicep_outcomes.proofs.calls.placed_named.Goals as goal
 
 pub returns : goal.returns
 returns c =
-    c.placed_of.ensures ∙ ap placed_of c.strict_named.ensures ∙ ap (λ n. placed_of (strict_named n)) c.in_ok-name.ensures
+    c.placed_of.ensures ∙ ap placed_of c.strict_named.ensures
+    ∙ ap (λ n. placed_of (strict_named n)) c.in_ok-name.ensures
     ∙ placed_is (chars c.args.name.now)

@@ -8,5 +8,7 @@ use Rattle.bicep_type_faults.proofs.fields.arguments_fit.Given as goal
 -- the rest decides
 abbrev pub invariant-loop-argument : goal.invariant-loop-argument
 invariant-loop-argument l =
-    spec.arguments_fit (types_in l.symbols l.outputs) (option_map (λ f. file_of f.now) l.file) (properties (map property_of l.arguments))
-    ≡ spec.arguments_fit (types_in l.symbols l.outputs) (option_map (λ f. file_of f.now) l.file) (properties (map property_of (drop l.argument-index l.arguments)))
+    spec.arguments_fit (types_in l.symbols l.outputs) (option_map (λ f. file_of f.now) l.file)
+    (properties (map property_of l.arguments))
+    ≡ spec.arguments_fit (types_in l.symbols l.outputs) (option_map (λ f. file_of f.now) l.file)
+    (properties (map property_of (drop l.argument-index l.arguments)))

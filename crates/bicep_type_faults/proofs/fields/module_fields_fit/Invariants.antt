@@ -8,5 +8,7 @@ use Rattle.bicep_type_faults.proofs.fields.module_fields_fit.Given as goal
 -- the rest decides
 abbrev pub invariant-loop-field : goal.invariant-loop-field
 invariant-loop-field l =
-    spec.module_fields_fit (types_in l.symbols l.outputs) (option_map (λ f. file_of f.now) l.file) (properties (map property_of l.fields))
-    ≡ spec.module_fields_fit (types_in l.symbols l.outputs) (option_map (λ f. file_of f.now) l.file) (properties (map property_of (drop l.field-index l.fields)))
+    spec.module_fields_fit (types_in l.symbols l.outputs) (option_map (λ f. file_of f.now) l.file)
+    (properties (map property_of l.fields))
+    ≡ spec.module_fields_fit (types_in l.symbols l.outputs) (option_map (λ f. file_of f.now) l.file)
+    (properties (map property_of (drop l.field-index l.fields)))

@@ -8,4 +8,5 @@ use Rattle.bicep_type_faults.proofs.fields.resource_fields_fit.Given as goal
 abbrev pub invariant-loop-field : goal.invariant-loop-field
 invariant-loop-field l =
     spec.resource_fields_fit (types_in l.symbols l.outputs) (properties (map property_of l.fields))
-    ≡ spec.resource_fields_fit (types_in l.symbols l.outputs) (properties (map property_of (drop l.field-index l.fields)))
+    ≡ spec.resource_fields_fit (types_in l.symbols l.outputs)
+    (properties (map property_of (drop l.field-index l.fields)))

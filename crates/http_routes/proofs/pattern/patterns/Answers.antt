@@ -37,7 +37,8 @@ unfolding patterns
 returns c =
     c.in_ok-router-5.ensures
     ∙ ap (with_pattern (codes "/subscriptions/{s}/providers/{*rest}") InSubscription) (c.in_ok-router-4.ensures
-    ∙ ap (with_pattern (codes "/subscriptions/{s}/resourcegroups/{g}/providers/{*rest}") InGroup) (c.in_ok-router-3.ensures
+    ∙ ap (with_pattern (codes "/subscriptions/{s}/resourcegroups/{g}/providers/{*rest}") InGroup)
+    (c.in_ok-router-3.ensures
     ∙ ap (with_pattern (codes "/subscriptions/{s}/resourcegroups/{g}/resources") Resources) (c.in_ok-router-2.ensures
     ∙ ap (with_pattern (codes "/subscriptions/{s}/resourcegroups/{g}") Group) (c.in_ok-router.ensures
     ∙ ap (with_pattern (codes "/subscriptions/{s}/resourcegroups") Groups) c.new.ensures))))

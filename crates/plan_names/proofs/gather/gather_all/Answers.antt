@@ -20,20 +20,24 @@ gather_resource-requires-clause-resource c =
 pub returns-in-Err : goal.returns-in-Err
 returns-in-Err c =
     all_stop_at c.args.table.now c.args.text.now c.args.place.now (scope_at c.args.table.now c.args.frame).position
-    c.loop-number.keys.items c.loop-number.keys.items (scope_at c.args.table.now c.args.frame).resources c.loop-number.number c.in-Err.lack _
+    c.loop-number.keys.items c.loop-number.keys.items (scope_at c.args.table.now c.args.frame).resources
+    c.loop-number.number c.in-Err.lack _
     (fewer_listed c.args.table.now c.args.frame c.index.result.now c.requires.there c.index.ensures
-    c.loop-number.number _ (ap length c.as_slice-resources.ensures.value) c.loop-number-test.true) c.in-Err.ensures c.loop-number.invariant
+    c.loop-number.number _ (ap length c.as_slice-resources.ensures.value) c.loop-number-test.true) c.in-Err.ensures
+    c.loop-number.invariant
 
 pub loop-number-preserved : goal.loop-number-preserved
 loop-number-preserved c =
     all_more_at c.args.table.now c.args.text.now c.args.place.now (scope_at c.args.table.now c.args.frame).position
     c.loop-number.keys.items _ (scope_at c.args.table.now c.args.frame).resources c.loop-number.number _
     (fewer_listed c.args.table.now c.args.frame c.index.result.now c.requires.there c.index.ensures
-    c.loop-number.number _ (ap length c.as_slice-resources.ensures.value) c.loop-number-test.true) c.in-Ok.ensures c.loop-number.invariant
+    c.loop-number.number _ (ap length c.as_slice-resources.ensures.value) c.loop-number-test.true) c.in-Ok.ensures
+    c.loop-number.invariant
 
 pub returns : goal.returns
 returns c =
     all_end c.args.table.now c.args.text.now c.args.place.now (scope_at c.args.table.now c.args.frame).position
     c.loop-number.keys.items (scope_at c.args.table.now c.args.frame).resources c.loop-number.number _
     (no_more_listed c.args.table.now c.args.frame c.index.result.now c.requires.there c.index.ensures
-    c.loop-number.number _ (ap length c.as_slice-resources.ensures.value) c.loop-number-test.false) c.loop-number.invariant
+    c.loop-number.number _ (ap length c.as_slice-resources.ensures.value) c.loop-number-test.false)
+    c.loop-number.invariant

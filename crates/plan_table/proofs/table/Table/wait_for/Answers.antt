@@ -23,5 +23,6 @@ returns-clause-marked c =
 pub returns-clause-counted : goal.returns-clause-counted
 returns-clause-counted c =
     marked_counted (scopes_of c.args.self.now) c.args.self.now.lines.items c.set_state.new.lines.items c.args.at
-    (numbers_of c.args.self.now) c.requires.listed c.requires.unfinished c.requires.counted (how.Late c.args.key) (λ f s. refl)
+    (numbers_of c.args.self.now) c.requires.listed c.requires.unfinished c.requires.counted (how.Late c.args.key)
+    (λ f s. refl)
     c.set_state.ensures

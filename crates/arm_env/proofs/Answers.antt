@@ -126,5 +126,5 @@ pub ruleset answers = (
   told-plain,
 )
 
--- what one cell tells
+-- what is known of one cell
 pub ruleset looks = (told-seen)

@@ -112,7 +112,7 @@ key_sought ts place (Some title) = key_of ts place title
 abbrev pub fact_sought : Titles → Place → Option Title → Looking (Option Fact)
 fact_sought ts place title = continued (outcome (key_sought ts place title)) (λ o. pure (option_map a_key o))
 
--- what stands in the place of each cell: what a text stands for is what its symbol means
+-- the reading in the place of each cell: what a text stands for is what its symbol means
 abbrev pub titled : Titles → Place → Look → Looking (Option Fact)
 titled ts place (look.named t) = fact_sought ts place (title_of ts.symbols t)
 titled ts place c = itself c
@@ -143,7 +143,7 @@ known_of (waits c) = missing
 unfoldable pub known_through : (Look → Looking (Option Fact)) → (Look → Known Fact) → Look → Known Fact
 known_through h p c = known_of (told p (h c))
 
--- what is told of a cell in whose place a reading stands: where that waits, the cell does
+-- what is known of a cell that has a reading in its place: where the reading waits, the cell does
 abbrev pub held_back : {A : Type 0} → Look → Told Look A → Told Look A
 held_back c (value x) = value x
 held_back c no_value = no_value

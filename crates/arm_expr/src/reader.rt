@@ -45,7 +45,7 @@ fn read_inside(alloc: Global, inner: &str) -> Result<Option<Expr>, Stop>
 
 /// Reads an expression text, such as `[concat('a', parameters('b'))]`, its brackets included.
 ///
-/// It takes memory in proportion to the text, and it builds nothing that nests above 64.
+/// It takes memory in proportion to the text, and it keeps nothing that nests above 64.
 ///
 /// # Errors
 ///

@@ -12,7 +12,7 @@ use std::marker::Model;
 pub const MOST_NESTING: usize = MAX_EXPRESSION_NESTING as usize;
 
 /// A part of a file, and how deep it nests. A leaf replaces a part that nests above `MOST_NESTING`, and its
-/// depth is one more than that; so no deep tree is ever built or dropped.
+/// depth is one more than that; so no tree is kept that nests deeper.
 #[derive(Drop)]
 pub struct Kept<T> {
     /// The part, or a leaf.

@@ -3,7 +3,7 @@
 //! A caller may rely on `specs/Machine` (`step` is where a token leads, `parsed` what all tokens are read as) and
 //! on two laws: the machine reads what the grammar of `bicep_tree` spells, and nothing else. `specs/Views` says
 //! which state and stack the types of the code mean, and each function builds one part as the machine does
-//! (`specs/Kept`, `specs/Closing`). A part that nests above the limit is not kept, so no deep tree is built.
+//! (`specs/Kept`, `specs/Closing`). A part that nests above the limit is not kept, and is no part of another.
 #![tactic(auto)]
 
 mod build;

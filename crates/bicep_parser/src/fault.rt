@@ -9,8 +9,8 @@ pub enum ParseFault {
     /// last token, where a file begins with all of them.
     #[error("not a file at {0}")]
     NotAFile(usize),
-    /// An expression nests above 64. The place of the token that closes the part that nests too deep, which may
-    /// be the first token of the next line, or the end of the last token, where none closes it.
+    /// An expression nests above 64. The place of a token up to which no file within the limit begins, or the end
+    /// of the last token. By construction the token closes the part that nests too deep, or comes right after it.
     #[error("too deep at {0}")]
     TooDeep(usize),
     /// Memory was refused.

@@ -98,7 +98,7 @@ fn parsed(alloc: Global, tokens: &[Token]) -> Result<File, ParseFault>
 /// The file that the tokens of a source spell.
 ///
 /// Each token is looked at once. No nesting of a source makes it recurse, and nothing that nests above
-/// 64 is built.
+/// 64 is kept.
 ///
 /// # Errors
 ///

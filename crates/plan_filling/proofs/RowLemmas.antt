@@ -1,4 +1,4 @@
--- Rows: where a cell stands, after a write and behind new rows.
+-- Rows: where a cell is, after a write and after new rows were added.
 use Rattle.std.proofs.Common.{◌≡◌, ◌⊎◌, inl, inr, ℕ, zero, suc, ◌+◌, ◌*◌, ◌<◌, ◌≤◌, Bool, true, false, List, [], ◌∷◌}
 use Rattle.std.proofs.Common.{◌++◌, map, length, Option, Some, None, refl, sym, subst, ◌∙◌, arith}
 use Rattle.std.specs.Prelude.{if◌then◌else◌}
@@ -88,7 +88,7 @@ distinct_set [] i s a = tt
 distinct_set (r ∷ rs) zero s a = a
 distinct_set (r ∷ rs) (suc i) s a = (none_set rs i s r.cell a.0, distinct_set rs i s a.1)
 
--- behind others
+-- the status of a cell, with other rows after these
 pub joined_some : (xs ys : List Row) (d : Cell) (u : Status) → status_of xs d ≡ Some u
     → status_of (xs ++ ys) d ≡ Some u
 joined_some [] ys d u e = cc

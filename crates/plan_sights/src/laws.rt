@@ -8,7 +8,7 @@ ghost use Rattle.plan_filling.specs.Rows.{status_of, table};
 ghost use Rattle.plan_sights.specs.Resolved.{IsResolved};
 ghost use Rattle.plan_sights.specs.Seats.{Seat, site_of, seen_in, known_in};
 
-/// What the evaluator returns by what is known of the cells that it looks at is what is told of the reading that follows
+/// What the evaluator returns by what is known of the cells that it looks at is what the reading yields that follows
 /// the readings in the places of these cells. Where it waits for a cell, that reading stops as the cell's does.
 pub fn looks_are_resolved<A>()
     ensures { (s : Seat) (r : Looking A) → IsResolved (seen_in s) (told (known_in s) r)

@@ -146,7 +146,7 @@ fn write_body(alloc: Global, body: &Body) -> Result<Fields, OutOfMemory>
     }
 }
 
-/// The value that states the template: each member under its canonical name, and what may be left out is left out.
+/// The value that is written of the template: each member under its canonical name, without what may be left out.
 ///
 /// # Errors
 ///

@@ -7,7 +7,7 @@ use Rattle.std.proofs.Math.Seq.{drop-cons}
 use Rattle.std.proofs.lemmas.List.{drop_all, length_push}
 use Rattle.std.proofs.lemmas.Bool.Decides.{nat_tests}
 use Rattle.arm_ids.specs.Segments.{slashed, has_slash, is_slash}
-use Rattle.foundation.proofs.Lists.{next_character}
+use Rattle.foundation.proofs.Lists.{next_item}
 use Rattle.arm_ids.proofs.IdLemmas.{slashed-append}
 
 -- a text with a segment more
@@ -33,7 +33,7 @@ pub slash_there : (cs ys : List ℕ) (c : ℕ) → (length ys < length cs) × (c
     → c ≡ 47 → has_slash cs ≡ has_slash (drop (length ys) cs) → true ≡ has_slash cs
 slash_there cs ys c t is e =
     let here : is_slash c ≡ true = grind (arith, nat_tests) in
-    sym (e ∙ ap has_slash (next_character cs (length ys) c t.0 t.1)
+    sym (e ∙ ap has_slash (next_item cs (length ys) c t.0 t.1)
     ∙ ap (λ b. b || has_slash (drop (length ys + 1) cs)) here)
 
 pub slash_further : (cs ys : List ℕ) (c : ℕ)
@@ -43,7 +43,7 @@ pub slash_further : (cs ys : List ℕ) (c : ℕ)
 slash_further cs ys c t is e =
     let here : is_slash c ≡ false = grind (arith, nat_tests) in
     let long : length (ys ++ c ∷ []) ≡ length ys + 1 = length_push ys c in
-    e ∙ ap has_slash (next_character cs (length ys) c t.0 t.1)
+    e ∙ ap has_slash (next_item cs (length ys) c t.0 t.1)
     ∙ ap (λ b. b || has_slash (drop (length ys + 1) cs)) here
     ∙ ap (λ n. has_slash (drop n cs)) (sym long)
 

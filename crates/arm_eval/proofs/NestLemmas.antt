@@ -3,7 +3,6 @@ use Rattle.reading.specs.Knowledge as knowledge
 use Rattle.reading.specs.Knowledge.{told, finished, and_then, both_told}
 use Rattle.std.proofs.Common.{◌≡◌, ◌≤◌, ℕ, List, [], ◌∷◌, Bool, true, false, nat_le, Option, Some, None, refl, sym}
 use Rattle.std.proofs.Common.{ap, ◌∙◌, subst, arith}
-use Rattle.std.proofs.lemmas.Bool.Decides.{nat_tests}
 use Rattle.std.specs.Prelude.{if◌then◌else◌, IfOk, MatchOption, Result, Ok, Err}
 use Rattle.arm_value.specs.Json.{Json, null, bool, int, text, array, object, Row, no_items, item, pairs, Member}
 use Rattle.arm_value.specs.Json.{nesting, members_nesting}
@@ -19,14 +18,15 @@ use Rattle.arm_env.specs.Part.{kept}
 use Rattle.arm_env.specs.Held.{capped, forced}
 use Rattle.expression_values.specs.Meaning.{used, held}
 use Rattle.arm_env.specs.Look.{all}
-use Rattle.arm_expr.specs.Brackets.{Meaning, plain, an_expression, meaning as text_meaning}
+use Rattle.arm_expr.specs.Brackets.{Meaning, plain, an_expression, meaning as text_meaning, is_copy}
 use Rattle.arm_eval.specs.Text.{expression_of}
 use Rattle.arm_env.specs.Answer.{outcome_told}
-use Rattle.arm_eval.specs.Trees.{Copy, said_value, tree_value, given_members, is_copy, copies, row_copies, copied}
+use Rattle.arm_eval.specs.Trees.{Copy, said_value, tree_value, given_members, copies, row_copies, copied}
 use Rattle.arm_eval.specs.Trees.{copy_in, turns, counting, counted, array_of}
 use Rattle.arm_expr.specs.Tree.{Tree}
 use Rattle.expression_values.specs.Meaning as meaning
 use Rattle.arm_env.proofs.Answers.{same_value, never_value, told-done, told-continued, told-both, told-capped}
+use Rattle.foundation.proofs.Comparisons.{le_of_true}
 
 -- where a value came from
 record CameFrom {A B : Type 0} (t : knowledge.Told Look A) (f : A → knowledge.Told Look B) (y : B) : Type 0 where
@@ -40,15 +40,12 @@ came (knowledge.value x) f y e = record { value = x; was = refl; then_was = e }
 came knowledge.no_value f y e = absurd cc
 came (knowledge.waits k) f y e = absurd cc
 
-within : (n : ℕ) → nat_le n 100 ≡ true → n ≤ 100
-within n h = grind (arith, nat_tests)
-
 kept_by : (j v : Json) (b : Bool) → nat_le (nesting j) 100 ≡ b → finished {C = Look} (if b then Some j else None)
     ≡ knowledge.value v
     → nesting v ≤ 100
 kept_by j v true h e =
     let same : j ≡ v = cc in
-    subst (λ v. nesting v ≤ 100) same (within (nesting j) h)
+    subst (λ v. nesting v ≤ 100) same (le_of_true (nesting j) 100 h)
 kept_by j v false h e = absurd cc
 
 kept_nests : (j v : Json) → finished {C = Look} (kept j) ≡ knowledge.value v → nesting v ≤ 100

@@ -21,7 +21,7 @@ use Rattle.arm_env.specs.Answer.{outcome_told, gathered}
 use Rattle.arm_env.specs.Answer.{Stops}
 use Rattle.arm_env.specs.declared.stop.Stop.{Stop}
 use Rattle.arm_env.specs.declared.stop.Stop.TheVariants as stop
-use Rattle.arm_eval.specs.Trees.{Copy, tree_value, row_values, is_copy, own_member, own_members, given_members}
+use Rattle.arm_eval.specs.Trees.{Copy, tree_value, row_values, own_member, own_members, given_members}
 use Rattle.arm_eval.specs.Trees.{copies, row_copies, copied, copy_in, turns, counted, array_of, concat, joined}
 use Rattle.arm_eval.specs.Trees.{names_of, are_new, differ, object_by}
 use Rattle.arm_eval.specs.Words.{values_of, owns_of, copies_of, put_all, kept_array, kept_object, whole_object}
@@ -31,6 +31,7 @@ use Rattle.arm_env.proofs.Answers.{stops}
 use Rattle.arm_eval.proofs.TurnLemmas.{turn_at, array_given, array_stops}
 use Rattle.arm_env.proofs.Turns.{given_in}
 use Rattle.arm_value.proofs.TreeLemmas.{row-items}
+use Rattle.arm_expr.specs.Brackets.{is_copy}
 
 -- ---- lists of the code and rows
 

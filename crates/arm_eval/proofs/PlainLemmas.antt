@@ -1,8 +1,7 @@
 -- Trees without texts in brackets and without `copy` have themselves as their values.
-use Rattle.std.proofs.Common.{◌≡◌, ◌≤◌, ◌∷◌, [], ◌++◌, ℕ, List, map, true, false, nat_le, Option, Some, None}
+use Rattle.std.proofs.Common.{◌≡◌, ◌≤◌, ◌∷◌, [], ◌++◌, ℕ, List, map, false, Option, Some, None}
 use Rattle.std.proofs.Common.{Less, Greater, encode_utf8_all, refl, sym, ap, ◌∙◌, subst, arith, append_assoc}
 use Rattle.std.proofs.Common.{append-nil}
-use Rattle.std.proofs.lemmas.Bool.Decides.{nat_tests}
 use Rattle.std.proofs.lemmas.Cmp.{nat_list_cmp_total}
 use Rattle.std.specs.Ordering.{ordering_reverse}
 use Rattle.std.specs.Prelude.{if◌then◌else◌}
@@ -17,12 +16,13 @@ use Rattle.reading.specs.World.{value_in, reads_in}
 use Rattle.arm_env.specs.Look.{Look, Fact, Looking, Surroundings, all}
 use Rattle.arm_env.specs.Held.{capped}
 use Rattle.arm_env.specs.Object.{object_of}
-use Rattle.arm_expr.specs.Brackets.{plain, is_bracketed, meaning as text_meaning, meaning_in_brackets}
+use Rattle.arm_expr.specs.Brackets.{plain, is_bracketed, meaning as text_meaning, meaning_in_brackets, is_copy}
 use Rattle.arm_eval.specs.Plain.{IsPlain, RowIsPlain, PairsArePlain}
 use Rattle.arm_eval.specs.Trees as trees
-use Rattle.arm_eval.specs.Trees.{tree_value, row_values, own_member, own_members, given_members, said_value, is_copy}
+use Rattle.arm_eval.specs.Trees.{tree_value, row_values, own_member, own_members, given_members, said_value}
 use Rattle.arm_eval.specs.Trees.{array_of, object_by, concat}
 use Rattle.arm_value.proofs.TreeLemmas.{row-items, pairs-members}
+use Rattle.foundation.proofs.Comparisons.{le_true}
 
 -- ---- members in order are put at the end
 
@@ -67,12 +67,9 @@ unfolding all continued both beside
 all-sure [] = refl
 all-sure (x ∷ xs) = ap (λ o. continued (both (sure x) o) (λ p. pure (p.0 ∷ p.1))) (all-sure xs)
 
-within : (n : ℕ) → n ≤ 100 → nat_le n 100 ≡ true
-within n h = grind (arith, nat_tests)
-
 capped-sure : (j : Json) → nesting j ≤ 100 → capped (sure j) ≡ sure j
 unfolding capped continued
-capped-sure j h = ap (λ b. done (if b then Some j else None)) (within (nesting j) h)
+capped-sure j h = ap (λ b. done (if b then Some j else None)) (le_true (nesting j) 100 h)
 
 array-sure : (js : Row) → nesting (array js) ≤ 100 → array_of (map sure (items js)) ≡ sure (array js)
 unfolding continued

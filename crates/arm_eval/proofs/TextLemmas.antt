@@ -13,14 +13,11 @@ use Rattle.arm_expr.specs.declared.expr.Expr.{Expr}
 use Rattle.arm_expr.specs.declared.fault.ExprFault.{ExprFault}
 use Rattle.arm_expr.specs.declared.fault.ExprFault.TheVariants.{TooLong, NotAnExpression, TooDeep, OutOfMemory}
 use Rattle.arm_expr.proofs.Reading.{in_brackets, Found, answered, unbracketed, spelled_once}
-use Rattle.arm_expr.specs.Brackets.{opens, closes, is_bracketed}
-use Rattle.arm_eval.specs.Text.{without_last, inside, tree_read, expression_of}
+use Rattle.arm_expr.specs.Brackets.{opens, closes, is_bracketed, without_last, inside}
+use Rattle.arm_eval.specs.Text.{tree_read, expression_of}
 use Rattle.foundation.proofs.TruthValues.{both}
-
-closes_last : (cs : List ℕ) → closes cs ≡ true → cs ≡ without_last cs ++ 93 ∷ []
-closes_last [] h = cc
-closes_last (c ∷ []) h = ap (λ c. c ∷ []) (eqb-true c 93 h)
-closes_last (c ∷ d ∷ cs) h = ap (λ r. c ∷ r) (closes_last (d ∷ cs) h)
+use Rattle.arm_expr.proofs.BracketLemmas.{closes_last}
+use Rattle.foundation.proofs.Comparisons.{le_of_true}
 
 last_closes : (cs : List ℕ) → closes (cs ++ 93 ∷ []) ≡ true
 last_closes [] = refl
@@ -57,9 +54,6 @@ flat None e h = absurd cc
 flat (Some None) e h = absurd cc
 flat (Some (Some f)) e h = ap Some h
 
-within : (n : ℕ) → nat_le n 24576 ≡ true → n ≤ 24576
-within n h = grind (arith, nat_tests)
-
 le_true : (n : ℕ) → n ≤ 24576 → nat_le n 24576 ≡ true
 le_true n h = grind (arith, nat_tests)
 
@@ -67,7 +61,7 @@ read_by : (t : List ℕ) (e : Tree) (l b : Bool) → nat_le (length t) 24576 ≡
     → (if l && b then tree_read (kept_reading (inside t)) else None) ≡ Some e → IsRead t e
 read_by t e true true h k r =
     let f = answered t (inside t) (Some (Some e)) (brackets t k) (flat (kept_reading (inside t)) e r) in
-    (f.0, (within (length t) h, f.1))
+    (f.0, (le_of_true (length t) 24576 h, f.1))
 read_by t e true false h k r = absurd cc
 read_by t e false b h k r = absurd cc
 

@@ -7,7 +7,7 @@ use Rattle.std.proofs.lemmas.List.{drop_all, length_push}
 use Rattle.std.proofs.lemmas.Str.{chars-append, chars-IsAscii, IsAscii-append}
 use Rattle.std.proofs.lemmas.Fmt.{IsAscii-decimal}
 use Rattle.std.proofs.lemmas.Bool.Decides.{nat_tests}
-use Rattle.foundation.proofs.Lists.{next_character}
+use Rattle.foundation.proofs.Lists.{next_item}
 use Rattle.foundation.proofs.AsciiWords.{one_ascii}
 use Rattle.arm_value.specs.Json.{text}
 use Rattle.arm_ids.specs.Id.{resource, resource_at, is_whole, folded, has_empty_segment, IsResourceId, Refuses}
@@ -25,7 +25,7 @@ pub number_turn : (cs ys : List ℕ) (c : ℕ) (n : Option ℕ)
     → number_from None cs ≡ number_from (grown n c) (drop (length (ys ++ c ∷ [])) cs)
 number_turn cs ys c n t e =
     let long : length (ys ++ c ∷ []) ≡ length ys + 1 = length_push ys c in
-    e ∙ ap (number_from n) (next_character cs (length ys) c t.0 t.1)
+    e ∙ ap (number_from n) (next_item cs (length ys) c t.0 t.1)
     ∙ ap (λ k. number_from (grown n c) (drop k cs)) (sym long)
 
 pub number_end : (cs ys : List ℕ) (n : Option ℕ) → length ys ≡ length cs
@@ -34,7 +34,7 @@ number_end cs ys n l e = sym (e ∙ ap (number_from n) (drop_all (length ys) cs 
 
 -- ---- `n[i]`
 
-in_brackets : (i : ℕ) → i < 2 ^ 64 → IsAscii (codes "[" ++ (decimal i ++ codes "]"))
+pub in_brackets : (i : ℕ) → i < 2 ^ 64 → IsAscii (codes "[" ++ (decimal i ++ codes "]"))
 in_brackets i h =
     IsAscii-append (codes "[") (decimal i ++ codes "]") (one_ascii 91 (lit< tt))
     (IsAscii-append (decimal i) (codes "]") (IsAscii-decimal i h) (one_ascii 93 (lit< tt)))

@@ -1,8 +1,7 @@
 -- Trees that have themselves as their values.
 use Rattle.std.specs.Prelude.{◌≡◌, false}
 use Rattle.arm_value.specs.Json.{Json, null, bool, int, text, array, object, Row, no_items, item, Pairs, no_pairs, pair}
-use Rattle.arm_expr.specs.Brackets.{is_bracketed}
-use Rattle.arm_eval.specs.Trees.{is_copy}
+use Rattle.arm_expr.specs.Brackets.{is_bracketed, is_copy}
 
 -- no text in it is in brackets, and no member in it is named `copy`
 abbrev mutual

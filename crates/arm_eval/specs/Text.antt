@@ -1,21 +1,10 @@
 -- The expression that a text of a template spells.
-use Rattle.std.specs.Prelude.{ℕ, ◌&&◌, nat_le, length, Bool, List, [], ◌∷◌, Option, Some, None}
+use Rattle.std.specs.Prelude.{ℕ, ◌&&◌, nat_le, length, Bool, List, Option, Some, None}
 use Rattle.std.specs.Prelude.{if◌then◌else◌}
 use Rattle.foundation.specs.declared.limits.TheConstants.{MAX_EXPRESSION_CHARACTERS}
-use Rattle.arm_expr.specs.Brackets.{is_bracketed}
+use Rattle.arm_expr.specs.Brackets.{is_bracketed, inside}
 use Rattle.arm_expr.specs.Tree.{Tree}
 use Rattle.arm_expr.specs.Stack.{kept_reading}
-
--- all characters but the last
-abbrev pub without_last : List ℕ → List ℕ
-without_last [] = []
-without_last (c ∷ []) = []
-without_last (c ∷ d ∷ cs) = c ∷ without_last (d ∷ cs)
-
--- the characters between the brackets
-abbrev pub inside : List ℕ → List ℕ
-inside [] = []
-inside (c ∷ cs) = without_last cs
 
 -- whether the text may be an expression: it is in brackets and within the limit
 abbrev pub may_be_expression : List ℕ → Bool

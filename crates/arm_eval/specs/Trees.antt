@@ -10,7 +10,7 @@ use Rattle.function_numbers.specs.Kinds.{text_of}
 use Rattle.reading.specs.Reading.{done, pure, none, continued, both}
 use Rattle.arm_env.specs.declared.env.Looping.{Looping}
 use Rattle.arm_env.specs.Look.{Looking, Surroundings}
-use Rattle.arm_expr.specs.Brackets.{Meaning, plain, an_expression, meaning as text_meaning}
+use Rattle.arm_expr.specs.Brackets.{Meaning, plain, an_expression, meaning as text_meaning, is_copy}
 use Rattle.arm_eval.specs.Text.{expression_of}
 use Rattle.arm_env.specs.Look.{all}
 use Rattle.arm_env.specs.Held.{capped}
@@ -33,9 +33,6 @@ pub record Copy : Type 0 where
   pub name : List ℕ
   pub count : Surroundings → Looking Json
   pub input : Surroundings → Looking Json
-
-abbrev pub is_copy : List ℕ → Bool
-is_copy name = bytes_eq name (codes "copy")
 
 -- the first member of the name
 abbrev pub part_named : List ℕ → List Part → Option Part

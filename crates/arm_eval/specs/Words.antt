@@ -9,7 +9,7 @@ use Rattle.reading.specs.Reading.{joined}
 use Rattle.arm_env.specs.Look.{Looking, Surroundings}
 use Rattle.arm_env.specs.Part.{kept}
 use Rattle.arm_eval.specs.Trees.{Part, Copy, tree_value, own_member, copied, copy_in, concat, names_of, are_new}
-use Rattle.arm_eval.specs.Trees.{differ, is_copy}
+use Rattle.arm_eval.specs.Trees.{differ}
 use Rattle.arm_eval.specs.Outputs as outputs
 use Rattle.arm_eval.specs.declared.outputs.Content.{Content}
 use Rattle.arm_eval.specs.declared.outputs.Content.TheVariants as content
@@ -20,6 +20,7 @@ use Rattle.arm_eval.specs.declared.titles.Titles.{Titles}
 use Rattle.arm_eval.specs.declared.copying.Copying.{Copying}
 use Rattle.arm_eval.specs.declared.whole.Own.{Own}
 use Rattle.arm_eval.specs.declared.whole.Own.TheVariants as own
+use Rattle.arm_expr.specs.Brackets.{is_copy}
 
 -- the loop that the code's parts are
 abbrev pub copying_of : Copying → Copy

@@ -8,6 +8,7 @@ ghost use Rattle.arm_eval.specs.Trees.{parts, looping_of};
 ghost use Rattle.arm_eval.specs.Outputs.{output_loop};
 ghost use Rattle.arm_env.specs.declared.env.Looping.{Looping};
 ghost use Rattle.arm_eval.specs.Words.{copying_of, NestsBelow, tree_in, trees_in, copy_tree};
+ghost use Rattle.arm_expr.specs.Brackets.{is_copy};
 
 use arm_env::env::Looping;
 use arm_env::stop::let_go;
@@ -18,7 +19,7 @@ use std::alloc::Global;
 
 /// Whether it is the name of the member that holds loops.
 pub fn is_copy(name: &Text) -> bool
-    ensures { result ≡ trees.is_copy name.now }
+    ensures { result ≡ is_copy name.now }
 {
     name.as_str() == "copy"
 }

@@ -7,7 +7,8 @@ use lib.Utf8.{encodes}
 use Rattle.std.proofs.lemmas.Bool.Decides.{nat_tests}
 use Rattle.foundation.proofs.AsciiWords.{one_ascii}
 use Rattle.foundation.proofs.TruthValues.{both, unless}
-use Rattle.arm_expr.specs.Brackets.{opens, closes, is_bracketed, meaning, an_expression, plain, escaped}
+use Rattle.arm_expr.specs.Brackets.{opens, closes, is_bracketed, meaning, an_expression, plain, escaped, without_last}
+use Rattle.std.proofs.lemmas.Bool.{eqb-true}
 
 -- in characters
 pub in_characters : (bytes inner : List ℕ) → IsUtf8 inner → bytes ≡ 91 ∷ (inner ++ 93 ∷ [])
@@ -146,3 +147,8 @@ pub meaning_inside : (inner : List ℕ) → opens (inner ++ 93 ∷ []) ≡ false
     → meaning (91 ∷ (inner ++ 93 ∷ [])) ≡ an_expression
 meaning_inside inner e =
     rw (is_bracketed-in (91 ∷ (inner ++ 93 ∷ [])) inner refl) (rw e refl)
+
+pub closes_last : (cs : List ℕ) → closes cs ≡ true → cs ≡ without_last cs ++ 93 ∷ []
+closes_last [] h = cc
+closes_last (c ∷ []) h = ap (λ c. c ∷ []) (eqb-true c 93 h)
+closes_last (c ∷ d ∷ cs) h = ap (λ r. c ∷ r) (closes_last (d ∷ cs) h)

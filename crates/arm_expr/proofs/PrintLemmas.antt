@@ -1,7 +1,7 @@
 -- What is printed spells the expression, and how long it is.
-use Rattle.std.proofs.Common.{◌≡◌, ◌≢◌, ◌<◌, ◌≤◌, ◌+◌, ◌-◌, ◌*◌, ◌/◌, ◌%◌, ◌^◌, zero, suc, pos, negsuc, cond, length}
+use Rattle.std.proofs.Common.{◌≡◌, ◌<◌, ◌≤◌, ◌+◌, ◌-◌, ◌*◌, ◌/◌, ◌%◌, ◌^◌, zero, suc, pos, negsuc, cond, length}
 use Rattle.std.proofs.Common.{length-append, get_or, drop, map, append-nil, append_assoc, lit<, arith, w64, ℕ, ℤ}
-use Rattle.std.proofs.Common.{Bool, true, false, eqb, nat_lt, nat_le, List, [], ◌∷◌, ◌++◌, refl, ap, sym, subst, ◌∙◌}
+use Rattle.std.proofs.Common.{Bool, true, false, eqb, List, [], ◌∷◌, ◌++◌, refl, ap, sym, subst, ◌∙◌}
 use Rattle.std.specs.Fmt.{signed_decimal, decimal}
 use Rattle.std.specs.Str.{chars, IsUtf8, IsAscii}
 use Rattle.std.proofs.lemmas.Str.{chars-append, chars-IsAscii}
@@ -20,6 +20,7 @@ use Rattle.arm_expr.specs.Print.{HaveInts, IsWhole, size, arguments_size}
 use Rattle.arm_expr.proofs.LexerLemmas.{cons_at}
 use Rattle.arm_expr.proofs.LexingSound.{AreDigits-push}
 use Rattle.arm_expr.proofs.ViewLemmas.{tree_of-Text, tree_of-Int, tree_of-Call, tree_of-Member, tree_of-Index}
+use Rattle.foundation.proofs.Comparisons.{last_digit}
 
 -- the decimal digits of a number
 record IsDecimal (n : ℕ) (ds : List ℕ) : Type 0 where
@@ -55,9 +56,6 @@ one_digit n h = record {
   value =
       omega arith;
 }
-
-last_digit : (n : ℕ) → n % 10 < 10
-last_digit n = omega arith
 
 more_digits : (n : ℕ) (ds : List ℕ) → 10 ≤ n → IsDecimal (n / 10) ds → IsDecimal n (ds ++ (48 + n % 10) ∷ [])
 more_digits n ds h p = record {

@@ -1,6 +1,7 @@
 -- Which texts of a template are expressions, and how a plain text is written (Microsoft Learn, "Template expressions",
 -- escape characters).
-use Rattle.std.specs.Prelude.{ℕ, ◌==◌, ◌&&◌, Bool, false, List, [], ◌∷◌, chars, if◌then◌else◌}
+use Rattle.std.specs.Prelude.{ℕ, ◌==◌, ◌&&◌, Bool, false, List, [], ◌∷◌, chars, if◌then◌else◌, Option, Some, None}
+use Rattle.std.specs.Prelude.{bytes_eq, codes}
 use Rattle.arm_expr.specs.declared.brackets.Meaning as meanings
 use Rattle.arm_expr.specs.declared.brackets.Meaning.TheVariants as variant
 
@@ -41,3 +42,19 @@ escaped t = if is_bracketed t then 91 ∷ t else t
 abbrev pub meaning_view : meanings.Meaning → Meaning
 meaning_view variant.Expression = an_expression
 meaning_view (variant.Plain t) = plain (chars t.now)
+
+abbrev pub without_last : List ℕ → List ℕ
+without_last [] = []
+without_last (c ∷ []) = []
+without_last (c ∷ d ∷ cs) = c ∷ without_last (d ∷ cs)
+
+abbrev pub inside : List ℕ → List ℕ
+inside [] = []
+inside (c ∷ cs) = without_last cs
+
+abbrev pub plain_text : Meaning → Option (List ℕ)
+plain_text an_expression = None
+plain_text (plain t) = Some t
+
+abbrev pub is_copy : List ℕ → Bool
+is_copy name = bytes_eq name (codes "copy")

@@ -8,6 +8,7 @@ use Rattle.std.proofs.lemmas.List.{map-append}
 use Rattle.std.proofs.lemmas.List.Splits.{slice_split-cons_yes, slice_split-cons_no}
 use Rattle.arm_value.specs.Look.{fold}
 use Rattle.arm_ids.specs.Segments.{is_slash, segments, slashed, is_empty, has_slash, firsts, seconds, by_turns}
+use Rattle.arm_ids.specs.Segments.{joined}
 use Rattle.arm_ids.proofs.TextLemmas.{onto_segments}
 use Rattle.foundation.proofs.TruthValues.{or_left, or_right, nor}
 
@@ -180,3 +181,14 @@ pub fold-seconds : (xs : List (List ℕ)) → map fold (seconds xs) ≡ seconds 
 fold-seconds [] = refl
 fold-seconds (x ∷ []) = refl
 fold-seconds (x ∷ y ∷ xs) = ap (λ r. fold y ∷ r) (fold-seconds xs)
+
+pub some_joined : (ss : List (List ℕ)) → 0 < length ss → slashed ss ≡ 47 ∷ joined ss
+some_joined [] h = absurd (omega (arith, h))
+some_joined (s ∷ ss) h = refl
+
+pub same_tail : (xs ys : List ℕ) → 47 ∷ xs ≡ 47 ∷ ys → xs ≡ ys
+same_tail xs ys e = cc
+
+pub some_segments : (ss : List (List ℕ)) (t : List ℕ) → slashed ss ≡ 47 ∷ t → 0 < length ss
+some_segments [] t e = absurd (cc)
+some_segments (s ∷ ss) t e = omega arith

@@ -28,3 +28,6 @@ is_refused_member name = is_among refused_members name
 -- whether the type is that of nested deployments, which are no resources of their group
 unfoldable pub is_deployment_type : List ℕ → Bool
 is_deployment_type kind = is_same_folded (codes "Microsoft.Resources/deployments") kind
+
+abbrev pub deployment_type : List ℕ
+deployment_type = codes "Microsoft.Resources/deployments"

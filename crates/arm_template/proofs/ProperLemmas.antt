@@ -1,7 +1,7 @@
 -- The fault of a value is never want of memory: no definition gives that.
 use Rattle.std.proofs.Common.{◌≡◌, ◌||◌, ◌&&◌, ◌+◌, ◌++◌, ℕ, ℤ, pos, negsuc, zero, nat_lt, codes, Bool, true, false}
 use Rattle.std.proofs.Common.{List, [], ◌∷◌, Option, Some, None, option_map, if◌then◌else◌, subst}
-use Rattle.arm_expr.specs.Brackets.{Meaning, an_expression, plain, meaning, is_bracketed}
+use Rattle.arm_expr.specs.Brackets.{Meaning, an_expression, plain, meaning, is_bracketed, is_copy}
 use Rattle.arm_ids.specs.Members.{is_declaration_member, is_refused_member}
 use Rattle.arm_ids.specs.Segments.{has_slash}
 use Rattle.arm_value.specs.Json.{Json, null, bool, int, text, array, object, Row, no_items, item, Pairs, no_pairs, pair}
@@ -189,7 +189,7 @@ loop_part taken seen k j inner p =
 
 value_member : (k : List ℕ) (x y : Option TemplateFault) → Proper x → Proper y → Proper (values.member_fault k x y)
 value_member k x y p q =
-    wrong_or (is_bracketed k) (if values.is_copy k then x else y) (either (values.is_copy k) x y p q)
+    wrong_or (is_bracketed k) (if is_copy k then x else y) (either (is_copy k) x y p q)
 
 mutual
   of_value : (here : Sight) (place : Place) (j : Json) → Proper (values.value_fault here place j)
@@ -392,7 +392,7 @@ all_loops here place owner taken (object ms) = tt
 of_variable : (here : Sight) (place : Place) (taken : List (List ℕ))
     → ProperRule (variables.variable_member here place taken)
 of_variable here place taken k j =
-    either (values.is_copy k) (loops.loops_fault here place Variables taken j) (values.value_fault here place j)
+    either (is_copy k) (loops.loops_fault here place Variables taken j) (values.value_fault here place j)
     (all_loops here place Variables taken j) (of_value here place j)
 
 of_variables : (here : Sight) (place : Place) (j : Json) → Proper (variables.variables_fault here place j)
@@ -407,7 +407,7 @@ of_variables here place (object ms) =
 
 of_argument : (here : Sight) (taken : List (List ℕ)) → ProperRule (arguments.argument_member here taken)
 of_argument here taken k j =
-    either (values.is_copy k) (loops.loops_fault here Elsewhere Argument taken j) _
+    either (is_copy k) (loops.loops_fault here Elsewhere Argument taken j) _
     (all_loops here Elsewhere Argument taken j)
     (or_wrong (is_same_folded (codes "value") k) (values.value_fault here Elsewhere j) (of_value here Elsewhere j))
 
@@ -425,7 +425,7 @@ one_argument here (object ms) =
 of_arguments : (here : Sight) (j : Json) → Proper (arguments.arguments_fault here j)
 of_arguments here j =
     an_object [] every (arguments.arguments_member here) j
-    (λ k a. wrong_or (is_bracketed k || values.is_copy k) (arguments.argument_fault here a) (one_argument here a))
+    (λ k a. wrong_or (is_bracketed k || is_copy k) (arguments.argument_fault here a) (one_argument here a))
 
 -- ---- members of resources
 

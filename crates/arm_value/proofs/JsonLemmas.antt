@@ -1,13 +1,16 @@
 -- Trees, and what stays true of them when a part is added.
 use Rattle.std.proofs.Common.{◌≡◌, ◌≤◌, ℕ, zero, suc, ◌<◌, length, get_or, take, max, List, [], ◌∷◌, ◌++◌, map, refl}
-use Rattle.std.proofs.Common.{ap, sym, ◌∙◌, arith, subst}
+use Rattle.std.proofs.Common.{ap, sym, ◌∙◌, arith, subst, Bool, true, false, Some, cond}
 use Rattle.std.specs.List.Sorted.{IsStrictlySortedBy}
 use Rattle.std.specs.List.{AllByRecursion}
 use Rattle.arm_value.specs.View.{json, member}
 use Rattle.arm_value.specs.declared.value.Value.{Value}
 use Rattle.arm_value.specs.declared.value.Field.{Field}
 use Rattle.arm_value.specs.Json.{Json, Member, keys, nesting, items_nesting, members_nesting, row, pairs}
-use Rattle.arm_value.specs.Json.{RowIsOrderly, PairsAreOrderly, IsOrderly, IsInOrder}
+use Rattle.arm_value.specs.Json.{RowIsOrderly, PairsAreOrderly, IsOrderly, IsInOrder, Pairs, no_pairs, pair}
+use Rattle.arm_value.specs.Json.{pairs_nesting}
+use Rattle.arm_value.specs.Kinds.{row_length}
+use Rattle.arm_value.specs.Look.{first_by}
 
 pub items_nesting-push : (js : List Json) (j : Json) → items_nesting (js ++ j ∷ []) ≡ max (items_nesting js) (nesting j)
 items_nesting-push [] j = omega arith
@@ -77,3 +80,16 @@ pub next_in_order : (fs : List Field) (ms done : List Member) (i : ℕ) (f : Fie
 next_in_order fs ms done i f all ordered h e d =
     subst IsInOrder (sym (map-take member fs (suc i)) ∙ map-take-more member fs i f h e
     ∙ ap (λ r. r ++ member f ∷ []) (sym d)) (IsInOrder-take (map member fs) (suc i) (rw all ordered))
+
+pub row_length_row : (js : List Json) → row_length (row js) ≡ length js
+row_length_row [] = refl
+row_length_row (j ∷ js) = ap suc (row_length_row js)
+
+pub first_by_nests : (p : List ℕ → Bool) (ms : Pairs) (v : Json) → first_by p ms ≡ Some v → nesting v ≤ pairs_nesting ms
+first_by_nests p no_pairs v e = cc
+first_by_nests p (pair k j ms) v e = at_first (p k) e (first_by_nests p ms v)
+  where
+    at_first : (b : Bool) → cond b (Some j) (first_by p ms) ≡ Some v
+        → (first_by p ms ≡ Some v → nesting v ≤ pairs_nesting ms) → nesting v ≤ max (nesting j) (pairs_nesting ms)
+    at_first true e h = let same : j ≡ v = cc in omega (arith, ap nesting same)
+    at_first false e h = omega (arith, h e)

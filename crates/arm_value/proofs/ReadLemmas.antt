@@ -1,10 +1,9 @@
 -- What is read of bytes, by what `serde_json` answers.
-use Rattle.std.proofs.Common.{◌≡◌, ◌≤◌, ◌<◌, ℕ, Bool, true, false, nat_le, List, Option, Some, None, IsUtf8, refl}
-use Rattle.std.proofs.Common.{sym, ap, ◌∙◌, arith}
+use Rattle.std.proofs.Common.{◌≡◌, ◌≤◌, ℕ, Bool, true, false, List, Option, Some, None, IsUtf8, refl}
+use Rattle.std.proofs.Common.{sym, ap, ◌∙◌}
 use Rattle.std.specs.Prelude.{IsSomeAnd}
 use Rattle.std.specs.Str.{is_utf8}
 use Rattle.std.proofs.lemmas.Str.{is_utf8-from_IsUtf8, IsUtf8-from_is_utf8}
-use Rattle.std.proofs.lemmas.Bool.Decides.{nat_tests}
 use Rattle.serde_json.specs.Data.{Data, depth}
 use Rattle.serde_json.specs.Read.{read}
 use Rattle.arm_value.specs.Json.{Json}
@@ -20,12 +19,6 @@ none_by false bytes e h = rw e refl
 
 pub reading_none : (bytes : List ℕ) → (IsUtf8 bytes → read bytes ≡ None) → reading bytes ≡ None
 reading_none bytes h = none_by _ bytes refl h
-
-pub is_beyond : (n : ℕ) → nat_le n 120 ≡ false → 120 < n
-is_beyond n h = grind (arith, nat_tests)
-
-pub is_inside : (n : ℕ) → nat_le n 120 ≡ true → n ≤ 120
-is_inside n h = grind (arith, nat_tests)
 
 pub some_and : (o : Option Data) (d : Data) (P : Data → Type 0) → o ≡ Some d → P d → IsSomeAnd o P
 some_and o d P e p = rw e p

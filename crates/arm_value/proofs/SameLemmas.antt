@@ -66,7 +66,7 @@ mutual
       λ i. pair ((bytes_eq-Decides s t).0 h.0 i) (equal_from_same j k g.0 i) (pairs_equal ms ns g.1 i)
   pairs_equal _ _ e = absurd (true≢false (sym e))
 
-items-row : (js : List Json) → items (row js) ≡ js
+pub items-row : (js : List Json) → items (row js) ≡ js
 items-row [] = refl
 items-row (j ∷ js) = ap (λ r. j ∷ r) (items-row js)
 

@@ -1,6 +1,6 @@
 -- Texts as characters and as bytes.
 use Rattle.std.proofs.Common.{◌≡◌, ◌≤◌, ◌<◌, ℕ, suc, length, get_or, Bool, true, false, nat_lt, List, [], ◌∷◌, ◌++◌}
-use Rattle.std.proofs.Common.{chars, IsUtf8, bytes_eq, refl, sym, ap, ◌∙◌, arith, append-nil, ◌⊎◌, inl, inr}
+use Rattle.std.proofs.Common.{chars, IsUtf8, bytes_eq, refl, sym, ap, ◌∙◌, arith, append-nil, ◌⊎◌, inl, inr, ap₂}
 use lib.Utf8.{encode, encodes}
 use Rattle.std.specs.Char.{to_ascii_lowercase}
 use Rattle.std.proofs.lemmas.Str.{encodes-chars, encodes_same, encode_ascii, inside_one}
@@ -8,6 +8,8 @@ use Rattle.std.proofs.lemmas.Slice.Eq.{bytes_eq-Decides}
 use Rattle.std.proofs.lemmas.Bool.Decides.{nat_tests}
 use Rattle.arm_value.specs.Look.{fold, is_same_folded}
 use Rattle.foundation.proofs.TruthValues.{both_ways}
+use Rattle.std.specs.List.{list_all}
+use Rattle.foundation.proofs.AsciiWords.{utf8_word, word}
 
 chars_same : (a b : List ℕ) → IsUtf8 a → IsUtf8 b → chars a ≡ chars b → a ≡ b
 chars_same a b u v e = sym (encodes-chars a u) ∙ ap encodes e ∙ encodes-chars b v
@@ -71,3 +73,7 @@ pub is_folded : (r : Bool) (a b : List ℕ) → (r ≡ true → fold a ≡ fold 
 is_folded r a b f g =
     both_ways _ _ (λ e. (bytes_eq-Decides (fold a) (fold b)).1 (f e))
     (λ e. g ((bytes_eq-Decides (fold a) (fold b)).0 e))
+
+pub same_bytes : (bytes text w : List ℕ) → IsUtf8 bytes → chars bytes ≡ text → list_all (λ b. nat_lt b 128) w ≡ true
+    → bytes_eq bytes w ≡ bytes_eq text w
+same_bytes bytes text w u e a = bytes_eq-chars bytes w u (utf8_word w a) ∙ ap₂ bytes_eq e (word w a)

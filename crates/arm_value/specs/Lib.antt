@@ -1,10 +1,12 @@
+pub mod Falls
+pub mod Fault
+pub mod Gathered
 pub mod Json
 pub mod JsonCode
-pub mod View
-pub mod Falls
-pub mod Reading
-pub mod Fault
+pub mod Kinds
 pub mod Look
-pub mod Same
 pub mod Place
 pub mod Pointer
+pub mod Reading
+pub mod Same
+pub mod View

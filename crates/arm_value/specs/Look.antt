@@ -2,6 +2,7 @@
 use Rattle.std.specs.Prelude.{ℕ, List, map, bytes_eq, Bool, Option, Some, None, if◌then◌else◌}
 use Rattle.std.specs.Char.{to_ascii_lowercase}
 use Rattle.arm_value.specs.Json.{Json, null, bool, int, text, array, object, Pairs, no_pairs, pair}
+use Rattle.std.specs.List.{list_any}
 
 -- the text with small letters in place of A to Z
 abbrev pub fold : List ℕ → List ℕ
@@ -30,3 +31,6 @@ look name (int z) = None
 look name (text s) = None
 look name (array js) = None
 look name (object ms) = look_in name ms
+
+abbrev pub is_among : List (List ℕ) → List ℕ → Bool
+is_among names name = list_any (is_same_folded name) names

@@ -4,17 +4,15 @@ use Rattle.std.specs.Prelude.{slice_get, bytes_eq, codes, if◌then◌else◌}
 use Rattle.name_set.specs.Names.{is_named}
 use Rattle.bicep_tree.specs.Offset.{label_offset}
 use Rattle.bicep_tree.specs.Symbol.{label_text}
-use Rattle.bicep_tree.specs.Tree.{Tree, ObjectTree, MemberTree, MemberTrees, ValueTree, BodyTree}
+use Rattle.bicep_tree.specs.Tree.{Tree, MemberTree, MemberTrees, ValueTree, BodyTree}
 use Rattle.bicep_tree.specs.Tree.{DeclarationTree, FileTree}
 use Rattle.bicep_tree.specs.Tree as tree
 use Rattle.bicep_arguments.specs.Parameters.{FileParameters, declared_by}
 use Rattle.bicep_arguments.specs.declared.fault.ArgumentFault.{ArgumentFault}
 use Rattle.bicep_arguments.specs.declared.fault.ArgumentFault.TheVariants as fault
+use Rattle.bicep_tree.specs.Declarations.{object_members, body_members}
 
 -- ---- which arguments a module has
-
-abbrev pub object_members : ObjectTree → MemberTrees
-object_members (tree.braces at ms) = ms
 
 -- the members of the object that an expression is, parentheses left out
 abbrev pub object_in : Tree → Option MemberTrees
@@ -44,12 +42,6 @@ params_in (tree.and_member m ms) = first_value (params_of m) (params_in ms)
 abbrev pub arguments_by : Option ValueTree → Option MemberTrees
 arguments_by None = Some tree.no_member
 arguments_by (Some v) = object_of v
-
-abbrev pub body_members : BodyTree → MemberTrees
-body_members (tree.body_plain o) = object_members o
-body_members (tree.body_if at c o) = object_members o
-body_members (tree.body_each l o) = object_members o
-body_members (tree.body_each_if l at c o) = object_members o
 
 -- the arguments in the body of a module
 abbrev pub arguments_of : BodyTree → Option MemberTrees

@@ -4,12 +4,14 @@ ghost use Rattle.bicep_tree.specs.Symbol.{label_text};
 ghost use Rattle.bicep_tree.specs.Tree as tree;
 ghost use Rattle.bicep_tree.specs.View as view;
 ghost use Rattle.bicep_arguments.specs.Arguments as spec;
+ghost use Rattle.bicep_tree.specs.Declarations.{body_members};
+ghost use Rattle.bicep_tree.specs.Declarations.{object_members};
 
 use bicep_tree::{Body, Expr, Label, Member, Object, Value, is_word};
 
 #[tactic(auto, using(bicep_tree::proofs::ViewLemmas::structs))]
 fn object_members(object: &Object) -> &[Member]
-    ensures { tree.members (map view.member_of result.now) ≡ spec.object_members (view.object_of object.now) }
+    ensures { tree.members (map view.member_of result.now) ≡ object_members (view.object_of object.now) }
 {
     object.members.as_slice()
 }
@@ -83,7 +85,7 @@ pub(crate) fn params_in(members: &[Member]) -> Option<&Value>
 /// The members of the body of a module.
 #[tactic(auto, using(bicep_tree::proofs::ViewLemmas::enums))]
 pub(crate) fn body_members(body: &Body) -> &[Member]
-    ensures { tree.members (map view.member_of result.now) ≡ spec.body_members (view.body_of body.now) }
+    ensures { tree.members (map view.member_of result.now) ≡ body_members (view.body_of body.now) }
 {
     match body {
         Body::Plain(object)

@@ -67,7 +67,7 @@ of_unknown files k at e =
 
 -- ---- what is found in files whose names are found
 
-abbrev value_or : {A : Type 0} → A → Found A → A
+abbrev pub value_or : {A : Type 0} → A → Found A → A
 value_or x (found y) = y
 value_or x (unknown at) = x
 

@@ -20,6 +20,7 @@ use Rattle.resolved_program.specs.Faults.{twice_of}
 use Rattle.resolved_program.specs.Unknown.{FileHasUnknown}
 use Rattle.bicep_checks.specs.declared.fault.CheckFault.{CheckFault}
 use Rattle.bicep_checks.specs.declared.fault.CheckFault.TheVariants as fault
+use Rattle.foundation.specs.Options.{or_else}
 
 -- this holds of the file of that number
 pub record OfFile (files : List ProgramFile) (k : ℕ) (P : ProgramFile → Type 0) : Type 0 where
@@ -47,10 +48,6 @@ abbrev pub decorator_in : ProgramFile → Option ℕ
 decorator_in f = bad_in_file f.tree
 
 -- ---- what is misplaced
-
-abbrev pub or_else : Option ℕ → Option ℕ → Option ℕ
-or_else (Some at) o = Some at
-or_else None o = o
 
 -- the first thing that is misplaced whatever names stand for: its place, or its type text
 abbrev pub text_place : ProgramFile → Option ℕ

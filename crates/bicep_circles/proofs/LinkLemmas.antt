@@ -1,7 +1,7 @@
 -- Numbers below a count, and lists of these.
 use Rattle.std.proofs.Common.{◌≡◌, ◌<◌, ℕ, zero, suc, Bool, true, false, List, [], ◌∷◌, length, map, get_or, cond}
 use Rattle.std.proofs.Common.{refl, sym, ap, subst, ◌∙◌, arith, nat_lt}
-use Rattle.std.specs.Prelude.{Contains, Result, Ok, Err, Option, Some, None, IfOk, IfSome, IfNone}
+use Rattle.std.specs.Prelude.{Contains}
 use Rattle.std.specs.declared.vec.Vec.{Vec}
 use Rattle.std.specs.declared.alloc.Global.{Global}
 use Rattle.std.specs.List.{AllByRecursion}
@@ -12,6 +12,7 @@ use Rattle.bicep_program.specs.Graphs.{AreWithin, with_links, unlinked}
 use Rattle.bicep_program.proofs.FileLemmas.{length-map}
 use Rattle.bicep_program.proofs.GraphLemmas.{graph_of_lists}
 use Rattle.bicep_circles.specs.Nodes.{below, all_below}
+use Rattle.foundation.proofs.Lists.{contained_further}
 
 abbrev pub items_of : Vec ℕ Global → List ℕ
 items_of v = v.items
@@ -52,22 +53,13 @@ pub graph_is : (vs : List (Vec ℕ Global)) (g : Shape) → g ≡ with_links (un
 unfolding graph_of_lists
 graph_is vs g h = h ∙ ap (λ n. with_links (unlinked n) 0 (map items_of vs)) (sym (length-map items_of vs))
 
--- there are as many lists as before
-pub as_many : (vs us : List (Vec ℕ Global)) → map items_of vs ≡ all_below (map items_of us) → length vs ≡ length us
-as_many vs us e =
-    sym (length-map items_of vs) ∙ ap length e ∙ length-map (below (length (map items_of us))) (map items_of us)
-    ∙ length-map items_of us
-
 -- ---- circles stay
-
-further : (x : ℕ) (ms : List ℕ) (y : ℕ) → Contains ms y → Contains (x ∷ ms) y
-further x ms y (k, within, here) = (suc k, omega (arith, within), here)
 
 listed_by : (b : Bool) (x : ℕ) (ms rest : List ℕ) (y : ℕ) → (Contains rest y → Contains ms y)
     → Contains (cond b (x ∷ rest) rest) y → Contains (x ∷ ms) y
 listed_by true x ms rest y f (zero, within, here) = (zero, omega arith, here)
-listed_by true x ms rest y f (suc k, within, here) = further x ms y (f (k, omega (arith, within), here))
-listed_by false x ms rest y f c = further x ms y (f c)
+listed_by true x ms rest y f (suc k, within, here) = contained_further x ms y (f (k, omega (arith, within), here))
+listed_by false x ms rest y f c = contained_further x ms y (f c)
 
 -- what is left was in the list
 listed : (n : ℕ) (ms : List ℕ) (y : ℕ) → Contains (below n ms) y → Contains ms y
@@ -77,7 +69,7 @@ listed n (x ∷ ms) y c = listed_by (nat_lt x n) x ms (below n ms) y (listed n m
 left_by : (b : Bool) (n x : ℕ) (ms rest : List ℕ) (y : ℕ) → nat_lt x n ≡ b → y < n
     → (Contains ms y → Contains rest y) → Contains (x ∷ ms) y → Contains (cond b (x ∷ rest) rest) y
 left_by true n x ms rest y e h f (zero, within, here) = (zero, omega arith, here)
-left_by true n x ms rest y e h f (suc k, within, here) = further x rest y (f (k, omega (arith, within), here))
+left_by true n x ms rest y e h f (suc k, within, here) = contained_further x rest y (f (k, omega (arith, within), here))
 left_by false n x ms rest y e h f (zero, within, here) =
     let large = le_of_false x n e in let same : x ≡ y = here in absurd (omega (arith, h, large, same))
 left_by false n x ms rest y e h f (suc k, within, here) = f (k, omega (arith, within), here)
@@ -114,36 +106,8 @@ chain_was n lists [] end c = c
 chain_was n lists (x ∷ []) end c = link_was n lists x end c
 chain_was n lists (x ∷ y ∷ xs) end c = (link_was n lists x y c.0, chain_was n lists (y ∷ xs) end c.1)
 
-chain_left : (lists : List (List ℕ)) (xs : List ℕ) (end : ℕ) → end < length lists → Chain (Links lists) xs end
-    → Chain (Links (all_below lists)) xs end
-chain_left lists [] end h c = c
-chain_left lists (x ∷ []) end h c = link_left (length lists) lists x end h c
-chain_left lists (x ∷ y ∷ xs) end h c =
-    (link_left (length lists) lists x y (first_within lists y xs end c.1) c.0, chain_left lists (y ∷ xs) end h c.1)
-
 -- circles are the same without the numbers that are too large
 pub circle_was : (lists : List (List ℕ)) (xs : List ℕ) → IsCircle (Links (all_below lists)) xs
     → IsCircle (Links lists) xs
 circle_was lists [] c = c
 circle_was lists (x ∷ xs) c = chain_was (length lists) lists (x ∷ xs) x c
-
-pub circle_left : (lists : List (List ℕ)) (xs : List ℕ) → IsCircle (Links lists) xs
-    → IsCircle (Links (all_below lists)) xs
-circle_left lists [] c = c
-circle_left lists (x ∷ xs) c = chain_left lists (x ∷ xs) x (first_within lists x xs x c) c
-
-pub circle_stays : {E : Type 0} (r : Result (Option (Vec ℕ Global)) E) (now lists : List (List ℕ))
-    → now ≡ all_below lists → IfOk r (λ o. IfSome o (λ c. IsCircle (Links now) c.items))
-    → IfOk r (λ o. IfSome o (λ c. IsCircle (Links lists) c.items))
-circle_stays (Ok (Some c)) now lists e h =
-    circle_was lists c.items (subst (λ ls. IsCircle (Links ls) c.items) e h)
-circle_stays (Ok None) now lists e h = h
-circle_stays (Err x) now lists e h = h
-
-pub none_stays : {E : Type 0} (r : Result (Option (Vec ℕ Global)) E) (now lists : List (List ℕ))
-    → now ≡ all_below lists → IfOk r (λ o. IfNone o ((xs : List ℕ) → IsCircle (Links now) xs → ⊥))
-    → IfOk r (λ o. IfNone o ((xs : List ℕ) → IsCircle (Links lists) xs → ⊥))
-none_stays (Ok (Some c)) now lists e h = h
-none_stays (Ok None) now lists e h =
-    λ xs c. h xs (subst (λ ls. IsCircle (Links ls) xs) (sym e) (circle_left lists xs c))
-none_stays (Err x) now lists e h = h

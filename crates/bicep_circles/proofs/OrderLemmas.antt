@@ -1,16 +1,16 @@
 -- Orders of the graph of lists are orders of the lists.
-use Rattle.std.proofs.Common.{◌≡◌, ◌+◌, ◌⊎◌, inl, inr, ℕ, Bool, true, false, true≢false, List, []}
-use Rattle.std.proofs.Common.{◌∷◌, length, get_or, refl, sym, ap, subst, ◌∙◌, arith}
+use Rattle.std.proofs.Common.{◌≡◌, ◌+◌, ◌⊎◌, inl, inr, ℕ, true, true≢false, List, []}
+use Rattle.std.proofs.Common.{◌∷◌, length, refl, sym, subst, ◌∙◌, arith}
 use Rattle.std.specs.Prelude.{Result, Ok, Err, IfOk}
-use Rattle.depend_graph.specs.Shape.{Shape, Needs, is_done, with_edge}
+use Rattle.depend_graph.specs.Shape.{Shape, is_done}
 use Rattle.depend_graph.specs.Orders.{IsOrder, IsSorted, IsAmong}
 use Rattle.depend_graph.specs.declared.order.Sorted.{Sorted}
 use Rattle.depend_graph.specs.declared.order.Sorted.TheVariants as sorted
-use Rattle.depend_graph.proofs.Keeping.{get_or-replicate, length-replicate}
-use Rattle.bicep_program.specs.Circles.{Links}
+use Rattle.depend_graph.proofs.Keeping.{length-replicate}
 use Rattle.bicep_program.specs.Graphs.{with_needs, with_links, unlinked}
 use Rattle.bicep_program.proofs.FileLemmas.{length-map}
-use Rattle.bicep_program.proofs.GraphLemmas.{graph_of_lists, links_to, size_needs, circle_from}
+use Rattle.bicep_program.proofs.GraphLemmas.{graph_of_lists, size_needs, circle_from}
+use Rattle.bicep_program.proofs.GraphLemmas.{need_of_link, none_done}
 use Rattle.bicep_circles.specs.Nodes.{below, all_below}
 use Rattle.bicep_circles.specs.Orders.{IsLinkOrder, AreSorted}
 use Rattle.bicep_circles.proofs.LinkLemmas.{circle_was, link_left}
@@ -19,27 +19,9 @@ size_links : (g : Shape) (node : ℕ) (lists : List (List ℕ)) → length (with
 size_links g node [] = refl
 size_links g node (l ∷ lists) = size_links (with_needs g node l) (node + 1) lists ∙ size_needs g node l
 
-done_needs : (g : Shape) (a : ℕ) (bs : List ℕ) → (with_needs g a bs).done ≡ g.done
-done_needs g a [] = refl
-done_needs g a (b ∷ bs) = done_needs (with_edge g a b) a bs
-
-done_links : (g : Shape) (node : ℕ) (lists : List (List ℕ)) → (with_links g node lists).done ≡ g.done
-done_links g node [] = refl
-done_links g node (l ∷ lists) = done_links (with_needs g node l) (node + 1) lists ∙ done_needs g node l
-
 size_of_graph : (lists : List (List ℕ)) → length (graph_of_lists lists).needs ≡ length lists
 unfolding graph_of_lists
 size_of_graph lists = size_links (unlinked (length lists)) 0 lists ∙ length-replicate {A = List ℕ} (length lists) []
-
-none_done : (lists : List (List ℕ)) (u : ℕ) → is_done (graph_of_lists lists) u ≡ false
-unfolding graph_of_lists
-none_done lists u = ap (λ d. get_or d u false) (done_links (unlinked (length lists)) 0 lists)
-    ∙ get_or-replicate {A = Bool} (length lists) u false
-
-need_of_link : (lists : List (List ℕ)) (u v : ℕ) → Links lists u v → Needs (graph_of_lists lists) u v
-unfolding graph_of_lists
-need_of_link lists u v c = let e : 0 + u ≡ u = omega arith in
-    rw e at (links_to (unlinked (length lists)) 0 lists u v (rw length-replicate (omega arith)) c)
 
 -- what is done or among these is among these, since nothing is done
 among : (lists : List (List ℕ)) (order : List ℕ) (count u : ℕ)

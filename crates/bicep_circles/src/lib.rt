@@ -6,7 +6,6 @@
 //! of symbols.
 #![tactic(auto)]
 
-mod cycles;
 mod declarations;
 mod graph;
 pub mod laws;
@@ -14,6 +13,5 @@ mod links;
 mod mentions;
 mod order;
 
-pub use cycles::symbol_cycle;
 pub use links::symbol_links;
 pub use order::symbol_order;

@@ -1,8 +1,6 @@
 -- Declarations that are found one after another.
-use Rattle.std.proofs.Common.{◌≡◌, List, [], ◌∷◌, map, refl, sym, ap, subst, ◌∙◌}
-use Rattle.std.specs.Prelude.{Result}
-use Rattle.bicep_found.specs.declared.stop.Stop.{Stop}
-use Rattle.bicep_found.specs.Found.{Found, found, unknown, mapped, all_found, Gives}
+use Rattle.std.proofs.Common.{◌≡◌, List, [], ◌∷◌, map, refl, sym, ap, ◌∙◌}
+use Rattle.bicep_found.specs.Found.{Found, found, unknown, mapped, all_found}
 use Rattle.bicep_names.specs.Scope.{Scope}
 use Rattle.bicep_declared.specs.declared.sites.Site.{Site}
 use Rattle.bicep_declared.specs.Declarations.{DeclaredTree, OutputTree}
@@ -25,11 +23,6 @@ pub mapped-same : {A : Type 0} (f : Found A) → mapped (λ x. x) f ≡ f
 unfolding mapped
 mapped-same (found x) = refl
 mapped-same (unknown at) = refl
-
--- what an answer says of a tree, it says of an equal one
-pub of_equal : {R B : Type 0} (whole : R → B) (r : Result R Stop) (f g : Found B) → f ≡ g → Gives whole r g
-    → Gives whole r f
-of_equal whole r f g e h = subst (Gives whole r) (sym e) h
 
 -- all that is found of the items is what is found of their trees
 pub all_after : {E D A : Type 0} (part : D → Found (List A)) (tree : E → D) (es : List E)

@@ -20,6 +20,7 @@ use Rattle.bicep_decorators.specs.declared.kind.DecoratorKind.{DecoratorKind}
 use Rattle.bicep_decorators.specs.declared.kind.DecoratorKind.TheVariants as k
 use Rattle.bicep_decorators.specs.declared.place.Place.{Place}
 use Rattle.bicep_decorators.specs.declared.place.Place.TheVariants as place
+use Rattle.foundation.specs.Options.{or_else}
 
 -- the decorators that bound a value or a loop, by their names, letter by letter
 unfoldable pub bound_named : List ℕ → Option DecoratorKind
@@ -194,10 +195,6 @@ place_of (a_resource r) = resource_place r
 place_of (a_module at n path b) = body_place b
 
 -- ---- files
-
-abbrev pub or_else : Option ℕ → Option ℕ → Option ℕ
-or_else (Some at) o = Some at
-or_else None o = o
 
 -- the first bad decorator of the resources that are nested in a resource
 abbrev mutual

@@ -15,7 +15,8 @@ use Rattle.bicep_mentions.proofs.ThroughLemmas.{nothing}
 use Rattle.bicep_mentions.proofs.OrderLemmas.{mentions_settle, has_place}
 use Rattle.bicep_dependencies.specs.Dependencies.{is_target, depends_on, has, AreDependencies}
 use Rattle.bicep_dependencies.specs.Steps.{any_leads}
-use Rattle.bicep_dependencies.proofs.LeadLemmas.{and_false, any_leads_as}
+use Rattle.bicep_dependencies.proofs.LeadLemmas.{any_leads_as}
+use Rattle.foundation.proofs.TruthValues.{and_false_is}
 
 -- the list of that number has the dependencies of the symbol
 abbrev IsRight : List Kind → List DeclaredTree → List (List ℕ) → ℕ → Type 0
@@ -40,7 +41,7 @@ module _ (xs : List Kind) (ds : List DeclaredTree) (order : List ℕ) where
           ap (λ ls. has (get_or ls m []) n) e
           ∙ ap (λ l. has l n) (get_or-replicate {A = List ℕ} (length ds) m [])
           ∙ sym (ap (λ b. is_target (slice_get ds n) && b) (nothing xs ds (length ds) m n h)
-          ∙ and_false (is_target (slice_get ds n)))
+          ∙ and_false_is (is_target (slice_get ds n)))
 
   module _ (o : IsLinkOrder (links xs ds) order) where
     -- what the mentions of the next symbol lead to is what it depends on

@@ -10,10 +10,7 @@ use Rattle.bicep_mentions.specs.Entries.{is_variable}
 use Rattle.bicep_mentions.specs.Through.{Mentioning, leads_to}
 use Rattle.bicep_dependencies.specs.Dependencies.{is_target, has}
 use Rattle.bicep_dependencies.specs.Steps.{leads_by, any_leads}
-
-pub and_false : (t : Bool) → (t && false) ≡ false
-and_false true = refl
-and_false false = refl
+use Rattle.foundation.proofs.TruthValues.{and_false_is}
 
 none_by : (t b : Bool) → (b ≡ true → t ≡ false) → false ≡ (t && (b || false))
 none_by true true h = absurd (true≢false (h refl))
@@ -63,7 +60,7 @@ module _ (ds : List DeclaredTree) (mentioned : Mentioning) (n : ℕ) where
       → ((m : ℕ) → Contains ms m
       → has (slice_index_or lists m []) n ≡ (is_target (slice_get ds n) && mentioned m n))
       → any_leads ds lists n ms ≡ (is_target (slice_get ds n) && list_any (leads_to ds mentioned n) ms)
-  any_leads_as lists [] h = sym (and_false (is_target (slice_get ds n)))
+  any_leads_as lists [] h = sym (and_false_is (is_target (slice_get ds n)))
   any_leads_as lists (m ∷ ms) h =
       ap₂ (λ a b. a || b)
       (leads_as m (slice_get ds m) (slice_index_or lists m []) refl (h m (zero, omega arith, refl)))

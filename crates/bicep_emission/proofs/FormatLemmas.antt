@@ -15,6 +15,7 @@ use Rattle.bicep_resolved.specs.Source.{PieceTrees}
 use Rattle.bicep_resolved.specs.Source as s
 use Rattle.bicep_meaning.specs.Meaning.{joined}
 use Rattle.bicep_emission.specs.Texts.{doubled_onto, hole_onto, format_text}
+use Rattle.foundation.proofs.Comparisons.{last_digit}
 
 -- ---- digits
 
@@ -66,9 +67,6 @@ one_digit n h = record {
   value = ap (λ o. option_and_then (λ m. Some m) o) (digit_of 0 (48 + n) (a_digit n h))
       ∙ ap (λ (m : ℕ). Some m) (omega arith);
 }
-
-last_digit : (n : ℕ) → n % 10 < 10
-last_digit n = omega arith
 
 more_digits : (n : ℕ) (ds : List ℕ) → 10 ≤ n → IsSpelled (n / 10) ds → IsSpelled n (ds ++ (48 + n % 10) ∷ [])
 more_digits n ds h p = record {

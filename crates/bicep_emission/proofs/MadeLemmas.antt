@@ -1,7 +1,6 @@
 -- Ids that `resourceId` makes of a type and names.
-use Rattle.std.proofs.Common.{◌≡◌, ◌<◌, ℕ, suc, length, List, [], ◌∷◌, ◌++◌, Some, None, Bool, true, false}
+use Rattle.std.proofs.Common.{◌≡◌, ℕ, suc, length, List, [], ◌∷◌, ◌++◌, Some, None, Bool, true, false}
 use Rattle.std.proofs.Common.{refl, sym, ap, ◌∙◌, subst, cond, ◌||◌, ◌&&◌, not, arith}
-use Rattle.std.proofs.lemmas.Bool.Decides.{nat_tests}
 use Rattle.std.specs.Prelude.{◌==◌, nat_lt, option_map, if◌then◌else◌}
 use Rattle.std.specs.List.{list_any, onto_first}
 use Rattle.arm_ids.specs.Id.{is_whole, has_empty_segment, text_of, folded, IsResourceId}
@@ -13,7 +12,7 @@ use Rattle.arm_ids.proofs.SegmentLemmas.{segments_cut}
 use Rattle.arm_ids.proofs.TextLemmas.{some_segment}
 use Rattle.arm_env.specs.Id.{id_in_group, resource_id, with_group}
 use Rattle.foundation.proofs.TruthValues.{both, unless, or_left, or_right}
-use Rattle.foundation.proofs.Comparisons.{lt_true}
+use Rattle.foundation.proofs.Comparisons.{lt_true, eq_of_true, positive}
 use Rattle.arm_env.specs.Find.{id_key}
 use Rattle.deploy_cells.specs.Puts.{key_formed}
 use Rattle.bicep_emission.specs.Made.{made, is_made, made_whole}
@@ -59,16 +58,13 @@ two_segments : (t : List ℕ) → has_slash t ≡ true → HasTwo t
 two_segments [] e = absurd cc
 two_segments (c ∷ cs) e = two_by c cs (two_segments cs) (is_slash c) refl e
 
-equal_lengths : (m n : ℕ) → (m == n) ≡ true → m ≡ n
-equal_lengths m n e = grind (arith, nat_tests)
-
 two_is_not_one : (n : ℕ) → suc (suc n) ≡ 1 → ⊥
 two_is_not_one n e = omega arith
 
 -- names for such types are there
 some_names : (a b : List ℕ) (rest ns : List (List ℕ)) → (length (a ∷ b ∷ rest) == suc (length ns)) ≡ true
     → nat_lt 0 (length ns) ≡ true
-some_names a b rest [] e = absurd (two_is_not_one (length rest) (equal_lengths (suc (suc (length rest))) 1 e))
+some_names a b rest [] e = absurd (two_is_not_one (length rest) (eq_of_true (suc (suc (length rest))) 1 e))
 some_names a b rest (n ∷ ns) e = lt_true 0 (suc (length ns)) (omega arith)
 
 are_some : (kind : List ℕ) (ns : List (List ℕ)) → has_slash kind ≡ true
@@ -109,9 +105,6 @@ not_false : (b : Bool) → not b ≡ true → b ≡ false
 not_false true e = absurd cc
 not_false false e = refl
 
-positive : (n : ℕ) → nat_lt 0 n ≡ true → 0 < n
-positive n e = grind (arith, nat_tests)
-
 is_id : (place : Place) (kind : List ℕ) (ns : List (List ℕ)) → is_made place kind ns ≡ true
     → IsResourceId (made place kind ns)
 is_id place kind ns e =
@@ -120,7 +113,7 @@ is_id place kind ns e =
     ((length (segments kind) == suc (length ns)) && nat_lt 0 (length ns)) a.0 in
     let c = both (length (segments kind) == suc (length ns)) (nat_lt 0 (length ns)) b.1 in record {
       filled = not_false (has_empty_segment (made place kind ns)) b.0;
-      paired = equal_lengths (length (segments kind)) (suc (length ns)) c.0;
+      paired = eq_of_true (length (segments kind)) (suc (length ns)) c.0;
       named = positive (length ns) c.1;
       types_cut = segments_cut kind;
       names_cut = not_false (list_any has_slash ns) a.1;
@@ -146,7 +139,7 @@ too_many : (s g : List ℕ) (ts ns : List (List ℕ)) → length ts ≡ 2 → (a
 too_many s g ts ns h a b rest e =
     ap (λ q. not (has_empty_segment (record { subscription = s; group = g; types = ts; names = ns })) &&
     (q && nat_lt 0 (length ns)))
-    (unless (length ts == suc (length ns)) (λ q. three (equal_lengths (length ts) (suc (length ns)) q) (ap length e)))
+    (unless (length ts == suc (length ns)) (λ q. three (eq_of_true (length ts) (suc (length ns)) q) (ap length e)))
     ∙ and_nothing (not (has_empty_segment (record { subscription = s; group = g; types = ts; names = ns })))
   where
     three : length ts ≡ suc (length ns) → length ns ≡ suc (suc (length rest)) → ⊥

@@ -5,10 +5,10 @@ use Rattle.std.specs.Prelude.{not, option_map, option_and_then, is_some, slice_g
 use Rattle.std.specs.List.{list_any}
 use Rattle.std.proofs.lemmas.Option.{none-some}
 use Rattle.foundation.proofs.Comparisons.{le_true}
-use Rattle.foundation.proofs.TruthValues.{both, or_left, or_right}
+use Rattle.foundation.proofs.TruthValues.{both, or_left, or_right, of_not}
 use Rattle.foundation.proofs.Words.{swapped}
 use Rattle.arm_value.specs.Json.{Json, text}
-use Rattle.arm_value.specs.Look.{fold, is_same_folded}
+use Rattle.arm_value.specs.Look.{fold, is_same_folded, is_among}
 use Rattle.arm_expr.specs.Tree.{Trees, call}
 use Rattle.arm_functions.specs.Table.{row_of}
 use Rattle.arm_functions.specs.Values.{function_value}
@@ -16,7 +16,7 @@ use Rattle.function_texts.specs.Cuts as cuts
 use Rattle.function_numbers.specs.Kinds.{text_of, of_none}
 use Rattle.reading.specs.Reading.{done, none, continued}
 use Rattle.arm_env.specs.Look as look
-use Rattle.arm_env.specs.Look.{Look, Fact, Looking, Surroundings}
+use Rattle.arm_env.specs.Look.{Looking, Surroundings}
 use Rattle.arm_env.specs.Names.{lazy_named, strict_named, placed_named}
 use Rattle.arm_env.specs.Id.{resource_id, subscription_id}
 use Rattle.arm_env.specs.Object as object
@@ -28,7 +28,7 @@ use Rattle.expression_values.specs.Row as row
 use Rattle.expression_values.specs.Meaning.{held, value, values, used, called, call_by, strict_call, strict_row}
 use Rattle.expression_values.proofs.Equations.{lazy_call}
 use Rattle.deploy_cells.specs.Guarded.{Reads}
-use Rattle.bicep_names.specs.Functions.{reserved, is_among, may_call}
+use Rattle.bicep_names.specs.Functions.{reserved, may_call}
 use Rattle.bicep_meaning.specs.Rows as rows
 use Rattle.bicep_meaning.specs.Rows.{all, placed_value, value_by, coalesced}
 use Rattle.bicep_emission.specs.Alike.{Seen, seen_in}
@@ -40,6 +40,7 @@ use Rattle.bicep_emission.proofs.AccessLemmas.{used_continued, keep_done}
 use Rattle.bicep_emission.proofs.CallLemmas.{Like, AllLike, seen, seen-on, seen-capped-on, like_done, like_all}
 use Rattle.bicep_emission.proofs.CallLemmas.{like_capped}
 use Rattle.bicep_emission.proofs.OperatorLemmas.{first_like}
+use Rattle.function_texts.specs.Cuts.{texts_in}
 
 -- ---- names
 
@@ -54,13 +55,9 @@ not_there p [] (suc i) w e h = absurd (none-some w h)
 not_there p (v ∷ ws) zero w e h = subst (λ v. p v ≡ false) (same_item v w h) (or_left (p v) (list_any p ws) e)
 not_there p (v ∷ ws) (suc i) w e h = not_there p ws i w (or_right (p v) (list_any p ws) e) h
 
-not_true : (b : Bool) → not b ≡ true → b ≡ false
-not_true true e = absurd cc
-not_true false e = refl
-
 none_of : (name : List ℕ) → may_call name ≡ true → list_any (is_same_folded name) reserved ≡ false
 unfolding may_call
-none_of name e = not_true (is_among reserved name) (both (not (is_among reserved name)) (is_some (row_of name)) e).0
+none_of name e = of_not (is_among reserved name) (both (not (is_among reserved name)) (is_some (row_of name)) e).0
 
 -- the name is not this reserved one
 is_not : (name : List ℕ) → may_call name ≡ true → (i : ℕ) (w : List ℕ) → slice_get reserved i ≡ Some w
@@ -126,8 +123,8 @@ is_placed name =
     (chosen_placed (is_same_folded (codes "deployment") name) strict.Deployment None tt tt))))
 
 -- the texts of values, by either definition
-same_texts : (vs : List Json) → row.texts_in vs ≡ cuts.texts_in vs
-unfolding row.texts_in cuts.texts_in
+same_texts : (vs : List Json) → texts_in vs ≡ cuts.texts_in vs
+unfolding texts_in cuts.texts_in
 same_texts [] = refl
 same_texts (v ∷ vs) = ap (λ o. option_and_then (λ t. option_map (λ ts. t ∷ ts) o) (text_of v)) (same_texts vs)
 
@@ -157,9 +154,9 @@ module _ (x : Sides) (here : Surroundings) where
 
   pub placed_row : (f : Strict) → IsPlaced (Some f) → (vs : List Json)
       → sees (used (strict_row here f vs)) ≡ done_seen (kept_of (placed_value here.place f vs))
-  placed_row strict.ResourceId h vs = by_texts (resource_id here.place) (row.texts_in vs)
+  placed_row strict.ResourceId h vs = by_texts (resource_id here.place) (texts_in vs)
       ∙ ap (λ o. done_seen (kept_of (option_map text (option_and_then (resource_id here.place) o)))) (same_texts vs)
-  placed_row strict.SubscriptionResourceId h vs = by_texts (subscription_id here.place) (row.texts_in vs)
+  placed_row strict.SubscriptionResourceId h vs = by_texts (subscription_id here.place) (texts_in vs)
       ∙ ap (λ o. done_seen (kept_of (option_map text (option_and_then (subscription_id here.place) o)))) (same_texts vs)
   placed_row strict.ResourceGroup h vs = of_value (of_none (object.resource_group here.place) vs)
   placed_row strict.Subscription h vs = of_value (of_none (object.subscription here.place) vs)
@@ -224,10 +221,10 @@ module _ (x : Sides) (here : Surroundings) where
 
   pub plain_row : (f : Strict) → IsPlaced (Some f) → (vs : List Json)
       → IsPlain x.template x.template_marks (strict_row here f vs)
-  plain_row strict.ResourceId h vs = plain_continued x.template x.template_marks (done (row.texts_in vs))
+  plain_row strict.ResourceId h vs = plain_continued x.template x.template_marks (done (texts_in vs))
       (λ ts. held_value (done (option_map text (resource_id here.place ts))))
       (λ ts. plain_value x.template x.template_marks (done (option_map text (resource_id here.place ts))))
-  plain_row strict.SubscriptionResourceId h vs = plain_continued x.template x.template_marks (done (row.texts_in vs))
+  plain_row strict.SubscriptionResourceId h vs = plain_continued x.template x.template_marks (done (texts_in vs))
       (λ ts. held_value (done (option_map text (subscription_id here.place ts))))
       (λ ts. plain_value x.template x.template_marks (done (option_map text (subscription_id here.place ts))))
   plain_row strict.ResourceGroup h vs =

@@ -36,7 +36,7 @@ use Rattle.deploy_cells.specs.Listing.{Sought, found, left_away, not_here, sough
 use Rattle.bicep_meaning.specs.Around.{Here}
 use Rattle.bicep_meaning.specs.Rows as rows
 use Rattle.bicep_meaning.specs.Rows.{all}
-use Rattle.bicep_meaning.specs.Meaning.{id_text, module_key, deployment_type, instance_output, found_output}
+use Rattle.bicep_meaning.specs.Meaning.{id_text, module_key, instance_output, found_output}
 use Rattle.bicep_meaning.specs.Meaning.{output_at, output_value, has_key}
 use Rattle.bicep_emission.specs.Alike.{Seen, after, seen_in}
 use Rattle.bicep_emission.specs.Answered.{IsPlainPlace, Sides, Answers, IsAnswered, IsInstance, IsFound, IsListed}
@@ -53,6 +53,7 @@ use Rattle.bicep_emission.proofs.CallLemmas.{seen-front, seen-empty, front_seen}
 use Rattle.bicep_emission.proofs.ListLemmas.{whole_seen}
 use Rattle.bicep_emission.proofs.NamedCallLemmas.{strict_like}
 use Rattle.bicep_emission.proofs.StateLemmas.{IsReadable, reference_held, used_of, answered_like}
+use Rattle.arm_ids.specs.Members.{deployment_type}
 
 -- the id of a nested deployment by its name
 abbrev pub deployment_made : Here → Json → Option ResourceId

@@ -4,7 +4,7 @@ use Rattle.std.specs.Prelude.{◌&&◌, ◌||◌, not, bytes_eq, is_some, if◌t
 use Rattle.std.specs.List.{list_any}
 use Rattle.foundation.proofs.Words.{eq_word}
 use Rattle.arm_value.specs.Json.{Json}
-use Rattle.arm_value.specs.Look.{fold, is_same_folded}
+use Rattle.arm_value.specs.Look.{fold, is_same_folded, is_among}
 use Rattle.arm_ids.specs.declared.id.Place.{Place}
 use Rattle.arm_functions.specs.Table.{Row, table, row_in, row_of}
 use Rattle.arm_functions.specs.Values as functions
@@ -13,7 +13,7 @@ use Rattle.arm_env.specs.declared.function.Strict.{Strict}
 use Rattle.arm_env.specs.declared.function.Strict.TheVariants as strict
 use Rattle.reading.specs.Reading.{done, continued}
 use Rattle.deploy_cells.specs.Guarded.{Reads}
-use Rattle.bicep_names.specs.Functions.{reserved, is_among, may_call}
+use Rattle.bicep_names.specs.Functions.{reserved, may_call}
 use Rattle.bicep_meaning.specs.Rows.{all, value_by, coalesced, called}
 use Rattle.bicep_emission.specs.Spelled.{capitals, spelling_in, spelled_or, spelled}
 

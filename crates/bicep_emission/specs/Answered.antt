@@ -11,7 +11,8 @@ use Rattle.deploy_cells.specs.Cells.{Cell, World, step}
 use Rattle.deploy_cells.specs.Listing.{Sought, found, left_away, not_here, sought}
 use Rattle.bicep_meaning.specs.Files.{symbol_name}
 use Rattle.bicep_meaning.specs.Around.{Here}
-use Rattle.bicep_meaning.specs.Meaning.{has_key, deployment_type}
+use Rattle.bicep_meaning.specs.Meaning.{has_key}
+use Rattle.arm_ids.specs.Members.{deployment_type}
 
 -- neither the subscription nor the group of a place has a slash
 pub record IsPlainPlace (place : Place) : Type 0 where

@@ -22,9 +22,10 @@ use Rattle.bicep_resolved.specs.Source.{SourceTree, SourceTrees, PieceTrees, Pro
 use Rattle.bicep_resolved.specs.Source as s
 use Rattle.bicep_resolved.specs.Target.{number_of, target_of}
 use Rattle.bicep_meaning.specs.Files.{SourceFile, symbol_name, type_of}
-use Rattle.bicep_meaning.specs.Meaning.{file_of, deployment_type}
+use Rattle.bicep_meaning.specs.Meaning.{file_of}
 use Rattle.bicep_emission.specs.Spelled.{spelled}
 use Rattle.bicep_emission.specs.Texts.{format_text}
+use Rattle.arm_ids.specs.Members.{deployment_type}
 
 -- ---- calls
 

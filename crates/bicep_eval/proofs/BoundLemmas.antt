@@ -1,20 +1,19 @@
 -- The values and members of a list of parts nest at most 100 deep, since each part is capped.
-use Rattle.std.proofs.Common.{◌≡◌, ◌≤◌, ℕ, zero, suc, List, [], ◌∷◌, true, nat_le, Option, Some, None}
+use Rattle.std.proofs.Common.{◌≡◌, ◌≤◌, ℕ, zero, suc, List, [], ◌∷◌, Option, Some, None}
 use Rattle.std.proofs.Common.{refl, sym, ap, ◌∙◌, subst, arith}
-use Rattle.std.proofs.lemmas.Bool.Decides.{nat_tests}
-use Rattle.std.proofs.lemmas.Option.{cond_some}
 use Rattle.arm_value.specs.Json.{Json, Member, nesting, items_nesting, members_nesting}
 use Rattle.arm_env.specs.Part.{kept}
 use Rattle.reading.specs.Knowledge.{Known, Told, value, no_value, waits, told, finished, and_then}
 use Rattle.deploy_cells.specs.Cells.{Cell}
 use Rattle.deploy_cells.specs.Guarded.{Reads}
-use Rattle.bicep_resolved.specs.Source.{SourceTree, SourceTrees, PropertyTrees, ValueTree}
+use Rattle.bicep_resolved.specs.Source.{SourceTree, SourceTrees, PropertyTrees}
 use Rattle.bicep_resolved.specs.Source as s
 use Rattle.bicep_meaning.specs.Rows.{capped, all}
 use Rattle.bicep_meaning.specs.Around.{Here, Frame, Around, runs}
 use Rattle.bicep_meaning.specs.Meaning as m
 use Rattle.bicep_outcomes.proofs.OutcomeLemmas.{told-then}
 use Rattle.bicep_outcomes.proofs.ListLemmas.{all-nil, all-cons, before}
+use Rattle.bicep_meaning.proofs.CappedLemmas.{kept_nests}
 
 -- where a value came from
 record CameFrom {A B : Type 0} (t : Told Cell A) (f : A → Option B) (y : B) : Type 0 where
@@ -48,14 +47,6 @@ split no_value (value xs) ys e = absurd cc
 split no_value no_value ys e = absurd cc
 split no_value (waits k) ys e = absurd cc
 split (waits k) u ys e = absurd cc
-
-within : (n : ℕ) → nat_le n 100 ≡ true → n ≤ 100
-within n e = grind (arith, nat_tests)
-
-kept_nests : (i j : Json) → kept i ≡ Some j → nesting j ≤ 100
-kept_nests i j e =
-    let c = cond_some (nat_le (nesting i) 100) i j e in
-    subst (λ (v : Json). nesting v ≤ 100) c.1 (within (nesting i) c.0)
 
 some_is : {A : Type 0} (x y : A) → ◌≡◌ {A = Option A} (Some x) (Some y) → x ≡ y
 some_is x y e = cc

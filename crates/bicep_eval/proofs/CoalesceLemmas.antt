@@ -15,10 +15,10 @@ use Rattle.bicep_meaning.specs.Around.{Frame}
 use Rattle.bicep_outcomes.specs.declared.stop.Stop.{Stop}
 use Rattle.bicep_outcomes.specs.Outcomes.{Stops, null_left}
 use Rattle.bicep_outcomes.proofs.OutcomeLemmas.{told-done}
-use Rattle.bicep_outcomes.proofs.ListLemmas.{left}
 use Rattle.bicep_surroundings.specs.Sight.{Sight}
 use Rattle.bicep_surroundings.proofs.ReadLemmas.{coalesce_found, coalesce_null, coalesce_stops}
 use Rattle.bicep_eval.specs.Values as spec
+use Rattle.foundation.proofs.Lists.{next_item}
 
 module _ (s : Sight) (es : List Source) (i : ℕ) (fs : List Frame) where
   -- what is told of those from an index on
@@ -31,7 +31,7 @@ module _ (s : Sight) (es : List Source) (i : ℕ) (fs : List Frame) where
       (spec.first_there s (sources (map source_of (drop (i + 1) es))) fs))
   unfolding first_there
   first_left x l e =
-      ap (λ (xs : List Source). told s.known (spec.first_there s (sources (map source_of xs)) fs)) (left es i x l e)
+      ap (λ (xs : List Source). told s.known (spec.first_there s (sources (map source_of xs)) fs)) (next_item es i x l e)
 
   -- a value that is not null
   pub first_found : (x : Source) (v w : Value) (t : Told Cell Json) → i < length es → x ≡ get_or es i x
@@ -57,7 +57,7 @@ module _ (s : Sight) (es : List Source) (i : ℕ) (fs : List Frame) where
       subst (λ (u : Told Cell Json). Stops s.cell q u) (sym (before ∙ first_left x l e))
       (coalesce_stops s.known s.cell q (spec.value s (source_of x) fs) _ g)
 
-  -- none is left
+  -- none is next_item
   pub first_ends : (t : Told Cell Json) → length es ≤ i → t ≡ first_from i → t ≡ value null
   unfolding first_there
   first_ends t l before =

@@ -1,6 +1,6 @@
 -- Which resources may be in one file.
 use Rattle.std.proofs.Common.{◌≡◌, ◌≢◌, ◌≤◌, ℕ, List, [], ◌∷◌, ◌++◌, length, map, Bool, true, false, true≢false, not}
-use Rattle.std.proofs.Common.{◌&&◌, ◌||◌, nat_le, bytes_eq, refl, sym, ap, ap₂, ◌∙◌, arith, subst}
+use Rattle.std.proofs.Common.{◌&&◌, nat_le, bytes_eq, refl, sym, ap, ap₂, ◌∙◌, arith, subst}
 use Rattle.std.specs.List.{AllByRecursion, list_any}
 use Rattle.arm_value.specs.Look.{fold, is_same_folded}
 use Rattle.literal_template.specs.declared.resource.Resource.{Resource}
@@ -9,10 +9,11 @@ use Rattle.bicep_literal.specs.Source.{Differ, taken, symbol_of, kind_and_name, 
 use Rattle.bicep_literal.specs.Checks.{is_taken, is_same_symbol, is_same_key, clash, are_apart, are_proper}
 use Rattle.bicep_literal.specs.declared.entry.Entry.{Entry}
 use Rattle.bicep_literal.proofs.Putting.{all_map}
-use Rattle.bicep_literal.proofs.EntryLemmas.{or_parts, not_true, within, below}
-use Rattle.foundation.proofs.TruthValues.{both as and_parts, unless, nor}
+use Rattle.bicep_literal.proofs.EntryLemmas.{or_parts, below}
+use Rattle.foundation.proofs.TruthValues.{both as and_parts, unless, nor, of_not}
 use Rattle.bicep_literal.proofs.Entering.{EnterEach}
 use Rattle.foundation.proofs.Words.{eq_word, word_eq}
+use Rattle.foundation.proofs.Comparisons.{le_of_true}
 
 abbrev pub folded_symbol : Entry → List ℕ
 folded_symbol e = fold e.symbol
@@ -89,7 +90,7 @@ apart_sound : (es : List Entry) → are_apart es ≡ true → Apart es
 apart_sound [] h = record { symbols = tt; keys = tt }
 apart_sound (e ∷ es) h =
     let a = and_parts (not (list_any (clash e) es)) (are_apart es) h in
-    let each = none_all (clash e) es (not_true (list_any (clash e) es) a.0) in
+    let each = none_all (clash e) es (of_not (list_any (clash e) es) a.0) in
     let r = apart_sound es a.1 in
     record {
       symbols = (
@@ -155,7 +156,7 @@ differ_by_test [] h = tt
 differ_by_test (x ∷ xs) h =
     let a = and_parts (not (list_any (bytes_eq x) xs)) (are_differing xs) h in (
       all_map (λ y. bytes_eq x y ≡ false) (λ y. x ≢ y) xs (λ y e. ne_word x y e)
-          (none_all (bytes_eq x) xs (not_true (list_any (bytes_eq x) xs) a.0)),
+          (none_all (bytes_eq x) xs (of_not (list_any (bytes_eq x) xs) a.0)),
       differ_by_test xs a.1,
     )
 
@@ -236,14 +237,14 @@ proper_sound ds es h p =
     let a = and_parts (nat_le (length es) 800) (not (list_any (λ e. is_taken e.symbol) es) && are_apart es) p in
     let b = and_parts (not (list_any (λ e. is_taken e.symbol) es)) (are_apart es) a.1 in
     let c = apart_sound es b.1 in
-    let n = within (length es) 800 a.0 in
+    let n = le_of_true (length es) 800 a.0 in
     let m = map_length resource_in es in
     record {
       each = declare_each ds es h;
       symbols =
           subst (λ ss. Differ (taken ++ ss)) (symbols_are ds es h)
           (differ_append taken (map folded_symbol es) taken_differ c.symbols
-          (none_taken es (not_true (list_any (λ e. is_taken e.symbol) es) b.0)));
+          (none_taken es (of_not (list_any (λ e. is_taken e.symbol) es) b.0)));
       keys = c.keys;
       few = omega arith;
     }

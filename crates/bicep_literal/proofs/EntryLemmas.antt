@@ -23,7 +23,8 @@ use Rattle.bicep_literal.proofs.PartedLemmas.{without_yes, without_no, parting_s
 use Rattle.bicep_literal.proofs.PartedLemmas.{first_each, name_stays}
 use Rattle.bicep_literal.proofs.Entering.{FinePairs}
 use Rattle.bicep_literal.proofs.ValueLemmas.{distinct_is}
-use Rattle.foundation.proofs.TruthValues.{both as and_parts}
+use Rattle.foundation.proofs.TruthValues.{both as and_parts, of_not}
+use Rattle.foundation.proofs.Comparisons.{le_of_true}
 
 -- ---- the type text
 
@@ -69,10 +70,6 @@ pub or_parts : (a b : Bool) → (a || b) ≡ false → (a ≡ false) × (b ≡ f
 or_parts true b e = absurd (true≢false e)
 or_parts false b e = (refl, e)
 
-pub not_true : (a : Bool) → not a ≡ true → a ≡ false
-not_true true e = absurd (true≢false (sym e))
-not_true false e = refl
-
 pub divided_complete : (kind api : List ℕ) → HasAt kind ≡ false → divided (kind ++ 64 ∷ api) ≡ Some (kind, api)
 divided_complete [] api h = refl
 divided_complete (c ∷ kind) api h =
@@ -97,7 +94,7 @@ fit_by kind name a n m e p q h =
     let b = and_parts (not a) (nat_eq n m) h in
     let same : n ≡ m = grind (arith, nat_tests, b.1) in
     record {
-      filled = any_both is_empty (segments kind) (segments name) ∙ e ∙ not_true a b.0;
+      filled = any_both is_empty (segments kind) (segments name) ∙ e ∙ of_not a b.0;
       paired = p ∙ same
           ∙ sym q;
     }
@@ -134,9 +131,9 @@ proper_sound kind api name h =
     let a = and_parts (not (is_empty api)) (not (is_deployment_type kind) && is_fit kind name) h in
     let b = and_parts (not (is_deployment_type kind)) (is_fit kind name) a.1 in
     record {
-      versioned = some_version api (not_true (is_empty api) a.0);
+      versioned = some_version api (of_not (is_empty api) a.0);
       no_deployment =
-          not_true (is_deployment_type kind) b.0;
+          of_not (is_deployment_type kind) b.0;
       fits = fit_sound kind name b.1;
     }
 
@@ -145,9 +142,6 @@ unfolding is_proper
 proper_complete kind api name p = rw (version_some api p.versioned) (rw p.no_deployment (fit_complete kind name p.fits))
 
 -- ---- the body
-
-pub within : (n m : ℕ) → nat_le n m ≡ true → n ≤ m
-within n m e = grind (arith, nat_tests)
 
 pub below : (n m : ℕ) → n ≤ m → nat_le n m ≡ true
 below n m h = grind (arith, nat_tests)
@@ -167,9 +161,9 @@ body_by others body true e h =
     record {
       is = d.0;
       differ = d.1;
-      unreserved = not_true (list_any is_reserved (keys others)) a.1;
+      unreserved = of_not (list_any is_reserved (keys others)) a.1;
       shallow =
-          within (members_nesting others) 90 a.0;
+          le_of_true (members_nesting others) 90 a.0;
     }
 body_by others body false e h = absurd cc
 

@@ -17,10 +17,7 @@ use Rattle.bicep_literal.specs.Source.{TreeDeclares, SourceDeclares, DeclareOneL
 use Rattle.bicep_literal.specs.Refused.{DeclaresNone, IsRefused, lexical_fault, syntax_fault}
 use Rattle.bicep_literal.specs.declared.fault.SourceFault.TheVariants.{Lexical}
 use Rattle.bicep_literal.proofs.Answering.{one_list}
-
--- no tokens spell two files
-abbrev pub SpellOneFile : Type 0
-SpellOneFile = (ts : List Standing) (f g : FileTree) → Spells f ts → Spells g ts → f ≡ g
+use Rattle.bicep_parser.specs.Refused.{SpellOneFile}
 
 same_tokens : (source : List ℕ) (ts us : List Standing) → lexer.Spells source ts → lexer.Spells source us → ts ≡ us
 same_tokens source ts us s t =

@@ -1,6 +1,5 @@
 -- A value that is kept nests at most 100 deep.
-use Rattle.std.proofs.Common.{◌≡◌, ◌≤◌, ℕ, List, true, nat_le, Some, sym, ◌∙◌, subst, arith}
-use Rattle.std.proofs.lemmas.Bool.Decides.{nat_tests}
+use Rattle.std.proofs.Common.{◌≡◌, ◌≤◌, List, nat_le, Some, sym, ◌∙◌, subst}
 use Rattle.std.proofs.lemmas.Option.{cond_some, option_and_then_some}
 use Rattle.foundation.specs.declared.limits.TheConstants.{MAX_VALUE_NESTING}
 use Rattle.arm_value.specs.Json.{Json, nesting}
@@ -14,14 +13,12 @@ use Rattle.bicep_resolved.specs.Source.{SourceTree}
 use Rattle.bicep_meaning.specs.Rows.{capped}
 use Rattle.bicep_meaning.specs.Around.{Here, Frame, Around}
 use Rattle.bicep_meaning.specs.Meaning.{bare, value}
+use Rattle.foundation.proofs.Comparisons.{le_of_true}
 
-within : (n : ℕ) → nat_le n 100 ≡ true → n ≤ 100
-within n e = grind (arith, nat_tests)
-
-kept_nests : (i j : Json) → kept i ≡ Some j → nesting j ≤ 100
+pub kept_nests : (i j : Json) → kept i ≡ Some j → nesting j ≤ 100
 kept_nests i j e =
     let c = cond_some (nat_le (nesting i) 100) i j e in
-    subst (λ (v : Json). nesting v ≤ 100) c.1 (within (nesting i) c.0)
+    subst (λ (v : Json). nesting v ≤ 100) c.1 (le_of_true (nesting i) 100 c.0)
 
 capped_nests : (w : World) (r : Reads Json) (j : Json) → value_in w (capped r) ≡ Some j → nesting j ≤ 100
 unfolding value_in capped

@@ -23,8 +23,10 @@ use Rattle.bicep_declared.specs.Declarations.{BodyTree, DeclaredTree, OutputTree
 use Rattle.bicep_declared.specs.Declarations as d
 use Rattle.bicep_meaning.specs.Files.{SourceFile, symbol_kind, declaration, field_named, type_of}
 use Rattle.bicep_meaning.specs.Around.{Here, Frame, run_at}
-use Rattle.bicep_meaning.specs.Meaning.{value, value_of, deployment_type}
+use Rattle.bicep_meaning.specs.Meaning.{value, value_of}
 use Rattle.bicep_meaning.specs.Declared.{whole}
+use Rattle.foundation.specs.Options.{or_else}
+use Rattle.arm_ids.specs.Members.{deployment_type}
 
 -- a program: its files, the main file first; the values that are given for parameters; and where it is deployed
 pub record SourceProgram : Type 0 where
@@ -105,10 +107,6 @@ argument_in x o = None
 abbrev pub argument_of : List ℕ → Option DeclaredTree → Option ValueTree
 argument_of x (Some (d.a_module at b)) = argument_in x (field_named (codes "params") b.fields)
 argument_of x o = None
-
-abbrev pub or_else : {A : Type 0} → Option A → Option A → Option A
-or_else None o = o
-or_else (Some x) o = Some x
 
 -- the output of that folded name
 abbrev pub output_folded : SourceFile → List ℕ → Option OutputTree

@@ -29,6 +29,7 @@ use Rattle.bicep_meaning.specs.Rows.{capped, all, literal_value, operated, condi
 use Rattle.bicep_meaning.specs.Rows.{prefix_value, member_value}
 use Rattle.bicep_meaning.specs.Rows.{index_value, called, array_of, by_both}
 use Rattle.bicep_meaning.specs.Around.{Here, Frame, element, item_of, index_of, looped, Around}
+use Rattle.arm_ids.specs.Members.{deployment_type}
 
 -- ---- names
 
@@ -62,9 +63,6 @@ field_value here a n field.Outputs fs = none
 field_value here a n (field.Other x) fs = state_member x (a.id n fs)
 
 -- ---- outputs of modules
-
-abbrev pub deployment_type : List ℕ
-deployment_type = codes "Microsoft.Resources/deployments"
 
 -- the key of a module, by its name
 abbrev pub module_key : Place → Json → Option ResourceId

@@ -1,7 +1,7 @@
 -- The id of a resource is that of its type and its full name.
 use Rattle.std.proofs.Common.{◌≡◌, ℕ, zero, suc, List, [], ◌∷◌, ◌++◌}
 use Rattle.std.proofs.Common.{Option, Some, None, Bool, true, false, refl, sym, ap}
-use Rattle.std.proofs.Common.{◌∙◌, subst, cond, ◌||◌}
+use Rattle.std.proofs.Common.{◌∙◌, subst, cond}
 use Rattle.std.proofs.lemmas.Option.{none-some, cond_some, option_and_then_some}
 use Rattle.std.specs.Prelude.{option_and_then}
 use Rattle.std.specs.List.{onto_first, list_any}
@@ -27,17 +27,14 @@ use Rattle.bicep_meaning.specs.Meaning.{frames}
 use Rattle.bicep_meaning.specs.Declared.{name_after, if_whole, id_named, id_with}
 use Rattle.bicep_meaning.specs.Declared.{id_after, name_value, full_name_by, id_by}
 use Rattle.bicep_meaning.specs.Declared.{id_of, declared, around}
+use Rattle.foundation.proofs.TruthValues.{neither}
 
 -- ---- segments
-
-or_false : (a b : Bool) → (a || b) ≡ false → (a ≡ false) × (b ≡ false)
-or_false true b e = absurd cc
-or_false false b e = (refl, e)
 
 one_segment : (t : List ℕ) → has_slash t ≡ false → segments t ≡ t ∷ []
 one_segment [] e = refl
 one_segment (c ∷ cs) e =
-    let p = or_false (is_slash c) (list_any is_slash cs) e in
+    let p = neither (is_slash c) (list_any is_slash cs) e in
     ap (λ b. cond b ([] ∷ segments cs) (onto_first c (segments cs))) p.0 ∙ ap (onto_first c) (one_segment cs p.1)
 
 onto_front : (x : ℕ) (p : List ℕ) (ps qs rs : List (List ℕ)) → rs ≡ p ∷ ps

@@ -2,8 +2,9 @@
 use Rattle.std.specs.Prelude.{ℕ, [], ◌∷◌, Option, None}
 use Rattle.bicep_tree.specs.Tree.{DeclarationTree, StatementTree, FileTree}
 use Rattle.bicep_tree.specs.Tree as tree
-use Rattle.bicep_members.specs.Parts.{or_else, repeated_in, repeated_in_value, repeated_in_decorators}
+use Rattle.bicep_members.specs.Parts.{repeated_in, repeated_in_value, repeated_in_decorators}
 use Rattle.bicep_members.specs.Parts.{repeated_in_resource, repeated_in_module}
+use Rattle.foundation.specs.Options.{or_else}
 
 abbrev pub repeated_in_declaration : DeclarationTree → Option ℕ
 repeated_in_declaration (tree.metadata at n e) = repeated_in e

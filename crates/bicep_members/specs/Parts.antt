@@ -1,14 +1,12 @@
 -- Names that are given twice in the objects and loops of expressions, resources and modules.
-use Rattle.std.specs.Prelude.{ℕ, List, Option, Some, None, bytes_eq, codes, if◌then◌else◌}
+use Rattle.std.specs.Prelude.{ℕ, List, Option, None, bytes_eq, codes, if◌then◌else◌}
 use Rattle.bicep_tree.specs.Symbol.{label_text}
 use Rattle.bicep_tree.specs.Tree.{Tree, Trees, Holes, ObjectTree, MemberTree, MemberTrees, ValueTree, LoopTree}
 use Rattle.bicep_tree.specs.Tree.{DecoratorTree, DecoratorTrees, ResourceTree, BodyTree}
 use Rattle.bicep_tree.specs.Tree as tree
 use Rattle.bicep_members.specs.Labels.{repeated_label, repeated_folded, repeated_index}
-
-abbrev pub or_else : Option ℕ → Option ℕ → Option ℕ
-or_else (Some at) o = Some at
-or_else None o = o
+use Rattle.foundation.specs.Options.{or_else}
+use Rattle.bicep_tree.specs.Declarations.{body_members}
 
 -- ---- expressions
 
@@ -115,15 +113,6 @@ repeated_in_params (tree.child ds r) = None
 abbrev pub repeated_in_all_params : MemberTrees → Option ℕ
 repeated_in_all_params tree.no_member = None
 repeated_in_all_params (tree.and_member m ms) = or_else (repeated_in_params m) (repeated_in_all_params ms)
-
-abbrev pub object_members : ObjectTree → MemberTrees
-object_members (tree.braces at ms) = ms
-
-abbrev pub body_members : BodyTree → MemberTrees
-body_members (tree.body_plain o) = object_members o
-body_members (tree.body_if at c o) = object_members o
-body_members (tree.body_each l o) = object_members o
-body_members (tree.body_each_if l at c o) = object_members o
 
 -- the first name that is given twice in a module
 abbrev pub repeated_in_module : BodyTree → Option ℕ

@@ -4,6 +4,8 @@ ghost use Rattle.bicep_tree.specs.Symbol.{label_text};
 ghost use Rattle.bicep_tree.specs.Tree as tree;
 ghost use Rattle.bicep_tree.specs.View as view;
 ghost use Rattle.bicep_members.specs.Parts as spec;
+ghost use Rattle.bicep_tree.specs.Declarations.{body_members};
+ghost use Rattle.bicep_tree.specs.Declarations.{object_members};
 
 use crate::labels::repeated_folded;
 use crate::resources::repeated_in_body;
@@ -19,14 +21,14 @@ fn is_params(label: &Label) -> bool
 
 #[tactic(auto, using(bicep_tree::proofs::ViewLemmas::structs))]
 fn members_of(object: &Object) -> &[Member]
-    ensures { tree.members (map view.member_of result.now) ≡ spec.object_members (view.object_of object.now) }
+    ensures { tree.members (map view.member_of result.now) ≡ object_members (view.object_of object.now) }
 {
     object.members.as_slice()
 }
 
 #[tactic(auto, using(bicep_tree::proofs::ViewLemmas::enums))]
 fn body_members(body: &Body) -> &[Member]
-    ensures { tree.members (map view.member_of result.now) ≡ spec.body_members (view.body_of body.now) }
+    ensures { tree.members (map view.member_of result.now) ≡ body_members (view.body_of body.now) }
 {
     match body {
         Body::Plain(object)

@@ -10,7 +10,7 @@ use Rattle.bicep_resolved.specs.declared.leaf.Meaning.TheVariants as m
 use Rattle.bicep_resolved.specs.declared.leaf.Target.{Target}
 use Rattle.bicep_resolved.specs.declared.leaf.Target.TheVariants as t
 use Rattle.bicep_resolved.specs.Source.{SourceTree, SourceTrees, PieceTrees, ReachTree, PropertyTrees, ValueTree}
-use Rattle.bicep_resolved.specs.Source.{LoopTree}
+use Rattle.bicep_resolved.specs.Source.{LoopTree, field_named}
 use Rattle.bicep_resolved.specs.Source as s
 use Rattle.bicep_resolved.specs.Target.{number_of, target_of}
 use Rattle.bicep_names.specs.declared.kind.Kind.{Kind}
@@ -25,7 +25,7 @@ use Rattle.bicep_circles.specs.Links.{parent_mentions, mentioned}
 use Rattle.bicep_mentions.specs.States.{StateReads, name_reads, field_reads, reads_state, reach_reads, any_reads}
 use Rattle.bicep_mentions.specs.States.{piece_reads, property_reads, value_reads, loop_reads}
 use Rattle.bicep_mentions.specs.Agreement.{AgreeAt}
-use Rattle.bicep_mentions.specs.Names.{field_named, body_items, field_value_reads, body_name_reads, own_reads}
+use Rattle.bicep_mentions.specs.Names.{body_items, field_value_reads, body_name_reads, own_reads}
 use Rattle.bicep_mentions.specs.Names.{whole_of, around_reads, reach_whole, parent_value, parent_value_reads}
 use Rattle.bicep_mentions.specs.Names.{parent_reads}
 use Rattle.bicep_mentions.specs.Names.{whole_reads}

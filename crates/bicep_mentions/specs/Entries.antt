@@ -9,6 +9,7 @@ use Rattle.bicep_declared.specs.Declarations.{DeclaredTree}
 use Rattle.bicep_declared.specs.Declarations as d
 use Rattle.bicep_mentions.specs.States.{StateReads}
 use Rattle.bicep_mentions.specs.Names.{own_reads, whole_reads}
+use Rattle.foundation.specs.Options.{or_else}
 
 -- the kind of the symbol of a number, and its declaration
 abbrev pub declaration_at : List Kind → List DeclaredTree → ℕ → Option (Kind × DeclaredTree)
@@ -64,10 +65,6 @@ variable_each (d.parameter_with at t e) = None
 variable_each (d.variable at v) = each_offset v
 variable_each (d.a_resource at q existing b) = None
 variable_each (d.a_module at b) = None
-
-abbrev pub or_else : Option ℕ → Option ℕ → Option ℕ
-or_else (Some at) o = Some at
-or_else None o = o
 
 -- the for-expression that the variable of a number is, where it reads state
 abbrev pub misplaced_one : (ℕ → Bool) → ℕ → DeclaredTree → Option ℕ

@@ -1,7 +1,6 @@
 -- Whether the names of resources and modules read state, and the values of variables.
-use Rattle.std.specs.Prelude.{ℕ, ◌||◌, Bool, false, List, [], ◌∷◌, Option, Some, None, bytes_eq, codes}
-use Rattle.std.specs.Prelude.{if◌then◌else◌}
-use Rattle.bicep_resolved.specs.Source.{SourceTree, ReachTree, PropertyTrees, ValueTree, LoopTree}
+use Rattle.std.specs.Prelude.{ℕ, ◌||◌, Bool, false, List, [], ◌∷◌, Option, Some, None, codes}
+use Rattle.bicep_resolved.specs.Source.{ReachTree, ValueTree, LoopTree, field_named}
 use Rattle.bicep_resolved.specs.Source as s
 use Rattle.bicep_resolved.specs.Target.{number_of, target_of}
 use Rattle.bicep_names.specs.declared.kind.Kind.{Kind}
@@ -10,11 +9,6 @@ use Rattle.bicep_names.specs.Resolve.{reach_in}
 use Rattle.bicep_declared.specs.Declarations.{BodyTree, DeclaredTree}
 use Rattle.bicep_declared.specs.Declarations as d
 use Rattle.bicep_mentions.specs.States.{StateReads, reads_state, value_reads, loop_reads}
-
--- the value of the field of that name, letter by letter
-abbrev pub field_named : List ℕ → PropertyTrees → Option ValueTree
-field_named name s.no_property = None
-field_named name (s.property at x v ps) = if bytes_eq x name then Some v else field_named name ps
 
 -- for the loop of a body, where it has one, whether its items read state
 abbrev pub body_items : StateReads → Option LoopTree → List Bool

@@ -1,2 +1,1 @@
 pub mod DividedLemmas
-pub mod WordLemmas

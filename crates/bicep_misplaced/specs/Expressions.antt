@@ -9,10 +9,7 @@ use Rattle.bicep_tree.specs.Tree as tree
 use Rattle.bicep_misplaced.specs.declared.spot.Spot.{Spot}
 use Rattle.bicep_misplaced.specs.declared.spot.Spot.TheVariants as spot
 use Rattle.bicep_misplaced.specs.Words.{is_bad_name}
-
-abbrev pub or_else : Option ℕ → Option ℕ → Option ℕ
-or_else (Some at) o = Some at
-or_else None o = o
+use Rattle.foundation.specs.Options.{or_else}
 
 -- where the parts of an operator, a call, an access or an interpolated text are
 abbrev pub inner : Spot → Spot

@@ -9,8 +9,9 @@ use Rattle.bicep_tree.specs.Tree as tree
 use Rattle.bicep_misplaced.specs.declared.spot.Owner.TheVariants as owner
 use Rattle.bicep_misplaced.specs.declared.spot.Spot.TheVariants as spot
 use Rattle.bicep_misplaced.specs.Words.{is_copy}
-use Rattle.bicep_misplaced.specs.Expressions.{or_else, bad_in}
+use Rattle.bicep_misplaced.specs.Expressions.{bad_in}
 use Rattle.bicep_misplaced.specs.Resources.{bad_in_decorators, bad_in_resource, bad_in_body}
+use Rattle.foundation.specs.Options.{or_else}
 
 abbrev pub is_group_text : Literal → Bool
 is_group_text (l.Text t) = bytes_eq t (codes "resourceGroup")

@@ -15,7 +15,9 @@ use Rattle.bicep_misplaced.specs.declared.spot.Repeated.TheVariants as repeated
 use Rattle.bicep_misplaced.specs.declared.spot.Spot.TheVariants as spot
 use Rattle.bicep_misplaced.specs.Types.{is_bad_path, is_one_segment}
 use Rattle.bicep_misplaced.specs.Words.{is_bad_name, is_bad_field}
-use Rattle.bicep_misplaced.specs.Expressions.{or_else, bad_in, bad_in_all}
+use Rattle.bicep_misplaced.specs.Expressions.{bad_in, bad_in_all}
+use Rattle.foundation.specs.Options.{or_else}
+use Rattle.bicep_tree.specs.Declarations.{body_members}
 
 -- ---- decorators
 
@@ -62,12 +64,6 @@ bad_condition existing b = None
 
 abbrev pub object_members : ObjectTree → MemberTrees
 object_members (tree.braces b ms) = ms
-
-abbrev pub body_members : BodyTree → MemberTrees
-body_members (tree.body_plain o) = object_members o
-body_members (tree.body_if at c o) = object_members o
-body_members (tree.body_each l o) = object_members o
-body_members (tree.body_each_if l at c o) = object_members o
 
 abbrev pub name_word : List ℕ
 name_word = codes "name"

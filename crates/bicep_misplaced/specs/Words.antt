@@ -1,16 +1,11 @@
 -- Names that may not be where they are.
 use Rattle.std.specs.Prelude.{ℕ, ◌&&◌, ◌||◌, Bool, not, List, [], ◌∷◌, codes, bytes_eq}
-use Rattle.std.specs.List.{list_any}
-use Rattle.arm_value.specs.Look.{is_same_folded}
+use Rattle.arm_value.specs.Look.{is_among}
 use Rattle.arm_expr.specs.Brackets.{is_bracketed}
 use Rattle.bicep_misplaced.specs.declared.spot.Spot.{Spot}
 use Rattle.bicep_misplaced.specs.declared.spot.Spot.TheVariants as spot
 use Rattle.bicep_misplaced.specs.declared.spot.Owner.{Owner}
 use Rattle.bicep_misplaced.specs.declared.spot.Owner.TheVariants as owner
-
--- whether the name is one of these, whatever the case of its ASCII letters
-abbrev pub is_among : List (List ℕ) → List ℕ → Bool
-is_among names name = list_any (is_same_folded name) names
 
 unfoldable pub copying : List (List ℕ)
 copying = codes "copy" ∷ []

@@ -4,6 +4,7 @@ ghost use Rattle.bicep_tree.specs.Tree as tree;
 ghost use Rattle.bicep_tree.specs.View as view;
 ghost use Rattle.bicep_tree.specs.Offset.{resource_offset};
 ghost use Rattle.bicep_misplaced.specs.Resources as spec;
+ghost use Rattle.bicep_tree.specs.Declarations.{body_members};
 
 use crate::expressions::{bad_in, bad_in_all};
 use crate::spot::{Owner, Repeated, Spot};
@@ -136,7 +137,7 @@ fn members_of(object: &Object) -> &[Member]
 
 #[tactic(auto, using(bicep_tree::proofs::ViewLemmas::enums))]
 fn body_members(body: &Body) -> &[Member]
-    ensures { tree.members (map view.member_of result.now) ≡ spec.body_members (view.body_of body.now) }
+    ensures { tree.members (map view.member_of result.now) ≡ body_members (view.body_of body.now) }
 {
     match body {
         Body::Plain(object)

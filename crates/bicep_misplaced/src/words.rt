@@ -2,6 +2,7 @@
 ghost use Rattle.std.specs.Prelude.{◌≡◌, map, chars};
 ghost use Rattle.arm_expr.specs.Brackets.{is_bracketed};
 ghost use Rattle.bicep_misplaced.specs.Words as spec;
+ghost use Rattle.arm_value.specs.Look.{is_among};
 
 use crate::spot::{Owner, Spot};
 use arm_expr::is_bracketed;
@@ -30,7 +31,7 @@ const OWN: [&str; 3] = ["name", "parent", "dependsOn"];
 
 // Whether the name is one of these, whatever the case of its ASCII letters.
 fn is_among(name: &str, names: &[&str]) -> bool
-    ensures { result ≡ spec.is_among (map (λ n. chars n.now) names.now) (chars name.now) }
+    ensures { result ≡ is_among (map (λ n. chars n.now) names.now) (chars name.now) }
 {
     for other in names {
         if folded_eq(name, other) {
@@ -47,13 +48,13 @@ fn is_copying(name: &str) -> bool
 }
 
 fn is_taken(name: &str) -> bool
-    ensures { result ≡ spec.is_among spec.taken (chars name.now) }
+    ensures { result ≡ is_among spec.taken (chars name.now) }
 {
     is_among(name, &TAKEN)
 }
 
 fn is_of_resource(name: &str) -> bool
-    ensures { result ≡ spec.is_among spec.own (chars name.now) }
+    ensures { result ≡ is_among spec.own (chars name.now) }
 {
     is_among(name, &OWN)
 }

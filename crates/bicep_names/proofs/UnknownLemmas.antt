@@ -24,12 +24,12 @@ use Rattle.bicep_names.specs.Resolve.{output_of, called_by, function_name}
 use Rattle.bicep_names.specs.Unknown.{HasUnknown, OneHasUnknown, HoleHasUnknown, ObjectHasUnknown, MemberHasUnknown}
 use Rattle.bicep_names.specs.Unknown.{ValueHasUnknown, Tells, Lacks, FoundLacks}
 
-tells-mapped : {A B : Type 0} (P : ℕ → Type 0) (g : A → B) (x : Found A) → Tells P x → Tells P (mapped g x)
+pub tells-mapped : {A B : Type 0} (P : ℕ → Type 0) (g : A → B) (x : Found A) → Tells P x → Tells P (mapped g x)
 unfolding mapped
 tells-mapped P g (found x) h = h
 tells-mapped P g (unknown at) h = h
 
-tells-both : {A B : Type 0} (P Q : ℕ → Type 0) (x : Found A) (y : Found B) → Tells P x → Tells Q y
+pub tells-both : {A B : Type 0} (P Q : ℕ → Type 0) (x : Found A) (y : Found B) → Tells P x → Tells Q y
     → Tells (λ at. P at ⊎ Q at) (both x y)
 unfolding both
 tells-both P Q (found x) (found y) h k = λ at c. elim c [ inl p ↦ h at p | inr q ↦ k at q ]

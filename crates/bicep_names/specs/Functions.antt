@@ -1,8 +1,7 @@
 -- The functions that a Bicep file may call (Microsoft Learn, "Bicep functions"; "Bicep operators" for those that are
 -- written as operators).
 use Rattle.std.specs.Prelude.{ℕ, ◌&&◌, Bool, not, List, [], ◌∷◌, Option, Some, None, codes, is_some, if◌then◌else◌}
-use Rattle.std.specs.List.{list_any}
-use Rattle.arm_value.specs.Look.{fold, is_same_folded}
+use Rattle.arm_value.specs.Look.{fold, is_among}
 use Rattle.arm_functions.specs.Table.{row_of}
 
 -- the functions of templates that no Bicep file calls by name
@@ -12,10 +11,6 @@ reserved =
     codes "parameters" ∷ codes "variables" ∷ codes "copyIndex" ∷ codes "if" ∷ codes "and" ∷ codes "or" ∷
     codes "not" ∷ codes "equals" ∷ codes "less" ∷ codes "lessOrEquals" ∷ codes "greater" ∷ codes "greaterOrEquals" ∷
     codes "tryGet" ∷ codes "reference" ∷ codes "true" ∷ codes "false" ∷ codes "null" ∷ []
-
--- whether the name is one of these, whatever the case of its ASCII letters
-abbrev pub is_among : List (List ℕ) → List ℕ → Bool
-is_among names name = list_any (is_same_folded name) names
 
 -- whether a Bicep file may call the function of that name, whatever the case of its ASCII letters
 unfoldable pub may_call : List ℕ → Bool

@@ -1,7 +1,8 @@
 // The functions that a Bicep file may call.
 ghost use Rattle.std.specs.Prelude.{◌≡◌, map, chars, option_map};
-ghost use Rattle.bicep_names.specs.Functions.{is_among, reserved, function_named};
+ghost use Rattle.bicep_names.specs.Functions.{reserved, function_named};
 ghost use Rattle.bicep_resolved.specs.View.{row_name};
+ghost use Rattle.arm_value.specs.Look.{is_among};
 
 use arm_functions::Row;
 use arm_value::{Text, folded_eq};

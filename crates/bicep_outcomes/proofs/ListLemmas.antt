@@ -1,6 +1,6 @@
 -- What is returned for the readings of a list, which a loop looks at one after another.
 use Rattle.std.proofs.Common.{◌≡◌, ℕ, List, [], ◌∷◌, ◌++◌, map, Option, Some, None, option_map, refl, sym, ap, ◌∙◌}
-use Rattle.std.proofs.Common.{subst, append_assoc, append-nil, suc, drop, length, get_or, ◌<◌, ◌+◌, add-one, drop-cons}
+use Rattle.std.proofs.Common.{subst, append_assoc, append-nil, ◌+◌}
 use Rattle.std.specs.Prelude.{Result, Ok, Err}
 use Rattle.std.specs.declared.vec.Vec.{Vec}
 use Rattle.std.specs.declared.alloc.Global.{Global}
@@ -15,11 +15,6 @@ use Rattle.bicep_outcomes.specs.declared.stop.Stop.{Stop}
 use Rattle.bicep_outcomes.specs.declared.stop.Stop.TheVariants as stop
 use Rattle.bicep_outcomes.specs.Outcomes.{Stops, Gives, IsAdded, listed, with_one, whole}
 use Rattle.bicep_outcomes.proofs.OutcomeLemmas.{told-done, told-continued, told-both}
-
--- the first of what is left
-pub left : {A : Type 0} (xs : List A) (i : ℕ) (x : A) → i < length xs → x ≡ get_or xs i x
-    → drop i xs ≡ x ∷ drop (i + 1) xs
-left xs i x h e = rw (add-one, drop-cons xs i x h) (ap (λ y. y ∷ drop (suc i) xs) (sym e))
 
 -- one before others
 abbrev pub before : {A : Type 0} → Told Cell A → Told Cell (List A) → Told Cell (List A)

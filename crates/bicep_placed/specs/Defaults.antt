@@ -1,11 +1,11 @@
 -- What the default of a parameter may not mention: variables, resources and modules.
 use Rattle.std.specs.Prelude.{ℕ, Option, Some, None}
-use Rattle.bicep_misplaced.specs.Expressions.{or_else}
 use Rattle.bicep_resolved.specs.declared.leaf.Meaning.{Meaning}
 use Rattle.bicep_resolved.specs.declared.leaf.Meaning.TheVariants as m
 use Rattle.bicep_resolved.specs.Place.{reach_offset}
 use Rattle.bicep_resolved.specs.Source.{SourceTree, SourceTrees, PieceTrees, PropertyTrees, ValueTree, LoopTree}
 use Rattle.bicep_resolved.specs.Source as s
+use Rattle.foundation.specs.Options.{or_else}
 
 abbrev pub variable_at : ℕ → Meaning → Option ℕ
 variable_at at (m.Parameter n) = None

@@ -4,13 +4,13 @@ use Rattle.bicep_tree.specs.declared.leaf.Quoted.{Quoted}
 use Rattle.bicep_resolved.specs.Place.{value_offset}
 use Rattle.bicep_resolved.specs.Source.{PropertyTrees, ValueTree}
 use Rattle.bicep_resolved.specs.Source as s
-use Rattle.bicep_misplaced.specs.Expressions.{or_else}
 use Rattle.bicep_names.specs.declared.kind.Kind.{Kind}
 use Rattle.bicep_declared.specs.Declarations.{DeclaredTree}
 use Rattle.bicep_declared.specs.Declarations as d
 use Rattle.bicep_placed.specs.Defaults.{mention_in}
 use Rattle.bicep_placed.specs.Links.{bad_depends_on, parent_of}
 use Rattle.bicep_placed.specs.Kinds.{kind_in, known, is_child, whole_kinds}
+use Rattle.foundation.specs.Options.{or_else}
 
 -- the field `dependsOn`
 abbrev pub bad_dependent : List ℕ → ValueTree → Option ℕ

@@ -1,11 +1,11 @@
 -- What `dependsOn` and `parent` may be.
 use Rattle.std.specs.Prelude.{ℕ, Bool, true, false, Option, Some, None, if◌then◌else◌}
-use Rattle.bicep_misplaced.specs.Expressions.{or_else}
 use Rattle.bicep_resolved.specs.declared.leaf.Target.{Target}
 use Rattle.bicep_resolved.specs.declared.leaf.Target.TheVariants as t
 use Rattle.bicep_resolved.specs.Place.{offset, loop_offset}
 use Rattle.bicep_resolved.specs.Source.{SourceTree, SourceTrees, ReachTree, ValueTree}
 use Rattle.bicep_resolved.specs.Source as s
+use Rattle.foundation.specs.Options.{or_else}
 
 abbrev pub is_loop : Target → Bool
 is_loop (t.Resource n) = false

@@ -3,8 +3,8 @@ ghost use Rattle.std.specs.Prelude.{◌≡◌, map, IfOk};
 ghost use Rattle.bicep_resolved.specs.View as view;
 ghost use Rattle.bicep_resolved.specs.View.{properties};
 ghost use Rattle.bicep_declared.specs.View.{declared_tree};
-ghost use Rattle.bicep_misplaced.specs.Expressions.{or_else};
 ghost use Rattle.bicep_placed.specs.Files as spec;
+ghost use Rattle.foundation.specs.Options.{or_else};
 
 use crate::defaults::mention_in;
 use crate::kinds::{is_child, known, whole_kinds};

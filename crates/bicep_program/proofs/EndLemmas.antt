@@ -21,7 +21,8 @@ use Rattle.bicep_program.specs.Graphs.{name_at, IsCircleOf, AreWithin}
 use Rattle.bicep_program.specs.declared.fault.LoadFault.{LoadFault}
 use Rattle.bicep_program.specs.declared.fault.LoadFault.TheVariants as fault
 use Rattle.bicep_program.proofs.LoadLemmas.{entry_reached, named_noted, take_one_more, take_grown}
-use Rattle.bicep_program.proofs.LoadLemmas.{entry_names-append, length-entry_names, at_place}
+use Rattle.bicep_program.proofs.LoadLemmas.{length-entry_names, at_place}
+use Rattle.module_links.proofs.StepLemmas.{entry_names-append}
 
 all_map : {A B : Type 0} (f : A → B) (P : B → Type 0) (xs : List A) → AllByRecursion (λ x. P (f x)) xs
     → AllByRecursion P (map f xs)

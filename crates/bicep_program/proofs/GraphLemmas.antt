@@ -15,6 +15,7 @@ use Rattle.depend_graph.specs.Shape as graph
 use Rattle.depend_graph.proofs.Keeping.{same_test, other_test, get_or-replicate, length-replicate}
 use Rattle.bicep_program.specs.Circles.{IsCircle, Chain, Links}
 use Rattle.bicep_program.specs.Graphs.{with_needs, with_links, unlinked, AreWithin}
+use Rattle.foundation.proofs.Lists.{contained_further}
 
 -- a number that is put in order: nothing is lost, at most this number is new, and it is there
 least_by : (o : Ordering) (w v : ℕ) (ws : List ℕ) (x : ℕ) → times ws x ≤ times (insert_key nat_cmp ws v) x
@@ -105,12 +106,9 @@ needs_to g a (b ∷ bs) u v h (inr (e, (zero, within, here))) =
 needs_to g a (b ∷ bs) u v h (inr (e, (suc k, within, here))) =
     needs_to (with_edge g a b) a bs u v (rw length-set h) (inr (e, (k, omega arith, here)))
 
-further : (b : ℕ) (bs : List ℕ) (v : ℕ) → Contains bs v → Contains (b ∷ bs) v
-further b bs v (k, within, here) = (suc k, omega arith, here)
-
 needs_from_by : (g : Shape) (a b : ℕ) (bs : List ℕ) (u v : ℕ) → a < length g.needs
     → Needs (with_edge g a b) u v ⊎ ((u ≡ a) × Contains bs v) → Needs g u v ⊎ ((u ≡ a) × Contains (b ∷ bs) v)
-needs_from_by g a b bs u v h (inr p) = inr (p.0, further b bs v p.1)
+needs_from_by g a b bs u v h (inr p) = inr (p.0, contained_further b bs v p.1)
 needs_from_by g a b bs u v h (inl n) = by (edge_from g a b u v h n)
   where
     by : Needs g u v ⊎ ((u ≡ a) × (v ≡ b)) → Needs g u v ⊎ ((u ≡ a) × Contains (b ∷ bs) v)
@@ -166,11 +164,11 @@ links_from g node (l ∷ lists) u v h n = links_from_by g node l lists u v (omeg
     (links_from (with_needs g node l) (node + 1) lists u v (rw (size_needs g node l) (omega arith)) n)
 
 -- no node is done
-done_needs : (g : Shape) (a : ℕ) (bs : List ℕ) → (with_needs g a bs).done ≡ g.done
+pub done_needs : (g : Shape) (a : ℕ) (bs : List ℕ) → (with_needs g a bs).done ≡ g.done
 done_needs g a [] = refl
 done_needs g a (b ∷ bs) = done_needs (with_edge g a b) a bs
 
-done_links : (g : Shape) (node : ℕ) (lists : List (List ℕ)) → (with_links g node lists).done ≡ g.done
+pub done_links : (g : Shape) (node : ℕ) (lists : List (List ℕ)) → (with_links g node lists).done ≡ g.done
 done_links g node [] = refl
 done_links g node (l ∷ lists) = done_links (with_needs g node l) (node + 1) lists ∙ done_needs g node l
 
@@ -178,12 +176,12 @@ done_links g node (l ∷ lists) = done_links (with_needs g node l) (node + 1) li
 unfoldable pub graph_of_lists : List (List ℕ) → Shape
 graph_of_lists lists = with_links (unlinked (length lists)) 0 lists
 
-none_done : (lists : List (List ℕ)) (u : ℕ) → is_done (graph_of_lists lists) u ≡ false
+pub none_done : (lists : List (List ℕ)) (u : ℕ) → is_done (graph_of_lists lists) u ≡ false
 unfolding graph_of_lists
 none_done lists u = ap (λ d. get_or d u false) (done_links (unlinked (length lists)) 0 lists)
     ∙ get_or-replicate {A = Bool} (length lists) u false
 
-need_of_link : (lists : List (List ℕ)) (u v : ℕ) → Links lists u v → Needs (graph_of_lists lists) u v
+pub need_of_link : (lists : List (List ℕ)) (u v : ℕ) → Links lists u v → Needs (graph_of_lists lists) u v
 unfolding graph_of_lists
 need_of_link lists u v c = let e : 0 + u ≡ u = omega arith in
     rw e at (links_to (unlinked (length lists)) 0 lists u v (rw length-replicate (omega arith)) c)

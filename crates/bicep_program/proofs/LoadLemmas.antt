@@ -18,6 +18,7 @@ use Rattle.bicep_program.specs.Refused.{HasFault, IsWritten, IsMissing}
 use Rattle.bicep_program.specs.Loading.{IsNoted, IsMissingAt, HasCome}
 use Rattle.bicep_program.specs.declared.fault.LoadFault.{LoadFault}
 use Rattle.bicep_program.specs.declared.fault.LoadFault.TheVariants as fault
+use Rattle.module_links.proofs.StepLemmas.{entry_names-append}
 
 -- a file that was named was reached
 pub entry_reached : (folder : Folder) (main : List ℕ) (e : Entry) → IsNoted folder main e → IsReached folder main e.name
@@ -90,9 +91,6 @@ pub at_place : {A : Type 0} (P : A → Type 0) (xs : List A) (k : ℕ) (x : A) �
 at_place P [] k x e h = absurd (cc)
 at_place P (y ∷ xs) zero x e h = let s : y ≡ x = cc in subst P s h.0
 at_place P (y ∷ xs) (suc k) x e h = at_place P xs k x e h.1
-
-pub entry_names-append : (xs ys : List Entry) → entry_names (xs ++ ys) ≡ entry_names xs ++ entry_names ys
-entry_names-append xs ys = map-append (λ e. e.name) xs ys
 
 pub names_of-append : (xs ys : List ProgramFile) → names_of (xs ++ ys) ≡ names_of xs ++ names_of ys
 names_of-append xs ys = map-append (λ f. f.name) xs ys

@@ -1,5 +1,5 @@
 -- Expressions whose names are found, as trees.
-use Rattle.std.specs.Prelude.{ℕ, List}
+use Rattle.std.specs.Prelude.{ℕ, List, Option, Some, None, bytes_eq, if◌then◌else◌}
 use Rattle.bicep_tree.specs.declared.leaf.Indexing.{Indexing}
 use Rattle.bicep_tree.specs.declared.leaf.Literal.{Literal}
 use Rattle.bicep_tree.specs.declared.leaf.Name.{Name}
@@ -60,3 +60,7 @@ mutual
   pub data LoopTree : Type 0 where
     -- what it runs over
     loop : ℕ → SourceTree → LoopTree
+
+abbrev pub field_named : List ℕ → PropertyTrees → Option ValueTree
+field_named name s.no_property = None
+field_named name (s.property at x v ps) = if bytes_eq x name then Some v else field_named name ps

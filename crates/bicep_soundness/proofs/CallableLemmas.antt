@@ -5,12 +5,12 @@ use Rattle.std.proofs.Common.{refl, sym, ap, ap₂, ◌∙◌}
 use Rattle.std.specs.Prelude.{not, is_some, if◌then◌else◌}
 use Rattle.std.specs.List.{list_all}
 use Rattle.foundation.proofs.Words.{eq_word}
-use Rattle.arm_value.specs.Look.{fold, is_same_folded}
+use Rattle.arm_value.specs.Look.{fold, is_same_folded, is_among}
 use Rattle.arm_functions.specs.declared.plain.Plain.{Plain}
 use Rattle.arm_functions.specs.Table as functions
 use Rattle.arm_functions.specs.Table.{Row, row_in, row_of, counts}
 use Rattle.arm_functions.specs.Values.{admits}
-use Rattle.bicep_names.specs.Functions.{reserved, is_among, may_call}
+use Rattle.bicep_names.specs.Functions.{reserved, may_call}
 use Rattle.bicep_signatures.specs.declared.signature.Signatures.{Signatures}
 use Rattle.bicep_signatures.specs.Table.{table, signatures_in, signatures_of, where_counted, or_else}
 

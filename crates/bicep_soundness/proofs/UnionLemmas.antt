@@ -9,8 +9,8 @@ use Rattle.arm_value.specs.Json.{Json, Member, pairs}
 use Rattle.arm_value.specs.Json as j
 use Rattle.function_numbers.specs.Kinds.{items_of, members_of}
 use Rattle.function_lists.specs.Values.{array_of}
-use Rattle.function_lists.specs.Items.{joined, union_of_arrays, distinct, is_array}
-use Rattle.function_lists.specs.Members.{united_all, union_by, union, is_object}
+use Rattle.function_lists.specs.Items.{joined, union_of_arrays, distinct}
+use Rattle.function_lists.specs.Members.{united_all, union_by, union}
 use Rattle.function_lists.specs.Members.{intersection}
 use Rattle.bicep_signatures.specs.declared.kinds.Kinds.TheVariants as k
 use Rattle.bicep_signatures.specs.declared.signature.Signature.{Signature}
@@ -22,6 +22,7 @@ use Rattle.bicep_signatures.specs.Table.{each, either}
 use Rattle.bicep_soundness.specs.Values.{type_of_value, IsOfType, Gives}
 use Rattle.bicep_soundness.specs.Calls.{AreFit, HasWayOf}
 use Rattle.bicep_soundness.proofs.GivesLemmas.{of_map, array_is, object_is}
+use Rattle.arm_value.specs.Kinds.{is_array, is_object}
 
 pub given : (t : ValueType) (o : Option Json) (v : Json) → Gives t o → o ≡ Some v → IsOfType t v
 given t o v h e = subst (Gives t) e h

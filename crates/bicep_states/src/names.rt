@@ -7,6 +7,7 @@ ghost use Rattle.bicep_declared.specs.View.{body_tree, declared_tree};
 ghost use Rattle.bicep_mentions.specs.Names as spec;
 ghost use Rattle.bicep_mentions.specs.States as states;
 ghost use Rattle.bicep_states.specs.View.{known};
+ghost use Rattle.bicep_resolved.specs.Source.{field_named};
 
 use crate::reads::{either, loop_reads, one_of_three, reads_state, value_reads};
 use crate::table::StateTable;
@@ -51,7 +52,7 @@ fn name_field_reads(
     items: &[bool],
 ) -> Result<bool, OutOfMemory>
     ensures { IfOk result (λ x. x ≡ spec.field_value_reads (known table.now)
-        (spec.field_named (codes "name") (properties (map view.property_of fields.now))) items.now) }
+        (field_named (codes "name") (properties (map view.property_of fields.now))) items.now) }
 {
     for field in fields {
         if is_name(field) {
@@ -122,7 +123,7 @@ fn parent_field_reads(
     items: &[bool],
 ) -> Result<bool, OutOfMemory>
     ensures { IfOk result (λ x. x ≡ spec.parent_value_reads (known table.now)
-        (spec.field_named (codes "parent") (properties (map view.property_of fields.now))) items.now) }
+        (field_named (codes "parent") (properties (map view.property_of fields.now))) items.now) }
 {
     for field in fields {
         if is_parent(field) {

@@ -16,23 +16,21 @@ use Rattle.bicep_symbol_types.specs.SymbolTypes.{symbol_types}
 use Rattle.bicep_symbol_types.specs.Along.{type_by}
 use Rattle.bicep_symbol_types.proofs.AgreeLemmas.{AgreeAt, Agree, same_symbol}
 use Rattle.bicep_symbol_types.proofs.ListLemmas.{length-map, known_past, same_lists, step_at}
+use Rattle.foundation.proofs.Lists.{contained_further}
 
 -- ---- lists
-
-further : (x : ℕ) (ms : List ℕ) (y : ℕ) → Contains ms y → Contains (x ∷ ms) y
-further x ms y (k, within, here) = (suc k, omega (arith, within), here)
 
 contains_first : (ms ns : List ℕ) (y : ℕ) → Contains ms y → Contains (ms ++ ns) y
 contains_first [] ns y (k, within, here) = absurd (omega (arith, within))
 contains_first (x ∷ ms) ns y (zero, within, here) = (zero, omega arith, here)
 contains_first (x ∷ ms) ns y (suc k, within, here) =
-    further x (ms ++ ns) y (contains_first ms ns y (k, omega (arith, within), here))
+    contained_further x (ms ++ ns) y (contains_first ms ns y (k, omega (arith, within), here))
 
 agree_of : (os : List (List ValueType)) (xs ys : List ValueType) (ms : List ℕ)
     → ((m : ℕ) → Contains ms m → AgreeAt xs ys m) → Agree os xs ys ms
 agree_of os xs ys [] f = tt
 agree_of os xs ys (m ∷ ms) f =
-    (f m (zero, omega arith, refl), agree_of os xs ys ms (λ y c. f y (further m ms y c)))
+    (f m (zero, omega arith, refl), agree_of os xs ys ms (λ y c. f y (contained_further m ms y c)))
 
 by_order : (m n : ℕ) → (m < n) ⊎ (n ≤ m)
 by_order zero zero = inr (omega arith)

@@ -5,7 +5,8 @@ ghost use Rattle.bicep_members.specs.Files.{repeated_member};
 ghost use Rattle.bicep_symbols.specs.Entries.{symbol_of, symbols_of, looked_up};
 ghost use Rattle.bicep_symbols.specs.Outputs.{outputs_of, looked_up_outputs};
 ghost use Rattle.bicep_symbols.specs.Repeated.{repeated_output, IsTwice};
-ghost use Rattle.bicep_symbols.specs.Names.{or_else, repeated_name};
+ghost use Rattle.bicep_symbols.specs.Names.{repeated_name};
+ghost use Rattle.foundation.specs.Options.{or_else};
 
 use crate::entry::Entry;
 use crate::fault::NameFault;

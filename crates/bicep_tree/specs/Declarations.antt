@@ -5,7 +5,7 @@ use Rattle.bicep_tree.specs.declared.leaf.TypeName.{TypeName}
 use Rattle.bicep_tree.specs.declared.leaf.TypeName.TheVariants as type
 use Rattle.bicep_tree.specs.declared.terminal.Terminal.TheVariants as t
 use Rattle.bicep_tree.specs.Tree.{DeclarationTree, metadata, target_scope, param, param_with, var, output, a_module}
-use Rattle.bicep_tree.specs.Tree.{StatementTree, statement, FileTree}
+use Rattle.bicep_tree.specs.Tree.{StatementTree, statement, FileTree, ObjectTree, MemberTrees, BodyTree}
 use Rattle.bicep_tree.specs.Tree as tree
 use Rattle.bicep_tree.specs.Terminals.{placed}
 use Rattle.bicep_tree.specs.Forms.{Form, ◌▹◌, sign_at, sign, is_newline, one, any, named, word, quoted}
@@ -51,3 +51,12 @@ abbrev mutual
 -- the tokens spell the file
 abbrev pub Spells : FileTree → List Standing → Type 0
 Spells f ts = a_file f (map placed ts) []
+
+abbrev pub object_members : ObjectTree → MemberTrees
+object_members (tree.braces at ms) = ms
+
+abbrev pub body_members : BodyTree → MemberTrees
+body_members (tree.body_plain o) = object_members o
+body_members (tree.body_if at c o) = object_members o
+body_members (tree.body_each l o) = object_members o
+body_members (tree.body_each_if l at c o) = object_members o

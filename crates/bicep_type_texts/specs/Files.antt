@@ -4,8 +4,8 @@ use Rattle.bicep_tree.specs.declared.leaf.Quoted.{Quoted}
 use Rattle.bicep_tree.specs.Tree.{ResourceTree, BodyTree, ObjectTree, MemberTree, MemberTrees, DeclarationTree}
 use Rattle.bicep_tree.specs.Tree.{StatementTree, FileTree}
 use Rattle.bicep_tree.specs.Tree as tree
-use Rattle.bicep_misplaced.specs.Expressions.{or_else}
 use Rattle.bicep_type_texts.specs.Texts.{is_whole, is_part}
+use Rattle.foundation.specs.Options.{or_else}
 
 abbrev pub bad_whole : Quoted → Option ℕ
 bad_whole q = if is_whole q.text then None else Some q.at

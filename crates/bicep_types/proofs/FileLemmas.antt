@@ -36,10 +36,7 @@ use Rattle.bicep_symbol_types.proofs.SettleLemmas.{are_settled}
 use Rattle.resolved_program.specs.Programs.{ResolvedFileTree, with_names, file_symbols, output_texts, scope_in}
 use Rattle.resolved_program.specs.Programs.{resolved_file}
 use Rattle.bicep_types.specs.Steps.{HasDeclarations, HasNoCircle}
-
-abbrev value_or : {A : Type 0} → A → Found A → A
-value_or x (found y) = y
-value_or x (unknown at) = x
+use Rattle.bicep_checks.proofs.FaultLemmas.{value_or}
 
 declared_by : (ss : List Symbol) (os : List (List ℕ)) (x : Found DeclaredFileTree) (r : ResolvedFileTree)
     → mapped (with_names ss os) x ≡ found r

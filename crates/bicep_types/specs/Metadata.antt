@@ -4,6 +4,7 @@ use Rattle.bicep_tree.specs.Tree.{Tree, StatementTree, FileTree}
 use Rattle.bicep_tree.specs.Tree as tree
 use Rattle.bicep_tree.specs.Offset.{offset}
 use Rattle.bicep_decorators.specs.Literals.{is_literal}
+use Rattle.foundation.specs.Options.{or_else}
 
 -- an expression that is no literal, by its offset
 abbrev pub no_literal : Tree → Option ℕ
@@ -19,10 +20,6 @@ bad_value (tree.statement ds (tree.var at n v)) = None
 bad_value (tree.statement ds (tree.output at n t v)) = None
 bad_value (tree.statement ds (tree.a_resource r)) = None
 bad_value (tree.statement ds (tree.a_module at n q b)) = None
-
-abbrev pub or_else : Option ℕ → Option ℕ → Option ℕ
-or_else (Some at) o = Some at
-or_else None o = o
 
 -- the first value of metadata of a file that is no literal
 abbrev pub bad_metadata : FileTree → Option ℕ

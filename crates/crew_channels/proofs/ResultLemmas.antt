@@ -11,6 +11,7 @@ use Rattle.seat_calls.specs.declared.done.Done.{Done}
 use Rattle.crew_channels.specs.Results.{results, FitsDriver, FitsSeat, AreBySeat}
 use Rattle.seat_calls.specs.Dones.{of}
 use Rattle.seat_calls.proofs.DoneLemmas.{of_append}
+use Rattle.foundation.proofs.Choices.{cond_true, cond_false}
 
 abbrev Fits : ℕ → ℕ → (ℕ → ℕ) → (ℕ → List Done) → List Done → ℕ → Results → Type 0
 Fits reader made seat sent got port v = FitsDriver reader made got port v × FitsSeat made seat sent port v
@@ -37,13 +38,6 @@ all_end F views w old new j u e =
     ⊎_elim (old j u) (λ (x : (length views ≡ j)
     × (w ≡ u)). subst (λ (y : ℕ × Results). F y.0 y.1) (λ i. (x.0 i, x.1 i)) new) (at_end views w u j e)
 
--- the second of two, where b
-over : {A : Type 0} (b : Bool) (x y : A) → b ≡ true → cond b x y ≡ x
-over b x y e = ap (λ c. cond c x y) e
-
-under : {A : Type 0} (b : Bool) (x y : A) → b ≡ false → cond b x y ≡ y
-under b x y e = ap (λ c. cond c x y) e
-
 cond_last : (b : Bool) (l : List Done) (x : Done) → l ++ cond b (x ∷ []) [] ≡ cond b (l ++ x ∷ []) l
 cond_last true l x = refl
 cond_last false l x = append-nil l
@@ -65,7 +59,7 @@ puts n port v x may own items views room h at =
         h.4,
         (λ p. ap (of p) (sym (append_assoc h.4 items (x ∷ []))) ∙ of_append p (h.4 ++ items) (x ∷ [])
             ∙ ap (λ l. l ++ of p (x ∷ [])) (h.5 p) ∙ cond_last (eqb x.worker p) (h.3 p) x),
-        (λ p late. under (eqb x.worker p) (h.3 p ++ x ∷ []) (h.3 p)
+        (λ p late. cond_false (eqb x.worker p) (h.3 p ++ x ∷ []) (h.3 p)
             (ne_eqb x.worker p (λ e. let l = me.0 in omega arith)) ∙ h.6 p late),
         all_set (Fits h.0 h.1 h.2 sent h.4) views port w (
           mine.0,
@@ -73,7 +67,7 @@ puts n port v x may own items views room h at =
             me.0,
             me.1,
             ap (λ l. l ++ x ∷ []) me.2
-                ∙ sym (over (eqb x.worker v.worker) (h.3 v.worker ++ x ∷ []) (h.3 v.worker)
+                ∙ sym (cond_true (eqb x.worker v.worker) (h.3 v.worker ++ x ∷ []) (h.3 v.worker)
                 (eq-eqb x.worker v.worker own)),
           ),
         )
@@ -83,7 +77,7 @@ puts n port v x may own items views room h at =
                 t.0,
                 t.1,
                 t.2
-                    ∙ sym (under (eqb x.worker u.worker) (h.3 u.worker ++ x ∷ []) (h.3 u.worker)
+                    ∙ sym (cond_false (eqb x.worker u.worker) (h.3 u.worker ++ x ∷ []) (h.3 u.worker)
                     (ne_eqb x.worker u.worker (λ same. other (sym t.1 ∙ ap h.2 (sym same ∙ own) ∙ me.1)))),
               ),
             )),
@@ -138,7 +132,7 @@ forks port v may items views h at =
             (λ d. absurd (other ((theirs.0 d).0 ∙ sym me.0))),
             λ s. let t = theirs.1 s in (
               (let l = t.0 in omega arith),
-              under (eqb u.worker h.1) new (h.2 u.worker)
+              cond_false (eqb u.worker h.1) new (h.2 u.worker)
                   (ne_eqb u.worker h.1 (λ e. let l = t.0 in omega arith)) ∙ t.1,
               t.2,
             ),
@@ -146,7 +140,7 @@ forks port v may items views h at =
             (λ d. no d),
             λ _. (
               (let m = me.1 in omega arith),
-              over (eqb v.made h.1) new (h.2 v.made)
+              cond_true (eqb v.made h.1) new (h.2 v.made)
                   (eq-eqb v.made h.1 me.1),
               sym (h.6 v.made (let m = me.1 in omega arith)),
             ),
@@ -176,7 +170,7 @@ merges port v other w may serves items views h at apart there =
             (λ _. me),
             λ _. (
               its.0,
-              over (eqb w.worker w.worker) port (h.2 w.worker)
+              cond_true (eqb w.worker w.worker) port (h.2 w.worker)
                   (eq-eqb w.worker w.worker refl),
               its.2,
             ),
@@ -185,7 +179,7 @@ merges port v other w may serves items views h at apart there =
             theirs.0,
             λ s. let t = theirs.1 s in (
               t.0,
-              under (eqb u.worker w.worker) port (h.2 u.worker)
+              cond_false (eqb u.worker w.worker) port (h.2 u.worker)
                   (ne_eqb u.worker w.worker (λ same. far (sym t.1 ∙ ap h.2 same ∙ its.1))) ∙ t.1,
               t.2,
             ),

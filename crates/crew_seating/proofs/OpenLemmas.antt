@@ -1,24 +1,12 @@
 -- Channels are opened one after another.
 use Rattle.std.proofs.Common.{arith, ◌≡◌, ◌<◌, ◌+◌, ⊎_elim, eqb, ◌≢◌, true, false, ℕ, zero, suc, List, [], ◌∷◌, ◌++◌}
-use Rattle.std.proofs.Common.{refl, sym, ap, ◌∙◌, subst, length, get_or}
+use Rattle.std.proofs.Common.{refl, sym, ap, ◌∙◌, subst, get_or}
 use Rattle.std.proofs.lemmas.Bool.Decides.{eqb_tells}
 use Rattle.crew_channels.specs.Rings.{DoneRing}
 use Rattle.crew_workers.specs.declared.channel.SeatChannel.{SeatChannel}
 use Rattle.crew_seating.specs.Opened.{IsOpenSeat, AreOpen}
 use Rattle.crew_seating.specs.declared.ends.SeatPasses.{SeatPasses}
-
-pub length_more : {A : Type 0} (l : List A) (x : A) → length (l ++ x ∷ []) ≡ length l + 1
-length_more [] x = refl
-length_more (y ∷ l) x = let r = length_more l x in omega arith
-
-pub get_old : {A : Type 0} (l : List A) (x : A) (k : ℕ) (d : A) → k < length l → get_or (l ++ x ∷ []) k d ≡ get_or l k d
-get_old [] x k d h = absurd (omega arith)
-get_old (y ∷ l) x zero d h = refl
-get_old (y ∷ l) x (suc k) d h = get_old l x k d (omega arith)
-
-pub get_new : {A : Type 0} (l : List A) (x d : A) → get_or (l ++ x ∷ []) (length l) d ≡ x
-get_new [] x d = refl
-get_new (y ∷ l) x d = get_new l x d
+use Rattle.foundation.proofs.Lists.{get_new, get_old, length_more}
 
 -- no seat has its channel yet
 pub open_none : (to : DoneRing) → AreOpen to 0 [] []

@@ -4,7 +4,6 @@ use Rattle.std.proofs.Common.{refl, sym, ap, ◌∙◌, subst, length, get_or, N
 use Rattle.std.proofs.lemmas.Bool.Decides.{eqb_tells}
 use Rattle.std.specs.declared.alloc.Global.{Global}
 use Rattle.std.specs.declared.vec.Vec.{Vec}
-use Rattle.crew_seating.proofs.OpenLemmas.{length_more, get_old, get_new}
 use Rattle.dealer_trait.specs.Steps.{begun_from, NoneBegun}
 use Rattle.driver_fakes.specs.Dealing.{Hand}
 use Rattle.driver_fakes.specs.ScriptedDealers.{hand_of}
@@ -12,6 +11,7 @@ use Rattle.driver_fakes.specs.declared.scripted_dealer.ScriptedDealer.{ScriptedD
 use Rattle.provider_trait.specs.Work.{Work}
 use Rattle.seat_calls.specs.declared.seat.Seat.{Seat}
 use Rattle.worker_crew.specs.Driven.{HasNoJobs}
+use Rattle.foundation.proofs.Lists.{get_new, get_old, length_more}
 
 pub no_jobs_none : {P : Type 0} → HasNoJobs {P = P} []
 no_jobs_none k s low = absurd (omega arith)

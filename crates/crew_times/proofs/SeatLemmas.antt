@@ -2,9 +2,9 @@
 use Rattle.std.proofs.Common.{arith, ◌≡◌, ◌≢◌, ◌<◌, ◌+◌, ⊎_elim, eqb, true, false, ℕ, zero, suc, List, [], ◌∷◌, ◌++◌}
 use Rattle.std.proofs.Common.{refl, ap, ◌∙◌, subst, length, get_or, None}
 use Rattle.std.proofs.lemmas.Bool.Decides.{eqb_tells}
-use Rattle.crew_seating.proofs.OpenLemmas.{length_more, get_old, get_new}
 use Rattle.seat_calls.specs.declared.seat.Seat.{Seat}
 use Rattle.worker_crew.specs.Driven.{HasNoJobs}
+use Rattle.foundation.proofs.Lists.{get_new, get_old, length_more}
 
 pub no_jobs_none : {P : Type 0} → HasNoJobs {P = P} []
 no_jobs_none k s low = absurd (omega arith)

@@ -7,19 +7,7 @@ use Rattle.crew_workers.specs.Threads.{HasThread, HasThreads}
 use Rattle.crew_workers.specs.declared.post.Post.{Post}
 use Rattle.crew_workers.specs.declared.promise.SeatPromise.{SeatPromise}
 use Rattle.crew_workers.specs.declared.seat_thread.SeatThread.{SeatThread}
-
-length_more : {A : Type 0} (l : List A) (x : A) → length (l ++ x ∷ []) ≡ length l + 1
-length_more [] x = refl
-length_more (y ∷ l) x = let r = length_more l x in omega arith
-
-pub get_old : {A : Type 0} (l : List A) (x : A) (k : ℕ) (d : A) → k < length l → get_or (l ++ x ∷ []) k d ≡ get_or l k d
-get_old [] x k d h = absurd (omega arith)
-get_old (y ∷ l) x zero d h = refl
-get_old (y ∷ l) x (suc k) d h = get_old l x k d (omega arith)
-
-pub get_new : {A : Type 0} (l : List A) (x d : A) → get_or (l ++ x ∷ []) (length l) d ≡ x
-get_new [] x d = refl
-get_new (y ∷ l) x d = get_new l x d
+use Rattle.foundation.proofs.Lists.{get_new, get_old, length_more}
 
 apart : (k n : ℕ) → k < n + 1 → k ≢ n → k < n
 apart zero zero h x = absurd (x refl)

@@ -1,5 +1,5 @@
 -- Values and the data that is written for them.
-use Rattle.std.proofs.Common.{◌≡◌, ℤ, pos, negsuc, Some, refl, ap, ap₂, sym, ◌∙◌}
+use Rattle.std.proofs.Common.{◌≡◌, Some, refl, ap, ap₂, sym, ◌∙◌}
 use Rattle.std.proofs.lemmas.Str.{encodes_same}
 use Rattle.serde_json.specs.Data as d
 use Rattle.serde_json.specs.Find.{of_integer}
@@ -7,15 +7,7 @@ use Rattle.serde_json.specs.Written.{compact_text}
 use Rattle.arm_value.specs.Json.{Json, null, bool, int, text, array, object, Row, no_items, item, Pairs, no_pairs, pair}
 use Rattle.arm_value.specs.Reading.{data_of, row_data, pairs_data, reading}
 use Rattle.dealer_trait.specs.Notes.{ReadsBack}
-
-abbrev integer_in : d.Num → ℤ
-integer_in (d.unsigned n) = pos n
-integer_in (d.negative z) = z
-integer_in (d.float x) = pos 0
-
-integer_back : (z : ℤ) → integer_in (of_integer z) ≡ z
-integer_back (pos n) = refl
-integer_back (negsuc n) = refl
+use Rattle.arm_value.proofs.TreeLemmas.{integer_in, integer_back}
 
 mutual
   same_data : (j k : Json) → data_of j ≡ data_of k → j ≡ k

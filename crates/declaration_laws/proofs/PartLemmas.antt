@@ -23,7 +23,6 @@ use Rattle.reading.specs.Reading.{done, pure, none, continued, both}
 use Rattle.reading.specs.World.{value_in}
 use Rattle.deploy_cells.specs.Guarded.{Reads}
 use Rattle.bicep_meaning.specs.Declared.{id_named}
-use Rattle.bicep_meaning.specs.Meaning.{deployment_type}
 use Rattle.bicep_emission.specs.Alike.{Seen, seen_in}
 use Rattle.bicep_emission.specs.Answered.{IsPlainPlace, Sides, deployment_types}
 use Rattle.bicep_emission.specs.Made.{made, is_made, made_whole}
@@ -38,6 +37,7 @@ use Rattle.emitted_declarations.proofs.NameLemmas.{parts_make, made_of_segments}
 use Rattle.emitted_declarations.proofs.PartLemmas.{values_from}
 use Rattle.emitted_declarations.proofs.IdLemmas.{parts_are, parts_of_name, named_by_parts, texts_back}
 use Rattle.declaration_laws.specs.Sound.{IsResourceType}
+use Rattle.arm_ids.specs.Members.{deployment_type}
 
 -- ---- segments
 

@@ -10,9 +10,9 @@ use Rattle.bicep_declared.specs.Declarations.{BodyTree}
 use Rattle.bicep_declared.specs.Declarations as d
 use Rattle.bicep_meaning.specs.Declared.{body_at}
 use Rattle.bicep_meaning.specs.Files.{SourceFile, declaration, field_named, parent, inside, below, type_of}
-use Rattle.bicep_meaning.specs.Meaning.{deployment_type}
 use Rattle.bicep_emission.specs.Emittable.{IsEmittable, IsValue, IsReach}
 use Rattle.emitted_declarations.specs.ChildTypes.{IsChildType}
+use Rattle.arm_ids.specs.Members.{deployment_type}
 
 -- the type of a resource: of two segments or more, and not that of nested deployments
 pub record IsResourceType (kind : List ℕ) : Type 0 where

@@ -48,7 +48,7 @@ texts_are (x ∷ xs) (y ∷ ys) e =
     let a : x ≡ y = eq_word x y h.0 in
     let b : xs ≡ ys = texts_are xs ys h.1 in cc
 
-texts_same : (xs : List (List ℕ)) → same_texts xs xs ≡ true
+pub texts_same : (xs : List (List ℕ)) → same_texts xs xs ≡ true
 texts_same [] = refl
 texts_same (x ∷ xs) = and_true (bytes_eq x x) (same_texts xs xs) (itself x) (texts_same xs)
 

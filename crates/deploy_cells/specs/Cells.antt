@@ -1,7 +1,8 @@
 -- The cells of a desired state, one for each value in it, and which cell decides whether another is there.
-use Rattle.std.specs.Prelude.{ℕ, suc, pos, nat_lt, Bool, true, false, List, [], ◌∷◌, Option, Some, None}
-use Rattle.arm_value.specs.Json.{Json, bool, int}
+use Rattle.std.specs.Prelude.{ℕ, suc, pos, nat_lt, Bool, true, List, [], ◌∷◌, Option, Some, None}
+use Rattle.arm_value.specs.Json.{Json, int}
 use Rattle.arm_ids.specs.declared.id.ResourceId.{ResourceId}
+use Rattle.arm_value.specs.Kinds.{is_true}
 
 -- an instance: the number of its resource among those of its template or file, and its index in the loop, or 0
 pub record Step : Type 0 where
@@ -58,10 +59,6 @@ parent (state k) = None
 abbrev pub copies : Option Json → ℕ
 copies (Some (int (pos n))) = n
 copies _ = 0
-
-abbrev pub is_true : Option Json → Bool
-is_true (Some (bool b)) = b
-is_true _ = false
 
 -- whether a cell is there where its parent has this value
 abbrev pub admits : Cell → Option Json → Bool

@@ -1,8 +1,8 @@
 -- Beginnings of texts that were written in pieces.
-use Rattle.std.proofs.Common.{◌≡◌, ℕ, ◌+◌, ◌-◌, min, List, ◌++◌, length, take, drop, Result, Ok, Err, Bool, true, sym}
-use Rattle.std.proofs.Common.{◌∙◌, ap, arith, append_assoc, length-drop}
-use Rattle.std.proofs.lemmas.List.{take-append-le, take_min, take_all}
-use Rattle.std.proofs.Math.Seq.{take-append-add, take-add}
+use Rattle.std.proofs.Common.{◌≡◌, ℕ, ◌+◌, ◌-◌, min, List, ◌++◌, length, take, Result, Ok, Err, Bool, true, sym}
+use Rattle.std.proofs.Common.{◌∙◌, ap, arith, append_assoc}
+use Rattle.std.proofs.lemmas.List.{take-append-le, take_min}
+use Rattle.std.proofs.Math.Seq.{take-append-add}
 use Rattle.deploy_cli.specs.Report.{IsPart, Wrote}
 use Rattle.arm_edges.specs.declared.faults.Failed.{Failed}
 
@@ -22,17 +22,6 @@ part_after old a b middle new is p = (
   p.1 ∙ ap (λ (l : List ℕ). l ++ take p.0 b) is ∙ append_assoc old a (take p.0 b)
       ∙ ap (λ (l : List ℕ). old ++ l) (sym (take-append-add a b p.0)),
 )
-
--- a piece right after a beginning
-pub part_next : (old text middle new : List ℕ) (done n : ℕ) → middle ≡ old ++ take done text
-    → new ≡ middle ++ take n (take (length text - done) (drop done text)) → new ≡ old ++ take (done + n) text
-part_next old text middle new done n was is =
-    is
-    ∙ ap (λ (l : List ℕ). middle ++ take n l)
-    (take_all (length text - done) (drop done text) (omega (arith, length-drop done text)))
-    ∙ ap (λ (l : List ℕ). l ++ take n (drop done text)) was
-    ∙ append_assoc old (take done text) (take n (drop done text))
-    ∙ ap (λ (l : List ℕ). old ++ l) (sym (take-add done n text))
 
 -- a first text that was written whole, and then a second
 pub wrote_then : {tells : Bool} {middle : List ℕ} → (old a b new : List ℕ) (r : Result (Unit {0}) Failed)

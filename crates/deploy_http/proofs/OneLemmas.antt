@@ -3,13 +3,13 @@ use Rattle.std.proofs.Common.{◌≡◌, ℕ, ◌+◌, ◌-◌, ◌<◌, ◌≤�
 use Rattle.std.proofs.Common.{Result, Ok, Err, refl, sym, ap, ◌∙◌, inl, inr, arith, subst, append_assoc}
 use Rattle.std.proofs.Common.{length-append}
 use Rattle.std.proofs.Math.Seq.{take-append-add}
-use Rattle.httparse.specs.Grammar.{RequestHead, print_request, ReadsRequest, HasNoRequest, LineEnd, crlf, lf, print_end}
+use Rattle.httparse.specs.Grammar.{RequestHead, print_request, ReadsRequest, HasNoRequest, print_end}
 use Rattle.httparse.specs.Grammar.{print_field, print_section}
 use Rattle.std.specs.List.{flat_map}
 use Rattle.httparse.proofs.GrammarLemmas.{request_unique, ReadsRequest-append}
 use Rattle.http_heads.specs.Fronts.{IsHopeless}
 use Rattle.http_heads.specs.Spots.{is_past_target}
-use Rattle.http_heads.proofs.FrontLemmas.{none_of_never}
+use Rattle.http_heads.proofs.FrontLemmas.{none_of_never, end_some}
 use Rattle.http_requests.specs.Bodies.{IsAsk, IsBadBody}
 use Rattle.http_requests.specs.Calls.{Called}
 use Rattle.http_requests.proofs.OneLemmas.{ask_one, ask_not_bad}
@@ -17,6 +17,7 @@ use Rattle.deploy_http.specs.Plans.{Planned, planned}
 use Rattle.deploy_http.specs.Requests.{window, BeginsWith, EndsEarly, IsHeadRefused, hopeless, too_large, asks_nothing}
 use Rattle.deploy_http.specs.Requests.{Spells, IsRefused, by_head, by_end, by_body, IsRequest, Requested}
 use Rattle.deploy_http.specs.declared.fault.HttpFault.{HttpFault}
+use Rattle.foundation.proofs.Lists.{tail_within}
 
 -- the head of an input is in its window
 in_window : (input : List ℕ) (h : RequestHead) (after : List ℕ) → BeginsWith input h after
@@ -182,14 +183,6 @@ request_apart input left coming r f x (by_body d bad) =
     let P : Called → Type 0 = λ c. IsBadBody c bad.body in
     let Q : List ℕ → Type 0 = λ b. IsBadBody x.call b in
     ask_not_bad x.call x.body r.what x.asks (subst Q (sym one.body_is) (subst P (sym one.call_is) bad.bad))
-
--- an empty input begins with no request, and is not refused
-end_some : (e : LineEnd) → 0 < length (print_end e)
-end_some crlf = omega arith
-end_some lf = omega arith
-
-tail_within : (a b : List ℕ) → length b ≤ length (a ++ b)
-tail_within a b = omega (arith, length-append a b)
 
 head_some : (h : RequestHead) → 0 < length (print_request h)
 unfolding print_request

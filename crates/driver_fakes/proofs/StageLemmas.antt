@@ -14,6 +14,7 @@ use Rattle.driver_fakes.specs.Stages.{is_waiting, is_open, is_done, stage_after,
 use Rattle.driver_fakes.specs.Stages.{has_refusal, stage_at, count_open, is_ready, is_ready_at}
 use Rattle.driver_fakes.specs.declared.stage.Stage.{Stage}
 use Rattle.driver_fakes.specs.declared.stage.Stage.TheVariants.{Waiting, Open, Done}
+use Rattle.foundation.proofs.TruthValues.{or_assoc, or_false}
 
 -- ---- one step more
 
@@ -22,14 +23,6 @@ pub stage_from-push : (task : ℕ) (stage : Stage) (steps : List DealerStep) (st
 unfolding stage_from
 stage_from-push task stage [] step = refl
 stage_from-push task stage (s ∷ rest) step = stage_from-push task (stage_after task stage s) rest step
-
-or_assoc : (a b c : Bool) → ((a || b) || c) ≡ (a || (b || c))
-or_assoc true b c = refl
-or_assoc false b c = refl
-
-pub or_false : (a : Bool) → (a || false) ≡ a
-or_false true = refl
-or_false false = refl
 
 pub or_comm : (a b : Bool) → (a || b) ≡ (b || a)
 or_comm true true = refl

@@ -4,7 +4,8 @@ use Rattle.std.proofs.Common.{Some}
 use Rattle.driver_loop.specs.declared.action.Action.{Action}
 use Rattle.driver_loop.specs.declared.action.Action.TheVariants.{Hand, Take}
 use Rattle.driver_loop.specs.declared.fault.DriveFault.{DriveFault}
-use Rattle.driver_loop.specs.Actions.{each, first_fault, fault_by, or_else, AreHands, AreTakes}
+use Rattle.driver_loop.specs.Actions.{each, first_fault, fault_by, AreHands, AreTakes}
+use Rattle.foundation.specs.Options.{or_else}
 
 pub each_append : {A : Type 0} (f : Action → List A) (l m : List Action) → each f (l ++ m) ≡ each f l ++ each f m
 unfolding each

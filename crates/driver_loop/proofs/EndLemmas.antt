@@ -4,7 +4,7 @@ use Rattle.std.proofs.Common.{append-nil, append_assoc, Option, None, Some}
 use Rattle.arm_edges.specs.Faults.{Rose}
 use Rattle.dealer_trait.specs.declared.book_fault.BookFault.{BookFault}
 use Rattle.dealer_trait.specs.declared.book_fault.BookFault.TheVariants.{Full, DiskFault, MustReopen}
-use Rattle.driver_loop.specs.Actions.{taken, each, first_fault, fault_by, or_else, note_by, refusal_by, notes_of}
+use Rattle.driver_loop.specs.Actions.{taken, each, first_fault, fault_by, note_by, refusal_by, notes_of}
 use Rattle.driver_loop.specs.Actions.{refusals_of, AreHands, AreTakes}
 use Rattle.driver_loop.specs.Ends.{BeginsNoMore, Blames, IsNoneOrMemory, Asks}
 use Rattle.driver_loop.specs.Moments.{Pages}
@@ -17,6 +17,7 @@ use Rattle.driver_loop.specs.declared.fault.DriveFault.TheVariants.{Provider, Bo
 use Rattle.driver_loop.proofs.EachLemmas.{each_append, each_chain, fault_append, takes_append}
 use Rattle.driver_loop.proofs.SettleLemmas.{no_disk_fault, breaks_none}
 use Rattle.seat_calls.specs.declared.done.Done.{Done}
+use Rattle.foundation.specs.Options.{or_else}
 
 hands_fault : (l : List Action) → AreHands l → first_fault l ≡ None
 unfolding AreHands first_fault

@@ -8,7 +8,7 @@ use Rattle.dealer_trait.specs.Steps.{begun, begun_after, IsBegun, MayAnswer}
 use Rattle.dealer_trait.specs.declared.book_fault.BookFault.{BookFault}
 use Rattle.dealer_trait.specs.declared.book_fault.BookFault.TheVariants.{Full, DiskFault, MustReopen}
 use Rattle.dealer_trait.specs.declared.dealer_step.DealerStep.{DealerStep}
-use Rattle.driver_loop.specs.Actions.{taken, end_of, note_by, noted, refusals_of, refusal_by, refused_by, or_else}
+use Rattle.driver_loop.specs.Actions.{taken, end_of, note_by, noted, refusals_of, refusal_by, refused_by}
 use Rattle.driver_loop.specs.Moments.{Pages}
 use Rattle.driver_loop.specs.OpenJobs.{IsOfOpenJob, IsOpenFor}
 use Rattle.driver_loop.specs.Runs.{Tied, Wrote, Rises, BreaksBy, first_in, has_disk_fault}
@@ -20,6 +20,7 @@ use Rattle.provider_trait.specs.Work.{Work}
 use Rattle.provider_trait.specs.declared.answer.Answer.{Answer}
 use Rattle.provider_trait.specs.declared.answer.ProviderFault.{ProviderFault}
 use Rattle.seat_calls.specs.declared.done.Done.{Done}
+use Rattle.foundation.specs.Options.{or_else}
 
 module _ (steps : List DealerStep) (opens : List (Option OpenJob)) (d : Done) (tied : Tied steps opens)
     (own : IsOfOpenJob opens d) where

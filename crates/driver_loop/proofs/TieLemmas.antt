@@ -1,5 +1,5 @@
 -- The dealer's open Begins are the open jobs of the seats.
-use Rattle.std.proofs.Common.{arith, Bool, true, false, cond, eqb, ◌≡◌, ◌≢◌, ◌<◌, ⊎_elim, ℕ, zero, suc, List, [], ◌∷◌}
+use Rattle.std.proofs.Common.{arith, true, false, cond, eqb, ◌≡◌, ◌≢◌, ◌<◌, ⊎_elim, ℕ, zero, suc, List, [], ◌∷◌}
 use Rattle.std.proofs.Common.{◌++◌, refl, sym, ap, ◌∙◌, subst, length, get_or, set, Option, None, Some, eq-eqb, ne_eqb}
 use Rattle.std.proofs.lemmas.Bool.Decides.{eqb_tells}
 use Rattle.provider_trait.specs.Work.{Work}
@@ -9,6 +9,7 @@ use Rattle.dealer_trait.specs.Steps.{begun, begun_from, begun_after, NoneBegun}
 use Rattle.driver_loop.specs.declared.open_job.OpenJob.{OpenJob}
 use Rattle.driver_loop.specs.OpenJobs.{open_at, job_at, job_in}
 use Rattle.driver_loop.specs.Runs.{IsRight, Tied}
+use Rattle.foundation.proofs.Choices.{cond_true, cond_false}
 
 begun_append : (t : ℕ) (o : Option Work) (l m : List DealerStep)
     → begun_from t o (l ++ m) ≡ begun_from t (begun_from t o l) m
@@ -23,12 +24,6 @@ begun_one t o s = refl
 -- what is begun after one more step
 pub begun_more : (t : ℕ) (l : List DealerStep) (s : DealerStep) → begun t (l ++ s ∷ []) ≡ begun_after t (begun t l) s
 begun_more t l s = begun_append t None l (s ∷ []) ∙ begun_one t (begun t l) s
-
-over : {A : Type 0} (b : Bool) (x y : A) → b ≡ true → cond b x y ≡ x
-over b x y e = ap (λ c. cond c x y) e
-
-under : {A : Type 0} (b : Bool) (x y : A) → b ≡ false → cond b x y ≡ y
-under b x y e = ap (λ c. cond c x y) e
 
 pub here_set : {A : Type 0} (l : List A) (i : ℕ) (a d : A) → i < length l → get_or (set l i a) i d ≡ a
 here_set [] i a d h = absurd (omega arith)
@@ -64,7 +59,7 @@ module _ (steps : List DealerStep) (opens : List (Option OpenJob)) (tied : Tied 
           act = act ∙ ap (λ (b : Work). b.act) (sym is);
           worker = ap (λ (b : Work). b.worker) is ∙ worker;
           open_there = begun_more o.task steps (Begin job)
-              ∙ over (eqb job.task o.task) (Some job) (begun o.task steps) (eq-eqb job.task o.task (sym task))
+              ∙ cond_true (eqb job.task o.task) (Some job) (begun o.task steps) (eq-eqb job.task o.task (sym task))
               ∙ ap (λ b. Some b) (sym is);
         }))
         (λ (x : (eqb j k ≡ false) × (j ≢ k)).
@@ -74,7 +69,7 @@ module _ (steps : List DealerStep) (opens : List (Option OpenJob)) (tied : Tied 
           act = r.act;
           worker = r.worker;
           open_there = begun_more p.task steps (Begin job)
-              ∙ under (eqb job.task p.task) (Some job) (begun p.task steps)
+              ∙ cond_false (eqb job.task p.task) (Some job) (begun p.task steps)
               (ne_eqb job.task p.task (λ t. no_some (begun p.task steps) p.job.value
               (ap (λ n. begun n steps) (sym t) ∙ none) r.open_there))
               ∙ r.open_there;
@@ -83,7 +78,7 @@ module _ (steps : List DealerStep) (opens : List (Option OpenJob)) (tied : Tied 
     all = λ t b e. ⊎_elim
         (λ (x : (eqb job.task t ≡ true) × (job.task ≡ t)).
         let own : job ≡ b = some_same job b (sym (begun_more t steps (Begin job)
-        ∙ over (eqb job.task t) (Some job) (begun t steps) x.0) ∙ e) in (
+        ∙ cond_true (eqb job.task t) (Some job) (begun t steps) x.0) ∙ e) in (
           ap (λ (y : Work). y.task) (sym own) ∙ x.1,
           ap (λ (y : Work). job_at (set opens k (Some o)) y.worker) (sym own)
               ∙ ap (λ n. job_at (set opens k (Some o)) n) worker ∙ ap job_in (here_set opens k (Some o) None low)
@@ -91,7 +86,7 @@ module _ (steps : List DealerStep) (opens : List (Option OpenJob)) (tied : Tied 
         ))
         (λ (x : (eqb job.task t ≡ false) × (job.task ≢ t)).
         let a = tied.all t b (sym (begun_more t steps (Begin job)
-        ∙ under (eqb job.task t) (Some job) (begun t steps) x.0) ∙ e) in (
+        ∙ cond_false (eqb job.task t) (Some job) (begun t steps) x.0) ∙ e) in (
           a.0,
           ap job_in (else_set opens k b.worker (Some o) None
               (λ w. no_some (job_at opens b.worker) b (ap (λ n. job_at opens n) w ∙ ap job_in free) a.1)) ∙ a.1,
@@ -119,16 +114,16 @@ module _ (steps : List DealerStep) (opens : List (Option OpenJob)) (tied : Tied 
               act = r.act;
               worker = r.worker;
               open_there = begun_more p.task steps s ∙ ends p.task (begun p.task steps)
-                  ∙ under (eqb o.task p.task) None (begun p.task steps) (ne_eqb o.task p.task other) ∙ r.open_there;
+                  ∙ cond_false (eqb o.task p.task) None (begun p.task steps) (ne_eqb o.task p.task other) ∙ r.open_there;
             })
             (eqb_tells j k);
         all = λ t b e. ⊎_elim
             (λ (x : (eqb o.task t ≡ true) × (o.task ≡ t)). absurd
             (no_some (begun t (steps ++ s ∷ [])) b (begun_more t steps s ∙ ends t (begun t steps)
-            ∙ over (eqb o.task t) None (begun t steps) x.0) e))
+            ∙ cond_true (eqb o.task t) None (begun t steps) x.0) e))
             (λ (x : (eqb o.task t ≡ false) × (o.task ≢ t)).
             let a = tied.all t b (sym (begun_more t steps s ∙ ends t (begun t steps)
-            ∙ under (eqb o.task t) None (begun t steps) x.0) ∙ e) in
+            ∙ cond_false (eqb o.task t) None (begun t steps) x.0) ∙ e) in
             let other : b.worker ≢ k = λ w. x.1 (mine.task
             ∙ ap (λ (y : Work). y.task) (some_same o.job.value b (sym (ap job_in was)
             ∙ ap (λ n. job_at opens n) (sym w) ∙ a.1)) ∙ a.0) in (

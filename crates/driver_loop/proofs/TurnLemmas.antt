@@ -1,7 +1,7 @@
 -- What the driver's loop keeps.
 use Rattle.std.proofs.Common.{◌≡◌, ℕ, Bool, List, [], ◌∷◌, ◌++◌, refl, ap, ◌∙◌, set, Option, None, Some}
 use Rattle.dealer_trait.specs.declared.book_fault.BookFault.{BookFault}
-use Rattle.driver_loop.specs.Actions.{taken, end_of, fault_by, or_else}
+use Rattle.driver_loop.specs.Actions.{taken, end_of, fault_by}
 use Rattle.driver_loop.specs.Ends.{Asks, Closed, Strayed}
 use Rattle.driver_loop.specs.Moments.{Moment, Pages}
 use Rattle.driver_loop.specs.OpenJobs.{open_at, IsOfOpenJob, IsStray}
@@ -14,6 +14,7 @@ use Rattle.driver_loop.proofs.EndLemmas.{knows_none, knows_ask, knows_take, begi
 use Rattle.driver_loop.proofs.RunLemmas.{ran_none, ran_more, ran_take}
 use Rattle.driver_loop.proofs.TieLemmas.{tied_none}
 use Rattle.seat_calls.specs.declared.done.Done.{Done}
+use Rattle.foundation.specs.Options.{or_else}
 
 module _ (tells : Bool) (m0 : Moment) (p0 : Pages) where
   -- the free seats were asked for

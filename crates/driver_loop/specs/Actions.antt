@@ -14,6 +14,7 @@ use Rattle.provider_trait.specs.declared.answer.Answer.{Answer}
 use Rattle.provider_trait.specs.declared.answer.ProviderFault.{ProviderFault}
 use Rattle.provider_trait.specs.declared.answer.ProviderFault.TheVariants.{Fault, OutOfMemory}
 use Rattle.seat_calls.specs.declared.done.Done.{Done}
+use Rattle.foundation.specs.Options.{or_else}
 
 -- a result was received and settled
 abbrev pub taken : Done → Option BookFault → Action
@@ -98,11 +99,6 @@ fault_of worker (Err reason) refused = Some (blame worker reason)
 abbrev pub fault_by : Action → Option DriveFault
 fault_by (Hand job) = None
 fault_by (Take done refused) = fault_of done.worker done.got refused
-
--- the one, or else the other
-abbrev pub or_else : {A : Type 0} → Option A → Option A → Option A
-or_else None b = b
-or_else (Some a) b = Some a
 
 -- the first fault
 unfoldable pub first_fault : List Action → Option DriveFault

@@ -5,13 +5,14 @@ use Rattle.dealer_trait.specs.Steps.{begun}
 use Rattle.dealer_trait.specs.declared.book_fault.BookFault.{BookFault}
 use Rattle.dealer_trait.specs.declared.book_fault.BookFault.TheVariants.{Full, DiskFault, MustReopen}
 use Rattle.dealer_trait.specs.declared.dealer_step.DealerStep.{DealerStep}
-use Rattle.driver_loop.specs.Actions.{steps_of, dones_of, hands_of, notes_of, refusals_of, or_else}
+use Rattle.driver_loop.specs.Actions.{steps_of, dones_of, hands_of, notes_of, refusals_of}
 use Rattle.driver_loop.specs.Courses.{Goes, Resembles}
 use Rattle.driver_loop.specs.Moments.{Moment, Pages}
 use Rattle.driver_loop.specs.OpenJobs.{open_at, job_at}
 use Rattle.driver_loop.specs.declared.action.Action.{Action}
 use Rattle.driver_loop.specs.declared.open_job.OpenJob.{OpenJob}
 use Rattle.provider_trait.specs.Work.{Work}
+use Rattle.foundation.specs.Options.{or_else}
 
 -- the actions are all that was done between two moments to the dealer and the seats
 pub record Ran (m m' : Moment) (course : List Action) : Type 0 where

@@ -2,11 +2,11 @@
 
 ghost use Rattle.std.specs.Prelude.{◌≡◌, ◌<◌, ◌≤◌, ◌^◌, ℕ, List, length, None, Some, true};
 ghost use Rattle.driver_loop.specs.declared.action.Action.{Action};
-ghost use Rattle.driver_loop.specs.Actions.{or_else};
 ghost use Rattle.driver_loop.specs.Ends.{Asks, Drove, IsTaskAt};
 ghost use Rattle.driver_loop.specs.Moments.{moment, pages};
 ghost use Rattle.driver_loop.specs.Runs.{Ran, Tied};
 ghost use Rattle.driver_loop.specs.Turns.{Turns};
+ghost use Rattle.foundation.specs.Options.{or_else};
 
 use crate::asking::deal;
 use crate::crew::Crew;

@@ -5,7 +5,7 @@ use Rattle.std.proofs.Common.{length-append, refl, sym, ap, ◌∙◌, subst, ar
 use Rattle.std.proofs.lemmas.Bool.Decides.{nat_tests}
 use Rattle.std.specs.Prelude.{◌==◌, nat_lt, option_map, option_and_then, if◌then◌else◌}
 use Rattle.std.specs.List.{list_any}
-use Rattle.foundation.proofs.TruthValues.{both, and_true, both_ways, or_left, or_right, nor}
+use Rattle.foundation.proofs.TruthValues.{both, and_true, both_ways, or_left, or_right, nor, of_not}
 use Rattle.arm_value.specs.Json.{Json, null, bool, int, text, array, object}
 use Rattle.arm_ids.specs.Id.{is_whole, has_empty_segment}
 use Rattle.arm_ids.specs.Segments.{segments, is_empty, has_slash}
@@ -17,10 +17,7 @@ use Rattle.bicep_meaning.specs.Declared.{id_after, id_with}
 use Rattle.bicep_emission.specs.Made.{made, is_made, made_whole}
 use Rattle.emitted_declarations.specs.Parts.{made_of}
 use Rattle.emitted_declarations.specs.ChildTypes.{IsChildType}
-
-not_true : (b : Bool) → not b ≡ true → b ≡ false
-not_true true e = absurd cc
-not_true false e = refl
+use Rattle.foundation.proofs.Comparisons.{positive}
 
 true_not : (b : Bool) → b ≡ false → not b ≡ true
 true_not true e = absurd cc
@@ -61,15 +58,12 @@ record IsWhole (place : Place) (kind : List ℕ) (ns : List (List ℕ)) : Type 0
   paired : length (segments kind) ≡ suc (length ns)
   some : 0 < length ns
 
-positive : (n : ℕ) → nat_lt 0 n ≡ true → 0 < n
-positive n e = grind (arith, nat_tests)
-
 whole_is : (place : Place) (kind : List ℕ) (ns : List (List ℕ)) → is_whole (made place kind ns) ≡ true
     → IsWhole place kind ns
 whole_is place kind ns e =
     let a = both (not (has_empty_segment (made place kind ns)))
     ((length (segments kind) == suc (length ns)) && nat_lt 0 (length ns)) e in
-    let n = not_true (has_empty_segment (made place kind ns)) a.0 in
+    let n = of_not (has_empty_segment (made place kind ns)) a.0 in
     let r = or_right (is_empty place.subscription) (is_empty place.group || list_any is_empty
     (segments kind ++ ns)) n in
     let q = or_right (is_empty place.group) (list_any is_empty (segments kind ++ ns)) r in
@@ -112,7 +106,7 @@ module _ (place : Place) (kind upper : List ℕ) (c : IsChildType kind upper) wh
         paired = one_less (ap length (sym c.is) ∙ w.paired);
         some = some_names (ap length (sym c.is) ∙ w.paired) c.parent;
       }))
-      (true_not (list_any has_slash ns) (any_front has_slash ns (n ∷ []) (not_true (list_any has_slash (ns ++ n
+      (true_not (list_any has_slash ns) (any_front has_slash ns (n ∷ []) (of_not (list_any has_slash (ns ++ n
       ∷ [])) a.1)))
     where
       one_less : length (segments upper ++ c.last ∷ []) ≡ suc (length (ns ++ n ∷ []))
@@ -139,7 +133,7 @@ module _ (place : Place) (kind upper : List ℕ) (c : IsChildType kind upper) wh
           and_true (is_made place upper ns) (not (has_slash n) && is_whole (made place kind (ns ++ n
           ∷ []))) (parent_made ns n e)
           (and_true (not (has_slash n)) (is_whole (made place kind (ns ++ n ∷ [])))
-          (true_not (has_slash n) (last_cut ns n (not_true (list_any has_slash (ns ++ n ∷ [])) a.1))) a.0)
+          (true_not (has_slash n) (last_cut ns n (of_not (list_any has_slash (ns ++ n ∷ [])) a.1))) a.0)
 
       back : (is_made place upper ns && (not (has_slash n) && is_whole (made place kind (ns ++ n ∷ [])))) ≡ true
           → is_made place kind (ns ++ n ∷ []) ≡ true
@@ -149,8 +143,8 @@ module _ (place : Place) (kind upper : List ℕ) (c : IsChildType kind upper) wh
           let d = both (not (has_slash n)) (is_whole (made place kind (ns ++ n ∷ []))) a.1 in
           and_true (is_whole (made place kind (ns ++ n ∷ []))) (not (list_any has_slash (ns ++ n ∷ []))) d.1
           (true_not (list_any has_slash (ns ++ n ∷ []))
-          (any_none has_slash ns (n ∷ []) (not_true (list_any has_slash ns) b.1)
-          (nor (has_slash n) false (not_true (has_slash n) d.0) refl)))
+          (any_none has_slash ns (n ∷ []) (of_not (list_any has_slash ns) b.1)
+          (nor (has_slash n) false (of_not (has_slash n) d.0) refl)))
 
   child_by : (ns : List (List ℕ)) (n : List ℕ) (p q w m : Bool) → m ≡ (p && (not q && w))
       → (if m then Some (made place kind (ns ++ n ∷ [])) else None)

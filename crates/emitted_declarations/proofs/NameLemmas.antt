@@ -13,6 +13,7 @@ use Rattle.arm_ids.specs.declared.id.Place.{Place}
 use Rattle.arm_ids.specs.declared.id.ResourceId.{ResourceId}
 use Rattle.arm_ids.proofs.SegmentLemmas.{segments_cut}
 use Rattle.bicep_emission.specs.Made.{made, is_made, made_whole}
+use Rattle.foundation.proofs.Comparisons.{eq_of_true}
 
 -- the first n of these, and then the others as one text
 abbrev pub names_from : List (List ℕ) → ℕ → Option (List (List ℕ))
@@ -86,15 +87,12 @@ nothing_made : (place : Place) (kind : List ℕ) (o : Option (List (List ℕ))) 
 nothing_made place kind None h = refl
 nothing_made place kind (Some ns) h = ap (λ b. if b then Some (made place kind ns) else None) (not_made place kind ns h)
 
-equal_lengths : (m n : ℕ) → (m == n) ≡ true → m ≡ n
-equal_lengths m n e = grind (arith, nat_tests)
-
 -- an id whose name has another number of segments than its type is none
 not_whole : (place : Place) (kind : List ℕ) (ns : List (List ℕ)) → (length (segments kind) ≡ suc (length ns) → ⊥)
     → is_whole (made place kind ns) ≡ false
 not_whole place kind ns h =
     ap (λ q. not (has_empty_segment (made place kind ns)) && (q && nat_lt 0 (length ns)))
-    (unless (length (segments kind) == suc (length ns)) (λ q. h (equal_lengths (length (segments kind)) (suc
+    (unless (length (segments kind) == suc (length ns)) (λ q. h (eq_of_true (length (segments kind)) (suc
     (length ns)) q)))
     ∙ and_false (not (has_empty_segment (made place kind ns))) false refl
 
@@ -127,7 +125,7 @@ parts_make place kind t n h = by_number (length (segments t) == suc n) refl
         → option_and_then (made_whole place kind) (names_from (segments t) n)
         ≡ (if is_whole (made place kind (segments t)) then Some (made place kind (segments t)) else None)
     by_number true e =
-        ap (option_and_then (made_whole place kind)) (all_names (segments t) n (equal_lengths (length (segments t))
+        ap (option_and_then (made_whole place kind)) (all_names (segments t) n (eq_of_true (length (segments t))
         (suc n) e))
         ∙ made_of_segments place kind t
     by_number false e =

@@ -1,11 +1,10 @@
 -- Lists of expressions that are built one after another.
-use Rattle.std.proofs.Common.{◌≡◌, ◌<◌, ◌+◌, ℕ, suc, List, [], ◌∷◌, ◌++◌, map, length, get_or, drop, add-one, refl, ap}
+use Rattle.std.proofs.Common.{◌≡◌, ◌+◌, ℕ, List, [], ◌∷◌, ◌++◌, map, refl, ap}
 use Rattle.std.proofs.Common.{sym, ◌∙◌}
 use Rattle.std.proofs.Common.{subst, true}
 use Rattle.std.specs.Prelude.{Result, Ok, Err, IfOk}
 use Rattle.std.specs.Str.{chars}
 use Rattle.foundation.proofs.AsciiWords.{word}
-use Rattle.std.proofs.Math.Seq.{drop-cons}
 use Rattle.std.specs.declared.vec.Vec.{Vec}
 use Rattle.std.specs.declared.alloc.Global.{Global}
 use Rattle.std.specs.declared.alloc.AllocError.{AllocError}
@@ -48,11 +47,6 @@ begin_more ts t (Err x) (Err y) (Ok r) a b i = absurd a
 pub are_these : (ts : List Tree) (r : Result (Vec Expr Global) AllocError) → Begin ts r → Are (trees ts) r
 are_these ts (Ok es) b = ap trees b
 are_these ts (Err x) b = tt
-
--- the first of what is left
-pub left : {A : Type 0} (xs : List A) (i : ℕ) (x : A) → i < length xs → x ≡ get_or xs i x
-    → drop i xs ≡ x ∷ drop (i + 1) xs
-left xs i x h e = rw (add-one, drop-cons xs i x h) (ap (λ y. y ∷ drop (suc i) xs) (sym e))
 
 -- one more expression, and those that are still to come
 pub grown : (old new : Vec Expr Global) (item : Result Expr AllocError) (t : Tree) (ts rest whole : Trees)

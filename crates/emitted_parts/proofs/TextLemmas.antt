@@ -10,7 +10,7 @@ use Rattle.arm_expr.specs.Print.{Adds}
 use Rattle.bicep_resolved.specs.Source.{SourceTree, PieceTrees}
 use Rattle.bicep_resolved.specs.Source as s
 use Rattle.bicep_emission.specs.Texts.{written_twice, doubled_onto, hole_onto, format_text}
-use Rattle.emitted_parts.proofs.BuiltLemmas.{left}
+use Rattle.foundation.proofs.Lists.{next_item}
 
 -- the holes and the characters after them, from a number on
 abbrev pub after_first : ℕ → PieceTrees → List ℕ
@@ -23,7 +23,7 @@ format_is i before s.no_piece = refl
 format_is i before (s.piece e after ps) = refl
 
 cons_at : (all : List ℕ) (n c : ℕ) → (n < length all) × (c ≡ get_or all n c) → drop n all ≡ c ∷ drop (n + 1) all
-cons_at all n c t = left all n c t.0 t.1
+cons_at all n c t = next_item all n c t.0 t.1
 
 pub twice_turn : (o p base all : List ℕ) (n m c : ℕ) → (n < length all) × (c ≡ get_or all n c) → m ≡ n + 1
     → Adds o p (λ k. written_twice c k)

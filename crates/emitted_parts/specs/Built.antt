@@ -9,8 +9,8 @@ use Rattle.arm_expr.specs.Tree.{Tree, Trees, trees, call}
 use Rattle.arm_expr.specs.Tree as tree
 use Rattle.arm_expr.specs.View.{tree_of}
 use Rattle.arm_expr.specs.declared.expr.Expr.{Expr}
-use Rattle.bicep_meaning.specs.Meaning.{deployment_type}
 use Rattle.bicep_emission.specs.Emitted.{one, two}
+use Rattle.arm_ids.specs.Members.{deployment_type}
 
 -- an expression that is built, or no memory
 abbrev pub Is : Tree → Result Expr AllocError → Type 0

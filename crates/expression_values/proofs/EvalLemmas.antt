@@ -1,8 +1,6 @@
 -- Expressions of the code, form by form.
 use Rattle.std.proofs.Common.{◌≡◌, ◌<◌, ◌+◌, ℕ, suc, ℤ, List, [], ◌∷◌, map, drop, length, get_or}
 use Rattle.std.proofs.Common.{Bool, true, false, Option, Some, None, nat_le, refl, sym, ap, ◌∙◌, subst, arith}
-use Rattle.std.proofs.Common.{add-one}
-use Rattle.std.proofs.Math.Seq.{drop-cons}
 use Rattle.std.proofs.lemmas.Bool.Decides.{nat_tests}
 use Rattle.std.specs.Prelude.{if◌then◌else◌}
 use Rattle.std.specs.declared.vec.Vec.{Vec}
@@ -31,6 +29,7 @@ use Rattle.arm_env.specs.declared.stop.Stop.{Stop}
 use Rattle.arm_env.proofs.Answers.{told-done, told-both}
 use Rattle.expression_values.proofs.Answers.{told-outcome}
 use Rattle.arm_env.proofs.Answers.{goes, stops}
+use Rattle.foundation.proofs.Lists.{next_item}
 
 values-outs : (here : Surroundings) (es : List Expr)
     → values here (trees (map tree_of es)) ≡ outs here es
@@ -132,11 +131,6 @@ index_stops s p r q h e f =
     (subst P (sym (both_out p r q))
     (second_stops (Option Held) Json s (outcome_told (told p r)) (told p q) h e f))
 
--- the first of what is left
-pub left : {A : Type 0} (xs : List A) (i : ℕ) (x : A) → i < length xs → x ≡ get_or xs i x
-    → drop i xs ≡ x ∷ drop (i + 1) xs
-left xs i x h e = rw (add-one, drop-cons xs i x h) (ap (λ y. y ∷ drop (suc i) xs) (sym e))
-
 -- a turn of a loop over the arguments of a row
 pub turn : (row : List (Looking Json) → Looking Json) (p : Look → Known Fact) (here : Surroundings)
     (es : List Expr) (i : ℕ) (x : Expr) → i < length es → x ≡ get_or es i x
@@ -144,7 +138,7 @@ pub turn : (row : List (Looking Json) → Looking Json) (p : Look → Known Fact
     → told p (row (outs here es)) ≡ told p
     (row (value here (tree_of x) ∷ outs here (drop (i + 1) es)))
 turn row p here es i x l e so_far = so_far
-    ∙ ap (λ xs. told p (row (outs here xs))) (left es i x l e)
+    ∙ ap (λ xs. told p (row (outs here xs))) (next_item es i x l e)
 
 -- a part that stops the whole
 pub stops_at : {A B : Type 0} (p : Look → Known Fact) (s : Stop) (t : knowledge.Told Look B) (o : Looking A)

@@ -1,6 +1,5 @@
 pub mod Answers
 pub mod AccessLemmas
-pub mod RowLemmas
 pub mod EvalLemmas
 pub mod IdLemmas
 pub mod Equations

@@ -22,9 +22,10 @@ use Rattle.arm_env.specs.Loop.{copy_index}
 use Rattle.arm_env.specs.Id.{resource_id, subscription_id}
 use Rattle.arm_env.specs.Object as object
 use Rattle.arm_env.specs.Find.{id_key}
-use Rattle.expression_values.specs.Row.{lazy_row, only_text, texts_in, asked}
+use Rattle.expression_values.specs.Row.{lazy_row, only_text, asked}
 use Rattle.arm_env.specs.Held.{Held, state_whole, deployment, capped, held_value, forced, access}
 use Rattle.arm_env.specs.Held.{access_by}
+use Rattle.function_texts.specs.Cuts.{texts_in}
 
 -- the state at a key, or its properties
 abbrev pub state_asked : ResourceId → Asked → Looking Held

@@ -1,10 +1,10 @@
 -- The functions of the evaluator, by what their arguments give (Microsoft Learn, "Template
 -- functions").
 use Rattle.std.specs.Prelude.{ℕ, Bool, true, false, List, [], ◌∷◌, Option, Some, None, codes}
-use Rattle.std.specs.Prelude.{nat_le, length, option_map, option_and_then, if◌then◌else◌}
+use Rattle.std.specs.Prelude.{nat_le, length, option_map, if◌then◌else◌}
 use Rattle.arm_value.specs.Json.{Json, null, bool, text}
 use Rattle.arm_value.specs.Look.{is_same_folded}
-use Rattle.function_numbers.specs.Kinds.{truth_of, text_of}
+use Rattle.function_numbers.specs.Kinds.{truth_of}
 use Rattle.reading.specs.Reading.{pure, none, continued}
 use Rattle.arm_env.specs.Look.{Looking}
 use Rattle.arm_env.specs.declared.function.Lazy.{Lazy}
@@ -70,11 +70,6 @@ lazy_row lazy.Coalesce os = coalesce_row os
 abbrev pub only_text : List Json → Option (List ℕ)
 only_text (text t ∷ []) = Some t
 only_text _ = None
-
--- the texts that all of these are
-unfoldable pub texts_in : List Json → Option (List (List ℕ))
-texts_in [] = Some []
-texts_in (j ∷ js) = option_and_then (λ t. option_map (λ ts. t ∷ ts) (texts_in js)) (text_of j)
 
 -- what `reference` asks of a state by its third argument
 abbrev pub asked_by : List ℕ → Option Asked

@@ -11,7 +11,6 @@ ghost use Rattle.arm_env.specs.Names.{strict_named};
 ghost use Rattle.arm_env.specs.Find.{id_key};
 ghost use Rattle.arm_env.specs.Id.{resource_id, subscription_id};
 ghost use Rattle.expression_values.specs.Row as row;
-ghost use Rattle.expression_values.specs.Row.{texts_in};
 ghost use Rattle.arm_env.specs.Held.{held_value};
 ghost use Rattle.expression_values.specs.Meaning.{state_asked, found_at, referred, key_meant, reference, strict_row};
 ghost use Rattle.expression_values.specs.Meaning.{strict_call};
@@ -19,6 +18,7 @@ ghost use Rattle.expression_values.specs.Args.{id_told};
 ghost use Rattle.function_numbers.specs.Kinds.{of_none};
 ghost use Rattle.arm_env.specs.Answer.{plain_told, Gives};
 ghost use Rattle.arm_env.specs.Sight.{here, held_of};
+ghost use Rattle.function_texts.specs.Cuts.{texts_in};
 
 use arm_env::entries::{Around, Entries};
 use arm_env::find::id_key;

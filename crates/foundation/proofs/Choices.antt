@@ -1,5 +1,5 @@
 -- Choices by a truth value.
-use Rattle.std.proofs.Common.{◌≡◌, Bool, true, false, cond, refl}
+use Rattle.std.proofs.Common.{◌≡◌, Bool, true, false, cond, refl, ap}
 
 -- what holds of both sides holds of the choice
 pub if_else : {A : Type 0} (P : A → Type 0) (b : Bool) (x y : A) → (b ≡ true → P x) → (b ≡ false → P y) → P (cond b x y)
@@ -10,3 +10,11 @@ if_else P false x y f g = g refl
 pub chosen : {A B : Type 0} (f : A → B) (b : Bool) (x y : A) → f (cond b x y) ≡ cond b (f x) (f y)
 chosen f true x y = refl
 chosen f false x y = refl
+
+-- a choice whose test holds
+pub cond_true : {A : Type 0} (b : Bool) (x y : A) → b ≡ true → cond b x y ≡ x
+cond_true b x y e = ap (λ c. cond c x y) e
+
+-- a choice whose test fails
+pub cond_false : {A : Type 0} (b : Bool) (x y : A) → b ≡ false → cond b x y ≡ y
+cond_false b x y e = ap (λ c. cond c x y) e

@@ -4,5 +4,6 @@ pub mod Choices
 pub mod Comparisons
 pub mod Lists
 pub mod OptionLoops
+pub mod Options
 pub mod TruthValues
 pub mod Words

@@ -1,5 +1,5 @@
 -- Lemmas on truth values.
-use Rattle.std.proofs.Common.{◌≡◌, Bool, true, false, ◌&&◌, ◌||◌, cond, refl, sym, true≢false}
+use Rattle.std.proofs.Common.{◌≡◌, Bool, true, false, ◌&&◌, ◌||◌, cond, refl, sym, true≢false, not}
 
 -- a conjunction that holds, holds of both
 pub both : (a b : Bool) → (a && b) ≡ true → (a ≡ true) × (b ≡ true)
@@ -62,3 +62,49 @@ pub third_decides : (x y z r : Bool) → x ≡ true → y ≡ true → r ≡ z �
 third_decides true true z r e f h = h
 third_decides true false z r e f h = absurd (true≢false (sym f))
 third_decides false y z r e f h = absurd (true≢false (sym e))
+
+-- a disjunction of three, grouped either way
+pub or_assoc : (a b c : Bool) → ((a || b) || c) ≡ (a || (b || c))
+or_assoc true b c = refl
+or_assoc false b c = refl
+
+-- what is joined with a test that fails is itself
+pub or_false : (a : Bool) → (a || false) ≡ a
+or_false true = refl
+or_false false = refl
+
+pub or_true : (a : Bool) → (a || true) ≡ true
+or_true true = refl
+or_true false = refl
+
+pub and_true_is : (a : Bool) → (a && true) ≡ a
+and_true_is true = refl
+and_true_is false = refl
+
+pub and_false_is : (t : Bool) → (t && false) ≡ false
+and_false_is true = refl
+and_false_is false = refl
+
+pub or_false_twice : (b : Bool) → ((b || false) || false) ≡ b
+or_false_twice true = refl
+or_false_twice false = refl
+
+-- four tests, joined in pairs either way
+pub or_crossed : (a b c d : Bool) → ((a || b) || (c || d)) ≡ ((a || c) || (b || d))
+or_crossed true b c d = refl
+or_crossed false true true d = refl
+or_crossed false true false d = refl
+or_crossed false false c d = refl
+
+pub of_not : (b : Bool) → not b ≡ true → b ≡ false
+of_not true e = let d : true ≡ false = sym e in cc
+of_not false e = refl
+
+-- a disjunction that fails, fails on both sides
+pub neither : (a b : Bool) → (a || b) ≡ false → (a ≡ false) × (b ≡ false)
+neither true b e = absurd (cc)
+neither false b e = (refl, e)
+
+-- what follows where false is true
+pub impossible : {A : Type 0} → false ≡ true → A
+impossible e = cc

@@ -6,6 +6,7 @@ use Rattle.arm_value.specs.Json.{Json, int, array, items}
 use Rattle.arm_value.specs.Same.{is_same}
 use Rattle.function_numbers.specs.Kinds.{items_of, of_one}
 use Rattle.function_lists.specs.Values.{array_of}
+use Rattle.arm_value.specs.Kinds.{is_array}
 
 -- an array itself, else the array of the value alone
 abbrev pub as_array : Json → Option Json
@@ -45,10 +46,6 @@ distinct before (j ∷ js) = if is_among before j then distinct (before ++ j ∷
 -- `union` of arrays: the items in the order of their first appearance, equal ones once
 abbrev pub union_of_arrays : List Json → Option Json
 union_of_arrays args = option_and_then (λ js. array_of (distinct [] js)) (joined args)
-
-abbrev pub is_array : Json → Bool
-is_array (array js) = true
-is_array _ = false
 
 -- whether the value is an item of the array
 abbrev pub is_item_of : Json → Json → Bool

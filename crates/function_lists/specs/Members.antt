@@ -1,5 +1,5 @@
 -- The functions on objects (Microsoft Learn: ARM template functions, object).
-use Rattle.std.specs.Prelude.{ℕ, ℤ, pos, negsuc, bytes_eq, ◌&&◌, codes, Bool, true, false, List, [], ◌∷◌, ◌++◌, map}
+use Rattle.std.specs.Prelude.{ℕ, ℤ, pos, negsuc, bytes_eq, ◌&&◌, codes, Bool, false, List, [], ◌∷◌, ◌++◌, map}
 use Rattle.std.specs.Prelude.{slice_get, Option, Some, None, option_map, option_and_then, if◌then◌else◌}
 use Rattle.std.specs.List.{list_any, list_all, filter}
 use Rattle.arm_value.specs.Json.{Json, null, int, text, array, object, Pairs, no_pairs, pair, Member, items, members}
@@ -9,6 +9,7 @@ use Rattle.arm_value.specs.Same.{is_same}
 use Rattle.function_numbers.specs.Kinds.{text_of, members_of, of_one}
 use Rattle.function_lists.specs.Values.{array_of, object_of, or_null}
 use Rattle.function_lists.specs.Items.{union_of_arrays, intersection_of_arrays}
+use Rattle.arm_value.specs.Kinds.{is_object}
 
 -- `objectKeys`: the keys, in the order of their bytes
 abbrev pub object_keys : List Json → Option Json
@@ -69,10 +70,6 @@ union_by None others args = union_of_arrays args
 abbrev pub union : List Json → Option Json
 union [] = None
 union (j ∷ js) = union_by (members_of j) js (j ∷ js)
-
-abbrev pub is_object : Json → Bool
-is_object (object ms) = true
-is_object _ = false
 
 -- whether the object has an equal value at exactly this key
 abbrev pub is_member_of : Member → Json → Bool

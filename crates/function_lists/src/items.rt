@@ -8,8 +8,9 @@ ghost use Rattle.function_numbers.specs.Kinds.{items_of};
 ghost use Rattle.function_lists.specs.Values.{array_of};
 ghost use Rattle.function_lists.specs.Index.{IsIndexOf};
 ghost use Rattle.function_lists.specs.Items as row;
-ghost use Rattle.function_lists.specs.Items.{as_array, joined, is_among, distinct, is_array, is_item_of, or_found};
+ghost use Rattle.function_lists.specs.Items.{as_array, joined, is_among, distinct, is_item_of, or_found};
 ghost use Rattle.function_lists.specs.Items.{here, first_place, last_place};
+ghost use Rattle.arm_value.specs.Kinds.{is_array};
 
 use crate::index::{add, has, texts_of};
 use crate::values::{array_of, copies};

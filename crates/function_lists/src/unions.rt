@@ -7,8 +7,9 @@ ghost use Rattle.arm_value.specs.Same.{is_same};
 ghost use Rattle.arm_value.specs.View.{json, member};
 ghost use Rattle.function_lists.specs.Merge.{from, without_first, united_to};
 ghost use Rattle.function_lists.specs.Members as row;
-ghost use Rattle.function_lists.specs.Members.{under, united, united_all, union_by, is_object, is_member_of};
+ghost use Rattle.function_lists.specs.Members.{under, united, united_all, union_by, is_member_of};
 ghost use Rattle.function_lists.specs.Members.{intersection_with};
+ghost use Rattle.arm_value.specs.Kinds.{is_object};
 
 use crate::items::{intersection_of_arrays, union_of_arrays};
 use crate::merge::{all_in_object, compare, move_below, push_named, take_object};

@@ -10,7 +10,7 @@ use Rattle.std.proofs.lemmas.Bool.Decides.{nat_tests}
 use Rattle.std.proofs.lemmas.Str.{encodes-chars, chars-nil}
 use lib.Utf8.{encodes}
 use Rattle.function_numbers.specs.Numbers.{is_digit, with_digit, read_on, small, numeral, after_minus}
-use Rattle.foundation.proofs.Lists.{next_character}
+use Rattle.foundation.proofs.Lists.{next_item}
 
 some_characters : (b : ℕ) (bs cs : List ℕ) → encodes cs ≡ b ∷ bs → false ≡ (length cs == 0)
 some_characters b bs [] e = absurd (cc)
@@ -87,7 +87,7 @@ pub read_more : (n m c : ℕ) (cs ys : List ℕ) (all : Option ℕ) → (length 
 read_more n m c cs ys all t d before = (
   rw (length_push ys c)
       (sym (read_on-cons n c (drop (length ys + 1) cs) ∙ digit_by (with_digit n c) m (drop (length ys + 1) cs) d)
-      ∙ ap (read_on n) (sym (next_character cs (length ys) c t.0 t.1)) ∙ before.0),
+      ∙ ap (read_on n) (sym (next_item cs (length ys) c t.0 t.1)) ∙ before.0),
   small_stays (with_digit n c) m d,
 )
 
@@ -98,7 +98,7 @@ pub read_fails : (n c : ℕ) (cs ys : List ℕ) → (length cs == 0) ≡ false �
     → None ≡ option_and_then small (numeral cs)
 read_fails n c cs ys some t d before =
     sym (ap (option_and_then small) (is_numeral cs some ∙ sym before
-    ∙ ap (read_on n) (next_character cs (length ys) c t.0 t.1) ∙ read_on-cons n c (drop (length ys + 1) cs))
+    ∙ ap (read_on n) (next_item cs (length ys) c t.0 t.1) ∙ read_on-cons n c (drop (length ys + 1) cs))
     ∙ no_digit_by (with_digit n c) (drop (length ys + 1) cs) d)
 
 pub read_ends : (n : ℕ) (cs ys : List ℕ) → (length cs == 0) ≡ false → length ys ≡ length cs

@@ -16,6 +16,7 @@ use Rattle.arm_value.specs.Reading.{data_of, row_data, pairs_data, or_else, not_
 use Rattle.arm_value.specs.Reading.{members_not_whole}
 use Rattle.function_prints.specs.Stated.{tree_of, row_of, pairs_of, shallow_tree}
 use Rattle.arm_value.proofs.DataLemmas.{mapped_none, or_else_first, or_else_none}
+use Rattle.foundation.proofs.Comparisons.{le_true}
 
 -- ---- data of a tree
 
@@ -151,12 +152,9 @@ mutual
 
 -- ---- what is read
 
-is_shallow : (n : ℕ) → n ≤ 120 → nat_le n 120 ≡ true
-is_shallow n h = grind (arith, nat_tests)
-
 pub stated_tree : (o : Option d.Data) (j : Json) → Gives o j → Some j ≡ option_and_then shallow_tree o
 stated_tree o j g =
-    let shallow : nat_le (d.depth (data_of j)) 120 ≡ true = is_shallow _ g.1 in
+    let shallow : nat_le (d.depth (data_of j)) 120 ≡ true = le_true _ 120 g.1 in
     rw (g.0, shallow) (sym (tree_of-data_of j g.2))
 
 pub stated_none : (o : Option d.Data) (p : List ℕ) → IsSomeAnd o (λ x. (d.depth x ≤ 120) × (not_whole x ≡ Some p))

@@ -5,7 +5,7 @@ use Rattle.std.specs.Prelude.{if◌then◌else◌}
 use Rattle.std.proofs.Math.Seq.{drop-cons}
 use Rattle.std.proofs.lemmas.List.{drop_all, take_all, take_more, length-drop}
 use Rattle.function_texts.specs.Letters.{is_blank, without_blanks, before_blanks, up_to_blanks}
-use Rattle.foundation.proofs.Lists.{next_character}
+use Rattle.foundation.proofs.Lists.{next_item}
 
 without-cons : (c : ℕ) (cs : List ℕ) → without_blanks (c ∷ cs) ≡ (if is_blank c then without_blanks cs else c ∷ cs)
 unfolding without_blanks
@@ -15,7 +15,7 @@ pub blank_front : (cs : List ℕ) (i c : ℕ) (all : List ℕ) → i < length cs
     → without_blanks (drop i cs) ≡ all → without_blanks (drop (i + 1) cs) ≡ all
 blank_front cs i c all h e b before =
     let step : without_blanks (drop i cs) ≡ without_blanks (drop (i + 1) cs) =
-    ap without_blanks (next_character cs i c h e) ∙ without-cons c (drop (i + 1) cs) ∙ rw b refl in
+    ap without_blanks (next_item cs i c h e) ∙ without-cons c (drop (i + 1) cs) ∙ rw b refl in
     sym step ∙ before
 
 pub front_begins : (cs : List ℕ) (i c : ℕ) (all : List ℕ) → i < length cs → c ≡ get_or cs i c → is_blank c ≡ false
@@ -23,8 +23,8 @@ pub front_begins : (cs : List ℕ) (i c : ℕ) (all : List ℕ) → i < length c
 front_begins cs i c all h e b before =
     let whole : take (length cs - i) (drop i cs) ≡ drop i cs =
     take_all (length cs - i) (drop i cs) (omega (arith, length-drop i cs)) in
-    let step : without_blanks (drop i cs) ≡ drop i cs = ap without_blanks (next_character cs i c h e)
-    ∙ without-cons c (drop (i + 1) cs) ∙ rw b (sym (next_character cs i c h e)) in
+    let step : without_blanks (drop i cs) ≡ drop i cs = ap without_blanks (next_item cs i c h e)
+    ∙ without-cons c (drop (i + 1) cs) ∙ rw b (sym (next_item cs i c h e)) in
     whole ∙ sym step ∙ before
 
 pub all_blank : (cs : List ℕ) (i : ℕ) (all : List ℕ) → length cs ≤ i → without_blanks (drop i cs) ≡ all → [] ≡ all

@@ -5,7 +5,7 @@ use Rattle.std.specs.Prelude.{◌==◌, ◌&&◌}
 use Rattle.std.proofs.lemmas.List.{drop_all, take_all, length-drop}
 use Rattle.std.proofs.lemmas.Bool.Decides.{nat_tests}
 use Rattle.function_texts.specs.Places.{begins}
-use Rattle.foundation.proofs.Lists.{next_character}
+use Rattle.foundation.proofs.Lists.{next_item}
 
 begins-cons : (c d : ℕ) (cs ds : List ℕ) → begins (c ∷ cs) (d ∷ ds) ≡ ((c == d) && begins cs ds)
 unfolding begins
@@ -38,7 +38,7 @@ pub begins_differs : (part s : List ℕ) (i c d : ℕ) (all : Bool) → i < leng
     → d ≡ get_or s i d → (c ≡ d → ⊥) → begins (drop i part) (drop i s) ≡ all → false ≡ all
 begins_differs part s i c d all h k e f t before =
     let step : begins (drop i part) (drop i s) ≡ false =
-    ap₂ begins (next_character part i c h e) (next_character s i d k f)
+    ap₂ begins (next_item part i c h e) (next_item s i d k f)
     ∙ begins-cons c d (drop (i + 1) part) (drop (i + 1) s)
     ∙ ap (λ b. b && begins (drop (i + 1) part) (drop (i + 1) s)) (differ c d t) in
     sym step ∙ before
@@ -48,7 +48,7 @@ pub begins_more : (part s : List ℕ) (i c d : ℕ) (all : Bool) → i < length 
     → begins (drop (i + 1) part) (drop (i + 1) s) ≡ all
 begins_more part s i c d all h k e f t before =
     let step : begins (drop i part) (drop i s) ≡ begins (drop (i + 1) part) (drop (i + 1) s) =
-    ap₂ begins (next_character part i c h e) (next_character s i d k f)
+    ap₂ begins (next_item part i c h e) (next_item s i d k f)
     ∙ begins-cons c d (drop (i + 1) part) (drop (i + 1) s)
     ∙ ap (λ b. b && begins (drop (i + 1) part) (drop (i + 1) s)) (alike c d t) in
     sym step ∙ before

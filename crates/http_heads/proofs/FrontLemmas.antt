@@ -1,5 +1,5 @@
 -- What bytes begin with, and what more bytes change of it.
-use Rattle.std.proofs.Common.{◌≡◌, ℕ, ◌+◌, ◌*◌, ◌<◌, ◌≤◌, true, false, List, [], ◌∷◌, ◌++◌, length, sym, ap}
+use Rattle.std.proofs.Common.{◌≡◌, ℕ, ◌+◌, ◌*◌, ◌<◌, ◌≤◌, false, List, [], ◌∷◌, ◌++◌, length, sym, ap}
 use Rattle.std.proofs.Common.{◌∙◌, inl, inr, arith, subst, true≢false, append_assoc, append-nil, length-append}
 use Rattle.std.proofs.Common.{map, take, drop, Ok}
 use Rattle.std.proofs.lemmas.List.{length-map, length-take}
@@ -22,6 +22,7 @@ use Rattle.http_heads.specs.Fields.{body_length, is_coded, closes, fields_of}
 use Rattle.http_heads.specs.Fronts.{IsHead, IsHopeless, IsUnfinished}
 use Rattle.http_heads.specs.declared.front.Head.{Head}
 use Rattle.http_heads.proofs.SpotLemmas.{past_further, in_target}
+use Rattle.foundation.proofs.Lists.{tail_within}
 
 -- bytes that never become a head are none
 pub none_of_never : (bytes : List ℕ) → NeverHasRequest bytes → HasNoRequest bytes
@@ -66,7 +67,7 @@ when_partial {A = A} P s e h =
     let Q : Status A → Type 0 = λ t. OnPartial {A = A} {E = Error} (Ok t) P in subst Q e h
 
 -- a field has three bytes at least
-end_some : (e : LineEnd) → 0 < length (print_end e)
+pub end_some : (e : LineEnd) → 0 < length (print_end e)
 end_some crlf = omega arith
 end_some lf = omega arith
 
@@ -84,9 +85,6 @@ fields_three : (fs : List Field) → AllByRecursion IsField fs → 3 * length fs
 fields_three [] h = omega arith
 fields_three (f ∷ fs) h =
     omega (arith, field_three f h.0, fields_three fs h.1, length-append (print_field f) (flat_map print_field fs))
-
-tail_within : (a b : List ℕ) → length b ≤ length (a ++ b)
-tail_within a b = omega (arith, length-append a b)
 
 section_within : (h : RequestHead) → length (print_section h.fields h.last) ≤ length (print_request h)
 unfolding print_request

@@ -1,2 +1,1 @@
 pub mod ErrorLemmas
-pub mod SentLemmas

@@ -11,7 +11,8 @@ use Rattle.arm_ids.specs.declared.fault.IdFault.{IdFault}
 use Rattle.arm_ids.specs.declared.fault.IdFault.TheVariants.{NotAnId, OutOfMemory, EmptySegment, SegmentsDiffer}
 use Rattle.arm_ids.proofs.KeyLemmas.{reads_as_key, is_id_of}
 use Rattle.arm_ids.proofs.ScopeIdLemmas.{only_scope, no_container, found_scope}
-use Rattle.http_routes.specs.Routes.{key_of, scope_of, or_else}
+use Rattle.http_routes.specs.Routes.{key_of, scope_of}
+use Rattle.foundation.specs.Options.{or_else}
 
 pub key_read : (id : List ℕ) (key : ResourceId) → IsIdOf id key → Some key ≡ key_of id
 key_read id key h = sym (reads_as_key id key h)

@@ -16,11 +16,7 @@ use Rattle.http_routes.specs.declared.places.DeploymentAt.{DeploymentAt}
 use Rattle.http_routes.specs.declared.route.Route.{Route}
 use Rattle.http_routes.specs.declared.route.Route.TheVariants.{Groups, Group, Resources, Deployment, Resume, Abandon}
 use Rattle.http_routes.specs.declared.route.Route.TheVariants.{Lock, Resource}
-
--- the first of two routes that is there
-abbrev pub or_else : {A : Type 0} → Option A → Option A → Option A
-or_else None other = other
-or_else (Some a) other = Some a
+use Rattle.foundation.specs.Options.{or_else}
 
 -- the names of the segments as one text, with a slash before each
 abbrev pub id_of : List Part → List ℕ

@@ -4,10 +4,7 @@ use Rattle.std.specs.Prelude.{nat_eq, ◌&&◌, bytes_eq}
 use Rattle.arm_ids.specs.declared.id.ResourceId.{ResourceId}
 use Rattle.deploy_cells.specs.Same.{same_id, same_texts}
 use Rattle.key_tags.specs.KeyCodes.{text_code, texts_code, key_code}
-
-and_true : (b : Bool) → (b && true) ≡ b
-and_true true = refl
-and_true false = refl
+use Rattle.foundation.proofs.TruthValues.{and_true_is}
 
 nothing : (n : ℕ) → nat_eq 0 (n + 1) ≡ false
 nothing n = grind arith
@@ -50,4 +47,4 @@ key_eq k l =
     ∙ ap (λ b. bytes_eq k.group l.group && b)
     (texts_eq k.types l.types (texts_code k.names []) (texts_code l.names [])
     ∙ ap (λ b. same_texts k.types l.types && b)
-    (texts_eq k.names l.names [] [] ∙ and_true (same_texts k.names l.names))))
+    (texts_eq k.names l.names [] [] ∙ and_true_is (same_texts k.names l.names))))

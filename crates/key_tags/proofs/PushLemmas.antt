@@ -1,8 +1,9 @@
 -- The numbers of texts, as they are added.
-use Rattle.std.proofs.Common.{◌≡◌, ℕ, ◌+◌, List, [], ◌∷◌, ◌++◌, map, refl, sym, ap, ◌∙◌}
+use Rattle.std.proofs.Common.{◌≡◌, ℕ, ◌+◌, List, [], ◌∷◌, ◌++◌, map, sym, ap, ◌∙◌}
 use Rattle.std.proofs.Common.{append_assoc}
 use Rattle.std.proofs.lemmas.List.{map-append}
 use Rattle.key_tags.specs.KeyCodes.{text_code, texts_code}
+use Rattle.foundation.proofs.Lists.{same_map}
 
 pub raised_more : (first old new yielded : List ℕ) (c n : ℕ) → old ≡ first ++ map (λ x. x + 1) yielded → n ≡ c + 1
     → new ≡ old ++ n ∷ [] → new ≡ first ++ map (λ x. x + 1) (yielded ++ c ∷ [])
@@ -10,10 +11,6 @@ raised_more first old new yielded c n e f g =
     g ∙ ap (λ xs. xs ++ n ∷ []) e ∙ append_assoc first (map (λ x. x + 1) yielded) (n ∷ [])
     ∙ ap (λ l. first ++ (map (λ x. x + 1) yielded ++ l ∷ [])) f
     ∙ ap (λ xs. first ++ xs) (sym (map-append (λ x. x + 1) yielded (c ∷ [])))
-
-same_map : (xs : List ℕ) → map (λ x. x) xs ≡ xs
-same_map [] = refl
-same_map (x ∷ xs) = ap (λ ys. x ∷ ys) (same_map xs)
 
 pub raised_all : (first new yielded all : List ℕ) → map (λ x. x) yielded ≡ all → new ≡ first ++ map (λ x. x + 1) yielded
     → new ≡ first ++ map (λ x. x + 1) all

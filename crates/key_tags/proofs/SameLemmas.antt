@@ -1,5 +1,5 @@
 -- Keys whose tags are shared are the same.
-use Rattle.std.proofs.Common.{◌≡◌, ℕ, zero, suc, Bool, true, false, ◌||◌, List, [], ◌∷◌, map, Option, Some, None, refl}
+use Rattle.std.proofs.Common.{◌≡◌, ℕ, zero, suc, true, List, [], ◌∷◌, map, Option, Some, None, refl}
 use Rattle.std.proofs.Common.{sym, ap, ap₂, subst, ◌∙◌}
 use Rattle.std.specs.Prelude.{slice_get, bytes_eq, MatchOption}
 use Rattle.arm_ids.specs.declared.id.ResourceId.{ResourceId}
@@ -8,21 +8,16 @@ use Rattle.tag_needs.specs.Tags.{Tag, shares, IsShared}
 use Rattle.key_tags.specs.KeyCodes.{key_code}
 use Rattle.key_tags.specs.SameKeys.{AreSame}
 use Rattle.key_tags.proofs.CodeLemmas.{key_eq}
+use Rattle.foundation.proofs.TruthValues.{or_false_twice}
+use Rattle.foundation.proofs.Options.{same_some}
 
 abbrev tags_by : List ResourceId → List (List Tag)
 tags_by ks = map (λ k. key_code k ∷ []) ks
-
-ends : (b : Bool) → ((b || false) || false) ≡ b
-ends true = refl
-ends false = refl
 
 record IsKeyAt (ks : List ResourceId) (i : ℕ) (ts : List Tag) : Type 0 where
   key : ResourceId
   there : slice_get ks i ≡ Some key
   is : key_code key ∷ [] ≡ ts
-
-same_some : {A : Type 0} {a b : A} → Some a ≡ Some b → a ≡ b
-same_some e = cc
 
 key_at : (ks : List ResourceId) (i : ℕ) (ts : List Tag) → slice_get (tags_by ks) i ≡ Some ts → IsKeyAt ks i ts
 key_at [] i ts e = let no : None ≡ Some ts = e in absurd (cc)
@@ -41,7 +36,7 @@ keys_same ks i j s =
     let b = key_at ks j s.second s.is_second in
     let shared : shares (key_code a.key ∷ []) (key_code b.key ∷ []) ≡ true = ap₂ shares a.is b.is ∙ s.share in
     let same : a.key ≡ b.key =
-    id_is a.key b.key (sym (key_eq a.key b.key) ∙ sym (ends (bytes_eq (key_code a.key) (key_code b.key))) ∙ shared) in
+    id_is a.key b.key (sym (key_eq a.key b.key) ∙ sym (or_false_twice (bytes_eq (key_code a.key) (key_code b.key))) ∙ shared) in
     record { below = s.below; key = a.key; is_first = a.there; is_second = b.there ∙ ap Some (sym same) }
 
 pub keys_shared : (ks : List ResourceId) (i j : ℕ) → AreSame ks i j → IsShared (tags_by ks) i j
@@ -51,7 +46,7 @@ keys_shared ks i j s = record {
   second = key_code s.key ∷ [];
   is_first = tag_at ks i s.key s.is_first;
   is_second = tag_at ks j s.key s.is_second;
-  share = ends (bytes_eq (key_code s.key) (key_code s.key)) ∙ key_eq s.key s.key ∙ id_same s.key;
+  share = or_false_twice (bytes_eq (key_code s.key) (key_code s.key)) ∙ key_eq s.key s.key ∙ id_same s.key;
 }
 
 pub same_found : (ks : List ResourceId) (tags : List (List Tag)) (o : Option (ℕ × ℕ)) → tags ≡ tags_by ks

@@ -1,4 +1,3 @@
-pub mod Words
 pub mod BracketLemmas
 pub mod LiteralLemmas
 pub mod LoopLemmas

@@ -12,15 +12,16 @@ use Rattle.arm_value.specs.declared.value.Value.{Value}
 use Rattle.arm_value.specs.declared.value.Field.{Field}
 use Rattle.arm_value.proofs.SetLemmas.{drop_from}
 use Rattle.literal_template.specs.Brackets.{stated_text}
-use Rattle.literal_template.specs.Literals.{is_special, pair_before, stated, pairs_stated}
+use Rattle.literal_template.specs.Literals.{is_special, stated, pairs_stated}
 use Rattle.arm_ids.specs.Members.{is_deployment_type}
 use Rattle.literal_template.specs.Resources.{is_head, is_directive}
 use Rattle.literal_template.specs.Template.{text_of, count, body_members, with_parts, with_heads, resource_with}
 use Rattle.literal_template.specs.Template.{resource_of, resource_before, resources_of, resources_in, names_schema}
 use Rattle.literal_template.specs.Template.{has_three, template_with}
 use Rattle.literal_template.specs.declared.resource.Resource.{Resource}
-use Rattle.literal_template.proofs.LiteralLemmas.{with_pairs, with_pairs-push, without_one, then_pairs-none}
 use Rattle.arm_value.proofs.TreeLemmas.{members-pairs}
+use Rattle.arm_value.specs.Gathered.{pair_before}
+use Rattle.arm_value.proofs.GatheredLemmas.{then_pairs-none, with_pairs, with_pairs-push, without_one}
 
 -- ---- the body
 

@@ -4,6 +4,7 @@ use Rattle.std.specs.Prelude.{if◌then◌else◌}
 use Rattle.arm_value.specs.Json.{Json, null, bool, int, text, array, object, Row, no_items, item, Pairs, no_pairs, pair}
 use Rattle.arm_expr.specs.Brackets.{is_bracketed, escaped}
 use Rattle.literal_template.specs.Brackets.{stated_text}
+use Rattle.arm_value.specs.Gathered.{item_before, pair_before}
 
 -- whether a member of this name is no plain member of a value: one named `copy` makes a loop, and one in brackets
 -- would be an expression
@@ -27,16 +28,6 @@ abbrev mutual
   pub pairs_written : Pairs → Pairs
   pairs_written no_pairs = no_pairs
   pairs_written (pair k j ms) = pair k (written j) (pairs_written ms)
-
--- an item before the others, where all are there
-abbrev pub item_before : Option Json → Option Row → Option Row
-item_before (Some j) (Some js) = Some (item j js)
-item_before _ _ = None
-
--- a member before the others, where all are there
-abbrev pub pair_before : List ℕ → Option Json → Option Pairs → Option Pairs
-pair_before k (Some j) (Some ms) = Some (pair k j ms)
-pair_before k _ _ = None
 
 -- the value that a value of a template states; none where it has an expression or a loop in it
 abbrev mutual

@@ -6,7 +6,8 @@ use Rattle.arm_value.specs.Look.{is_same_folded}
 use Rattle.reading.specs.Reading.{pure, continued}
 use Rattle.arm_env.specs.Look.{Looking, Surroundings}
 use Rattle.expression_values.specs.Meaning.{outcome}
-use Rattle.arm_eval.specs.Trees.{Copy, tree_value, is_copy, copy_of, parts, counting, within}
+use Rattle.arm_eval.specs.Trees.{Copy, tree_value, copy_of, parts, counting, within}
+use Rattle.arm_expr.specs.Brackets.{is_copy}
 
 -- a step to a part: to the member of a name, or to the item at a place, counted from 0
 pub data Step : Type 0 where

@@ -5,11 +5,12 @@ ghost use Rattle.arm_value.specs.View.{json, member};
 ghost use Rattle.reading.specs.Knowledge.{told};
 ghost use Rattle.arm_env.specs.Answer.{Gives, outcome_told};
 ghost use Rattle.arm_env.specs.Sight.{here};
-ghost use Rattle.arm_eval.specs.Trees.{is_copy, tree_value};
+ghost use Rattle.arm_eval.specs.Trees.{tree_value};
 ghost use Rattle.arm_eval.specs.Trees as trees;
 ghost use Rattle.arm_eval.specs.Words.{copying_of};
 ghost use Rattle.missing_values.specs.Missing as paths;
 ghost use Rattle.missing_values.specs.Words.{path_found, there_told, is_nowhere};
+ghost use Rattle.arm_expr.specs.Brackets.{is_copy};
 
 use crate::path::{Step, below_item, below_member, or_whole};
 use arm_env::entries::{Around, Entries};

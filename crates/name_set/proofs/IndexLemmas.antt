@@ -1,5 +1,5 @@
 -- Names that are found by the bytes of their folded characters.
-use Rattle.std.proofs.Common.{◌≡◌, ℕ, Bool, true, false, ◌||◌, List, [], ◌∷◌, ◌++◌, bytes_eq, encode_utf8_all}
+use Rattle.std.proofs.Common.{◌≡◌, ℕ, true, ◌||◌, List, [], ◌∷◌, ◌++◌, bytes_eq, encode_utf8_all}
 use Rattle.std.proofs.Common.{refl, ap, ap₂, sym, ◌∙◌}
 use Rattle.std.specs.Prelude.{cond}
 use Rattle.std.specs.Cmp.{both_ways}
@@ -13,6 +13,8 @@ use Rattle.std.proofs.lemmas.Slice.Eq.{bytes_eq-Decides}
 use Rattle.std.proofs.lemmas.Str.{encodes_same}
 use Rattle.arm_value.specs.Look.{fold}
 use Rattle.name_set.specs.Names.{is_named, bytes_cmp, IsIndexOf, is_listed, IsTextIndexOf}
+use Rattle.foundation.proofs.TruthValues.{last_or}
+use Rattle.foundation.proofs.Words.{swapped}
 
 -- texts are equal where their bytes are
 encoded_eq : (s t : List ℕ) → bytes_eq (encode_utf8_all s) (encode_utf8_all t) ≡ bytes_eq s t
@@ -33,17 +35,6 @@ pub is_indexed : (index : BTreeSet (Vec ℕ Global)) (names : List (List ℕ)) (
     → contains bytes_cmp index key ≡ is_named names name
 is_indexed index names key name h e =
     h key ∙ ap (λ s. list_any (λ n. bytes_eq s (encode_utf8_all (fold n))) names) e ∙ among_names name names
-
-swapped : (s t : List ℕ) → bytes_eq s t ≡ bytes_eq t s
-swapped s t =
-    both_ways (bytes_eq s t) (bytes_eq t s) (λ h. (bytes_eq-Decides t s).1 (sym ((bytes_eq-Decides s t).0 h)))
-    (λ h. (bytes_eq-Decides s t).1 (sym ((bytes_eq-Decides t s).0 h)))
-
-last_or : (a b : Bool) → cond a true b ≡ (b || (a || false))
-last_or true true = refl
-last_or true false = refl
-last_or false true = refl
-last_or false false = refl
 
 -- one more name
 pub index_more : (old new : BTreeSet (Vec ℕ Global)) (names : List (List ℕ)) (key : Vec ℕ Global) (name : List ℕ)

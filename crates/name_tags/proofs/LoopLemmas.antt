@@ -1,8 +1,7 @@
 -- The names of loops that are looked up.
-use Rattle.std.proofs.Common.{◌≡◌, ℕ, Bool, false, ◌||◌, List, [], ◌∷◌, ◌++◌, Option, Some, None, refl}
+use Rattle.std.proofs.Common.{◌≡◌, ℕ, ◌||◌, List, [], ◌∷◌, ◌++◌, Option, Some, None, refl}
 use Rattle.std.proofs.Common.{sym, ap, ap₂, ◌∙◌}
 use Rattle.std.specs.List.{list_any}
-use Rattle.arm_value.specs.Look.{is_same_folded}
 use Rattle.name_set.specs.Names.{is_named}
 use Rattle.template_parts.specs.declared.looping.ResourceCopy.{ResourceCopy}
 use Rattle.template_tree.specs.Tree.{TemplateTree}
@@ -11,14 +10,7 @@ use Rattle.plan_cells.specs.Resources.{Listed, resources_in}
 use Rattle.plan_cells.specs.Needs.{has_loop, is_loop}
 use Rattle.plan_codes.specs.NameCodes.{asks_in_one}
 use Rattle.name_tags.specs.Loops.{loop_title, loop_titles}
-
-abbrev loop_is : List ℕ → Option ResourceCopy → Bool
-loop_is x None = false
-loop_is x (Some c) = is_same_folded x c.name
-
-has_loop_is : (x : List ℕ) (r : Listed) (o : Option ResourceCopy) → r.declaration.copy ≡ o → has_loop x r ≡ loop_is x o
-has_loop_is x r None e = rw e refl
-has_loop_is x r (Some c) e = rw e refl
+use Rattle.plan_codes.proofs.NameLemmas.{has_loop_is, loop_is}
 
 one_title : (x : List ℕ) (o : Option ResourceCopy) (ys : List (List ℕ))
     → is_named (loop_title o ++ ys) x ≡ (loop_is x o || is_named ys x)

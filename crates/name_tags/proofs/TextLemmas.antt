@@ -1,23 +1,19 @@
 -- Texts that are added character by character, and the names of a key.
-use Rattle.std.proofs.Common.{◌≡◌, ◌<◌, ◌^◌, ℕ, List, [], ◌∷◌, ◌++◌, map, length, refl, sym, ap, ◌∙◌, arith, lit<}
-use Rattle.std.proofs.Common.{append_assoc, chars, codes, IsUtf8, decimal}
-use Rattle.std.specs.Prelude.{Result, Ok, Err, IfOk}
+use Rattle.std.proofs.Common.{◌≡◌, ◌<◌, ℕ, List, [], ◌∷◌, ◌++◌, map, length, sym, ap, ◌∙◌, arith}
+use Rattle.std.proofs.Common.{append_assoc}
 use Rattle.std.specs.Char.{to_ascii_lowercase}
-use Rattle.std.specs.Str.{IsAscii}
 use Rattle.std.proofs.lemmas.List.{map-append, length-map}
-use Rattle.std.proofs.lemmas.Str.{chars-append, chars-IsAscii, IsAscii-append}
-use Rattle.std.proofs.lemmas.Fmt.{IsAscii-decimal}
-use Rattle.foundation.proofs.AsciiWords.{one_ascii}
 use Rattle.arm_value.specs.Look.{fold}
 use Rattle.arm_ids.specs.Segments.{segments, slashed, joined}
 use Rattle.arm_ids.specs.declared.id.ResourceId.{ResourceId}
 use Rattle.arm_ids.specs.declared.id.Place.{Place}
-use Rattle.arm_ids.proofs.SegmentLemmas.{slashed-segments, segments-fold, fold-fold}
-use Rattle.arm_eval.specs.Titles.{element}
+use Rattle.arm_ids.proofs.SegmentLemmas.{slashed-segments, segments-fold, fold-fold, some_joined, same_tail}
+use Rattle.arm_ids.proofs.SegmentLemmas.{some_segments}
 use Rattle.deploy_cells.specs.Puts.{key_at}
 use Rattle.tag_needs.specs.Tags.{Tag}
 use Rattle.plan_cells.specs.Resources.{Listed}
 use Rattle.plan_codes.specs.NameCodes.{keyed, spelled, loop_names, names_in_one}
+use Rattle.foundation.proofs.Lists.{same_map}
 
 -- ---- characters
 
@@ -25,39 +21,13 @@ pub exact_more : (first old new yielded : List ℕ) (c : ℕ) → old ≡ first 
     → new ≡ first ++ (yielded ++ c ∷ [])
 exact_more first old new yielded c e g = g ∙ ap (λ xs. xs ++ c ∷ []) e ∙ append_assoc first yielded (c ∷ [])
 
-same_map : (xs : List ℕ) → map (λ x. x) xs ≡ xs
-same_map [] = refl
-same_map (x ∷ xs) = ap (λ ys. x ∷ ys) (same_map xs)
-
 pub exact_all : (first new yielded all : List ℕ) → map (λ x. x) yielded ≡ all → new ≡ first ++ yielded
     → new ≡ first ++ all
 exact_all first new yielded all e f = f ∙ ap (λ xs. first ++ xs) (sym (same_map yielded) ∙ e)
 
 -- ---- `n[i]`
 
-in_brackets : (i : ℕ) → i < 2 ^ 64 → IsAscii (codes "[" ++ (decimal i ++ codes "]"))
-in_brackets i h =
-    IsAscii-append (codes "[") (decimal i ++ codes "]") (one_ascii 91 (lit< tt))
-    (IsAscii-append (decimal i) (codes "]") (IsAscii-decimal i h) (one_ascii 93 (lit< tt)))
-
-pub spelled_element : (name : List ℕ) (i : ℕ) → IsUtf8 name → i < 2 ^ 64
-    → chars (name ++ (codes "[" ++ (decimal i ++ codes "]"))) ≡ element (chars name) i
-spelled_element name i u h =
-    chars-append name (codes "[" ++ (decimal i ++ codes "]")) u
-    ∙ ap (λ r. chars name ++ r) (chars-IsAscii (codes "[" ++ (decimal i ++ codes "]")) (in_brackets i h))
-
 -- ---- the names of a key
-
-some_segments : (ss : List (List ℕ)) (t : List ℕ) → slashed ss ≡ 47 ∷ t → 0 < length ss
-some_segments [] t e = absurd (cc)
-some_segments (s ∷ ss) t e = omega arith
-
-same_tail : (xs ys : List ℕ) → 47 ∷ xs ≡ 47 ∷ ys → xs ≡ ys
-same_tail xs ys e = cc
-
-some_joined : (ss : List (List ℕ)) → 0 < length ss → slashed ss ≡ 47 ∷ joined ss
-some_joined [] h = absurd (omega (arith, h))
-some_joined (s ∷ ss) h = refl
 
 joined_small : (t : List ℕ) → joined (map fold (segments t)) ≡ fold t
 joined_small t =
@@ -95,7 +65,3 @@ names_made f place r n k a b c e h h1 h2 h3 =
     ∷ spelled f (fold (joined i.names)) ∷ []))) h
 
 -- ---- results
-
-pub if_ok : {T E : Type 0} (P Q : T → Type 0) (r : Result T E) → IfOk r P → ((x : T) → P x → Q x) → IfOk r Q
-if_ok P Q (Ok x) h f = f x h
-if_ok P Q (Err e) h f = tt

@@ -14,6 +14,7 @@ use Rattle.arm_value.proofs.JsonLemmas as parts
 use Rattle.plain_values.specs.Plain.{each_text, row_texts, pairs_texts, member_texts, plain_or, meant_text, meant}
 use Rattle.plain_values.specs.Plain.{written_plainly}
 use Rattle.arm_expr.proofs.BracketLemmas.{meaning-escaped}
+use Rattle.foundation.proofs.Lists.{map-both}
 
 -- a changed value nests as deep
 mutual
@@ -67,10 +68,6 @@ next_member_within f fs ms i d k n e h is s w =
       nesting-each_text f (json d.value),
     )
 
-pub item_within : (vs : List Value) (js : List Json) (i : ℕ) (v : Value) → map json vs ≡ js → i < length vs
-    → v ≡ get_or vs i v → nesting (json v) ≤ items_nesting js
-item_within vs js i v e h is = omega (arith, parts.item_nests vs i v h is, ap items_nesting e)
-
 pub member_within : (fs : List Field) (ms : List Member) (i : ℕ) (d : Field) → map member fs ≡ ms → i < length fs
     → d ≡ get_or fs i d → nesting (json d.value) ≤ members_nesting ms
 member_within fs ms i d e h is = omega (arith, parts.member_nests fs i d h is, ap members_nesting e)
@@ -91,10 +88,6 @@ member_more f made new fs i d name k a h is e s n =
     let last : (name, k) ≡ member_texts f (member d) = λ x. (e x, s x) in
     n ∙ ap₂ (λ ms (m : Member). ms ++ m ∷ []) a last
     ∙ sym (rw add-one (parts.map-take-more (λ x. member_texts f (member x)) fs i d h is))
-
-map-both : {A B C : Type 0} (f : A → B) (g : B → C) (xs : List A) → map (λ x. g (f x)) xs ≡ map g (map f xs)
-map-both f g [] = refl
-map-both f g (x ∷ xs) = ap (λ r. g (f x) ∷ r) (map-both f g xs)
 
 -- what the loops end with
 pub all_items : (f : List ℕ → List ℕ) (made : List Json) (vs : List Value) (js : List Json) (i : ℕ)

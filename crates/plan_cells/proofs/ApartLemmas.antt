@@ -8,7 +8,7 @@ use Rattle.template_tree.specs.Tree.{TemplateTree, template, ResourceTree, resou
 use Rattle.template_tree.specs.Tree.{deployment}
 use Rattle.template_tree.specs.Tree.{Trees, no_resources, a_resource}
 use Rattle.deploy_cells.specs.Cells.{Step, Position, Cell, parameter, variable, offered, output, count, included, name}
-use Rattle.deploy_cells.specs.Cells.{deployments, state, copies, is_true}
+use Rattle.deploy_cells.specs.Cells.{deployments, state, copies}
 use Rattle.plan_cells.specs.Resources.{Above, Listed, Nested, header_in, tree_count, above_by, listed_tree}
 use Rattle.plan_cells.specs.Resources.{listed_trees, resources_in, unless_existing, resource_at, nested_in, nested_at}
 use Rattle.plan_cells.specs.Scopes.{template_at}
@@ -17,6 +17,7 @@ use Rattle.plan_cells.specs.Children.{Has, AreApart, parameter_names, variable_n
 use Rattle.plan_cells.specs.Children.{NamesDiffer, TreesNamesDiffer, TreeNamesDiffer, BodyNamesDiffer, numbers_in}
 use Rattle.plan_cells.specs.Children.{own_cells, scope_cells, opened_cells, steps, instance_cells, roots, children}
 use Rattle.plan_cells.proofs.ListLemmas.{has_joined, has_mapped, apart_joined, apart_map, numbers_apart, steps_apart}
+use Rattle.arm_value.specs.Kinds.{is_true}
 
 -- which sort of cell it is
 abbrev tag : Cell → ℕ

@@ -6,7 +6,7 @@ use Rattle.arm_value.specs.Json.{Json}
 use Rattle.foundation.proofs.Comparisons.{lt_true}
 use Rattle.template_tree.specs.Tree.{TemplateTree}
 use Rattle.deploy_cells.specs.Cells.{Step, Position, Cell, parameter, variable, offered, output, count, included, name}
-use Rattle.deploy_cells.specs.Cells.{deployments, state, opener, parent, copies, is_true, admits}
+use Rattle.deploy_cells.specs.Cells.{deployments, state, opener, parent, copies, admits}
 use Rattle.plan_cells.specs.Scopes.{template_at}
 use Rattle.plan_cells.specs.Meaning.{Deployment, is_own}
 use Rattle.plan_cells.specs.Desired.{is_state}
@@ -14,6 +14,7 @@ use Rattle.plan_cells.specs.Children.{Has, parameter_names, variable_names, outp
 use Rattle.plan_cells.specs.Children.{own_cells, scope_cells, opened_cells, steps, instance_cells, roots, children}
 use Rattle.plan_cells.proofs.ListLemmas.{has_joined, has_mapped}
 use Rattle.plan_cells.proofs.ListLemmas.{of_steps}
+use Rattle.arm_value.specs.Kinds.{is_true}
 
 -- a cell of a scope
 pub record IsOfScope (p : Position) (c : Cell) : Type 0 where

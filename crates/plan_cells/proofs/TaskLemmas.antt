@@ -11,7 +11,7 @@ use Rattle.reading.proofs.Parts.{value_in-continued}
 use Rattle.template_tree.specs.Tree.{TemplateTree, template, ResourceTree, resource, BodyTree, body_members}
 use Rattle.template_tree.specs.Tree.{deployment}
 use Rattle.template_tree.specs.Tree.{Trees, no_resources, a_resource}
-use Rattle.deploy_cells.specs.Cells.{Step, step, Position, Cell, count, included, World, copies, is_true, is_admitted}
+use Rattle.deploy_cells.specs.Cells.{Step, step, Position, Cell, count, included, World, copies, is_admitted}
 use Rattle.deploy_cells.specs.Guarded.{Reads, IsWorld}
 use Rattle.plan_cells.specs.Resources.{Above, Listed, Nested, tree_count, trees_count, above_by, listed_at}
 use Rattle.plan_cells.specs.Resources.{listed_tree}
@@ -27,14 +27,15 @@ use Rattle.plan_cells.specs.Tasks.{body_tasks}
 use Rattle.plan_cells.specs.TaskOf.{IsInside, IsScope, IsTask, AreTasks}
 use Rattle.plan_cells.proofs.DesiredLemmas.{valued, not_admitted, by_admitted}
 use Rattle.plan_cells.proofs.ListLemmas.{has_joined, has_left, has_right}
+use Rattle.arm_value.specs.Kinds.{is_true}
 
 -- look-ups in lists joined of two
-get_left : (xs ys : List Listed) (k : ℕ) (y : Listed) → slice_get xs k ≡ Some y → slice_get (xs ++ ys) k ≡ Some y
+pub get_left : (xs ys : List Listed) (k : ℕ) (y : Listed) → slice_get xs k ≡ Some y → slice_get (xs ++ ys) k ≡ Some y
 get_left [] ys k y e = let f : None ≡ Some y = e in absurd (cc)
 get_left (x ∷ xs) ys zero y e = e
 get_left (x ∷ xs) ys (suc k) y e = get_left xs ys k y e
 
-get_right : (xs ys : List Listed) (k : ℕ) → slice_get (xs ++ ys) (length xs + k) ≡ slice_get ys k
+pub get_right : (xs ys : List Listed) (k : ℕ) → slice_get (xs ++ ys) (length xs + k) ≡ slice_get ys k
 get_right [] ys k = ap (slice_get ys) (let e : 0 + k ≡ k = omega arith in e)
 get_right (x ∷ xs) ys k =
     ap (slice_get (x ∷ (xs ++ ys))) (let e : suc (length xs) + k ≡ suc (length xs + k) = omega arith in e)

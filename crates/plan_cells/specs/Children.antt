@@ -7,10 +7,11 @@ use Rattle.template_tree.specs.Tree.{TemplateTree, template, ResourceTree, resou
 use Rattle.template_tree.specs.Tree.{deployment}
 use Rattle.template_tree.specs.Tree.{Trees, no_resources, a_resource, Header}
 use Rattle.deploy_cells.specs.Cells.{Step, step, Position, Cell, parameter, variable, offered, output, count, included}
-use Rattle.deploy_cells.specs.Cells.{name, deployments, copies, is_true}
+use Rattle.deploy_cells.specs.Cells.{name, deployments, copies}
 use Rattle.plan_cells.specs.Resources.{Listed, header_in, resources_in}
 use Rattle.plan_cells.specs.Scopes.{template_at}
 use Rattle.plan_cells.specs.Meaning.{Deployment, is_own}
+use Rattle.arm_value.specs.Kinds.{is_true}
 
 abbrev pub Has : {A : Type 0} → A → List A → Type 0
 Has x [] = ⊥

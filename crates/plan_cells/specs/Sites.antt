@@ -23,7 +23,7 @@ use Rattle.template_parts.specs.declared.value_type.ValueType.TheVariants as typ
 use Rattle.template_parts.specs.declared.variable.Variable.{Variable}
 use Rattle.template_tree.specs.Tree.{TemplateTree}
 use Rattle.deploy_cells.specs.Cells.{Step, step, Position, Cell, parameter, variable, offered, output, count, name}
-use Rattle.deploy_cells.specs.Cells.{deployments, state, copies, is_true}
+use Rattle.deploy_cells.specs.Cells.{deployments, state, copies}
 use Rattle.deploy_cells.specs.Guarded.{Reads}
 use Rattle.deploy_cells.specs.Listing.{Named, listing_of, Sought, found, left_away, not_here, sought}
 use Rattle.deploy_cells.specs.Puts.{key_at}
@@ -31,6 +31,8 @@ use Rattle.deploy_cells.specs.Same.{same_id}
 use Rattle.deploy_cells.specs.Followed.{followed}
 use Rattle.plan_cells.specs.Resources.{Listed, header_in, resources_in, nested_numbers}
 use Rattle.plan_cells.specs.Scopes.{template_at, owner, visible, loops_around, loops_inside, own_place}
+use Rattle.arm_value.specs.Kinds.{is_true}
+use Rattle.arm_ids.specs.Members.{deployment_type}
 
 -- what a text of `reference` that is no id means
 pub data Texts : Type 0 where
@@ -84,9 +86,6 @@ declared_value false c = pure None
 -- whether the scope declares it
 abbrev pub declares : {A : Type 0} → (TemplateTree → Option A) → Option TemplateTree → Bool
 declares f o = is_some (option_and_then f o)
-
-abbrev pub deployment_type : List ℕ
-deployment_type = codes "Microsoft.Resources/deployments"
 
 -- the key of a nested deployment, by its name
 abbrev pub deployment_key : Place → List ℕ → ResourceId

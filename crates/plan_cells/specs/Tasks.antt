@@ -15,13 +15,14 @@ use Rattle.template_parts.specs.declared.mode.Mode.TheVariants.{Incremental, Com
 use Rattle.template_tree.specs.Tree.{TemplateTree, template, ResourceTree, resource, BodyTree, body_members}
 use Rattle.template_tree.specs.Tree.{deployment}
 use Rattle.template_tree.specs.Tree.{Trees, no_resources, a_resource}
-use Rattle.deploy_cells.specs.Cells.{Step, step, Position, count, included, name, copies, is_true}
+use Rattle.deploy_cells.specs.Cells.{Step, step, Position, count, included, name, copies}
 use Rattle.deploy_cells.specs.Guarded.{Reads}
 use Rattle.deploy_cells.specs.Puts.{Kind, key_at}
 use Rattle.deploy_cells.specs.Same.{same_id}
 use Rattle.plan_cells.specs.Resources.{tree_count}
 use Rattle.plan_cells.specs.Meaning.{Deployment}
 use Rattle.plan_cells.specs.Desired.{kinds}
+use Rattle.arm_value.specs.Kinds.{is_true}
 
 pub data Task : Type 0 where
   -- a scope is entered, or left

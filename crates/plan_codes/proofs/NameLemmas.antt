@@ -23,22 +23,19 @@ use Rattle.plan_codes.specs.NameCodes.{loop_code, keyed, spelled, symbolic, loop
 use Rattle.plan_codes.specs.NameCodes.{key_asks}
 use Rattle.plan_codes.specs.NameCodes.{value_asks}
 use Rattle.key_tags.proofs.CodeLemmas.{key_eq}
+use Rattle.foundation.proofs.TruthValues.{or_false_twice}
 
 and_nil : (b : Bool) → (b && false) ≡ false
 and_nil true = refl
 and_nil false = refl
 
-ends : (y : Bool) → ((y || false) || false) ≡ y
-ends true = refl
-ends false = refl
-
 -- ---- in the first form
 
-abbrev loop_is : List ℕ → Option ResourceCopy → Bool
+abbrev pub loop_is : List ℕ → Option ResourceCopy → Bool
 loop_is x None = false
 loop_is x (Some c) = is_same_folded x c.name
 
-has_loop_is : (x : List ℕ) (r : Listed) (o : Option ResourceCopy) → r.declaration.copy ≡ o → has_loop x r ≡ loop_is x o
+pub has_loop_is : (x : List ℕ) (r : Listed) (o : Option ResourceCopy) → r.declaration.copy ≡ o → has_loop x r ≡ loop_is x o
 has_loop_is x r None e = rw e refl
 has_loop_is x r (Some c) e = rw e refl
 
@@ -55,7 +52,7 @@ loops_shared : (f g : ℕ) (x : List ℕ) (o : Option ResourceCopy) (k : Resourc
     → shares (loop_code f (fold x) ∷ []) (loop_names g o ++ (keyed g k ∷ spelled g a ∷ spelled g c ∷ []))
     ≡ (nat_eq f g && loop_is x o)
 loops_shared f g x None k a c = sym (and_nil (nat_eq f g))
-loops_shared f g x (Some l) k a c = ends (nat_eq f g && bytes_eq (fold x) (fold l.name))
+loops_shared f g x (Some l) k a c = or_false_twice (nat_eq f g && bytes_eq (fold x) (fold l.name))
 
 two_spelled : (b a c : Bool) → (((b && a) || ((b && c) || false)) || false) ≡ (b && (false || (a || c)))
 two_spelled true true c = refl
@@ -137,7 +134,7 @@ module _ (f g : ℕ) (place : Place) (r : Listed) (i : ℕ) (n : List ℕ) where
       ≡ (nat_eq f g && (is_symbol x o || (is_element x i looped o || id_is k key)))
   symbols_shared x looped None None = sym (and_nil (nat_eq f g))
   symbols_shared x looped None (Some j) =
-      ends (nat_eq f g && bytes_eq (key_code j) (key_code key)) ∙ ap (λ s. nat_eq f g && s) (key_eq j key)
+      or_false_twice (nat_eq f g && bytes_eq (key_code j) (key_code key)) ∙ ap (λ s. nat_eq f g && s) (key_eq j key)
   symbols_shared x true (Some y) None = symbol_alone (nat_eq f g) (bytes_eq x y) (bytes_eq x (element y i))
   symbols_shared x true (Some y) (Some j) =
       symbol_key (nat_eq f g) (bytes_eq x y) (bytes_eq x (element y i)) (bytes_eq (key_code j) (key_code key))

@@ -31,8 +31,8 @@ use Rattle.plan_cells.specs.Meaning.{Deployment}
 use Rattle.plan_cells.specs.Tasks.{Task, enter, leave, put, delete}
 use Rattle.plan_cells.specs.Needs.{Instance, started, ended, copy_of, is_loop, value_names, element_names, or_else}
 use Rattle.plan_cells.specs.Needs.{elements_name, depends_by, depends, depends_on, needs_by_order, needs}
-use Rattle.plan_tags.specs.Tags.{Tag, entry, inside, before, root_left, child_of, tags_of, asks_of, tag_of, by_batch}
-use Rattle.plan_tags.specs.Tags.{by_copy, by_instance, same_tag, first_ones, parent_by}
+use Rattle.plan_tags.specs.Tags.{Tag, entry, inside, before, root_left, child_of, tags_of, asks_of, by_batch}
+use Rattle.plan_tags.specs.Tags.{by_copy, same_tag, parent_by}
 use Rattle.plan_tags.specs.Tags as plain
 use Rattle.plan_tags.proofs.TagLemmas.{by_tags}
 use Rattle.tag_needs.specs.Tags.{shares}
@@ -45,22 +45,13 @@ use Rattle.plan_codes.specs.TaskCodes.{AreRead, IsNamed, IsDepending, AreDependi
 use Rattle.plan_codes.specs.TaskCodes.{listed_names, instance_names, instance_asks, task_tags, task_asks}
 use Rattle.plan_codes.proofs.CodeLemmas.{tag_eq}
 use Rattle.plan_codes.proofs.NameLemmas.{value_named}
+use Rattle.foundation.proofs.TruthValues.{or_assoc, or_crossed}
 
 -- ---- truth values
 
 or_nil : (b : Bool) → (b || false) ≡ b
 or_nil true = refl
 or_nil false = refl
-
-or_assoc : (a b c : Bool) → ((a || b) || c) ≡ (a || (b || c))
-or_assoc true b c = refl
-or_assoc false b c = refl
-
-swap : (a b c d : Bool) → ((a || b) || (c || d)) ≡ ((a || c) || (b || d))
-swap true b c d = refl
-swap false true true d = refl
-swap false true false d = refl
-swap false false c d = refl
 
 and_or : (a b c : Bool) → (a && (b || c)) ≡ ((a && b) || (a && c))
 and_or true b c = refl
@@ -81,7 +72,7 @@ shares_right [] ts us = refl
 shares_right (a ∷ xs) ts us =
     ap (λ b. b || shares xs (ts ++ us)) (any_joined (bytes_eq a) ts us)
     ∙ ap (λ b. (list_any (bytes_eq a) ts || list_any (bytes_eq a) us) || b) (shares_right xs ts us)
-    ∙ swap (list_any (bytes_eq a) ts) (list_any (bytes_eq a) us) (shares xs ts) (shares xs us)
+    ∙ or_crossed (list_any (bytes_eq a) ts) (list_any (bytes_eq a) us) (shares xs ts) (shares xs us)
 
 nothing_shared : (xs : List (List ℕ)) → shares xs [] ≡ false
 nothing_shared [] = refl

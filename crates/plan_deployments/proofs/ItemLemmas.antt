@@ -7,15 +7,13 @@ use Rattle.arm_value.specs.declared.value.Value.{Value}
 use Rattle.arm_value.proofs.JsonLemmas.{items_nesting-push}
 use Rattle.function_numbers.specs.Kinds as kinds
 use Rattle.reading.specs.Reading.{done, pure, read, continued}
-use Rattle.reading.specs.Knowledge.{Told, value, no_value, waits, told, finished, and_then}
-use Rattle.reading.proofs.Parts.{told-continued}
+use Rattle.reading.specs.Knowledge.{Told, value, no_value, waits, finished, and_then}
 use Rattle.deploy_cells.specs.Cells.{Step, step, Position, Cell, name, included, count, copies}
 use Rattle.deploy_cells.specs.Guarded.{Reads}
 use Rattle.deploy_cells.specs.Listing.{Named, named_by, named_json, one_named, instances_named, resource_named}
-use Rattle.plan_filling.specs.Rows.{status_of, table}
 use Rattle.plan_table.specs.declared.table.Table.{Table}
 use Rattle.plan_table.specs.Lines.{cell_of, line_at}
-use Rattle.plan_table.specs.Whole.{rows_in, scopes_of}
+use Rattle.plan_table.specs.Whole.{scopes_of}
 use Rattle.plan_table.specs.Found.{IsLineOf}
 use Rattle.plan_sight.specs.declared.lack.Lack.{Lack}
 use Rattle.plan_sight.specs.declared.lack.Lack.TheVariants as lack
@@ -23,18 +21,7 @@ use Rattle.plan_sight.specs.Ready.{told_in}
 use Rattle.plan_sight.specs.Seen.{Stops, Yields}
 use Rattle.plan_nested.proofs.SeekLemmas.{stop_goes, read_goes, read_stops}
 use Rattle.plan_deployments.specs.Items.{IsItemOf, Makes, IsItem, items_told}
-
-pub told_pure : {A : Type 0} (t : Table) (x : A) → told_in t (pure x) ≡ value x
-unfolding told
-told_pure t x = refl
-
-pub told_done : {A : Type 0} (t : Table) (o : Option A) → told_in t (done o) ≡ finished o
-unfolding told
-told_done t o = refl
-
-pub goes : {A B : Type 0} (t : Table) (r : Reads A) (f : A → Reads B)
-    → told_in t (continued r f) ≡ and_then (told_in t r) (λ x. told_in t (f x))
-goes {A} {B} t r f = told-continued Cell Json A B (table (status_of (rows_in t))) r f
+use Rattle.plan_sight.proofs.ToldLemmas.{told_pure, told_done, goes}
 
 -- ---- one instance
 

@@ -30,7 +30,7 @@ use Rattle.plan_nested.proofs.InvertLemmas.{and_value}
 use Rattle.plan_nested.proofs.SeekLemmas.{stop_goes, read_stops}
 use Rattle.plan_names.proofs.GatherLemmas.{listed_length, number_of}
 use Rattle.plan_deployments.specs.Items.{items_told, arrays_told}
-use Rattle.plan_deployments.proofs.ItemLemmas.{told_pure, goes}
+use Rattle.plan_sight.proofs.ToldLemmas.{told_pure, goes}
 
 -- what stops a reading of which the value is seen so stops the reading
 stops_back : {A B : Type 0} (t : Table) (f : A → B) (e : Lack) (u : Told Cell A)

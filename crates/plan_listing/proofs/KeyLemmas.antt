@@ -9,17 +9,18 @@ use Rattle.std.proofs.lemmas.Slice.Eq.{bytes_eq-Decides}
 use Rattle.std.specs.Char.{to_ascii_lowercase}
 use Rattle.arm_value.specs.Look.{fold, is_same_folded}
 use Rattle.arm_ids.specs.Id.{IsKey}
-use Rattle.arm_ids.specs.Members.{is_deployment_type}
+use Rattle.arm_ids.specs.Members.{is_deployment_type, deployment_type}
 use Rattle.arm_ids.specs.Segments.{segments, slashed, joined, has_slash, is_slash}
 use Rattle.arm_ids.specs.declared.id.Place.{Place}
 use Rattle.arm_ids.specs.declared.id.ResourceId.{ResourceId}
-use Rattle.arm_ids.proofs.SegmentLemmas.{segments-slashed, slashed-segments, segments-fold, fold-slashed}
+use Rattle.arm_ids.proofs.SegmentLemmas.{segments-slashed, slashed-segments, segments-fold, fold-slashed, some_joined}
+use Rattle.arm_ids.proofs.SegmentLemmas.{same_tail}
 use Rattle.std.proofs.lemmas.List.Splits.{slice_split-cons_yes}
-use Rattle.foundation.proofs.TruthValues.{both, and_true, both_ways}
-use Rattle.foundation.proofs.Words.{eq_word, itself, swapped}
+use Rattle.foundation.proofs.TruthValues.{both, both_ways}
+use Rattle.foundation.proofs.Words.{eq_word, swapped}
 use Rattle.deploy_cells.specs.Same.{same_texts}
-use Rattle.plan_cells.specs.Sites.{deployment_type}
 use Rattle.plan_listing.specs.Hits.{is_at, fits, is_wanted}
+use Rattle.deploy_cells.proofs.SameLemmas.{texts_same}
 
 texts_are : (xs ys : List (List ℕ)) → same_texts xs ys ≡ true → xs ≡ ys
 texts_are [] [] e = refl
@@ -29,21 +30,10 @@ texts_are (x ∷ xs) (y ∷ ys) e =
     let h = both (bytes_eq x y) (same_texts xs ys) e in
     let a : x ≡ y = eq_word x y h.0 in let b : xs ≡ ys = texts_are xs ys h.1 in cc
 
-texts_same : (xs : List (List ℕ)) → same_texts xs xs ≡ true
-texts_same [] = refl
-texts_same (x ∷ xs) = and_true (bytes_eq x x) (same_texts xs xs) (itself x) (texts_same xs)
-
 -- ---- segments that are joined
 
 tail_is : (xs ys : List (List ℕ)) → [] ∷ xs ≡ [] ∷ ys → xs ≡ ys
 tail_is xs ys e = cc
-
-same_tail : (xs ys : List ℕ) → 47 ∷ xs ≡ 47 ∷ ys → xs ≡ ys
-same_tail xs ys e = cc
-
-some_joined : (ss : List (List ℕ)) → 0 < length ss → slashed ss ≡ 47 ∷ joined ss
-some_joined [] h = absurd (omega (arith, h))
-some_joined (s ∷ ss) h = refl
 
 -- a text is its segments, joined
 pub joined_segments : (ss : List (List ℕ)) (t : List ℕ) → segments t ≡ ss → 0 < length ss → joined ss ≡ t

@@ -32,9 +32,9 @@ use Rattle.plan_nested.proofs.OutputLemmas.{lacks_stopped}
 use Rattle.plan_listing.specs.Hits.{entry_of}
 use Rattle.plan_listing.specs.declared.listing.Entry.{Entry}
 use Rattle.arm_env.specs.Find.{names_key}
-use Rattle.plan_cells.specs.Sites.{deployment_type}
 use Rattle.plan_names.specs.Named.{name_first, NamedOr, is_spelled}
 use Rattle.plan_names.proofs.SpelledLemmas.{key_spelled}
+use Rattle.arm_ids.specs.Members.{deployment_type}
 
 -- ---- the first name that passes a test
 

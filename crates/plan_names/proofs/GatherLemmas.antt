@@ -15,7 +15,6 @@ use Rattle.arm_env.specs.declared.env.Spelled.{Spelled}
 use Rattle.arm_env.specs.Find.{names_resource, first_named, names_only, is_same_key}
 use Rattle.reading.specs.Reading.{done, pure, read, continued}
 use Rattle.reading.specs.Knowledge.{Told, value, no_value, waits, told, finished, and_then}
-use Rattle.reading.proofs.Parts.{told-continued}
 use Rattle.deploy_cells.specs.Cells.{step, Position, Cell, name, count, copies}
 use Rattle.deploy_cells.specs.Guarded.{Reads}
 use Rattle.deploy_cells.specs.Puts.{key_at}
@@ -43,6 +42,7 @@ use Rattle.plan_nested.proofs.SeekLemmas.{stop_goes, read_goes, read_stops, copy
 use Rattle.plan_names.proofs.SpelledLemmas.{spelled_is}
 use Rattle.plan_names.specs.Named.{is_spelled, keys_named, gathered, Gathers, one_spelled, GathersOne, Pushes, IsCopy}
 use Rattle.plan_names.specs.Named.{are_one, HasCount}
+use Rattle.plan_sight.proofs.ToldLemmas.{told_pure, told_done, goes}
 
 joined_by : (b : Bool) (k : ResourceId) (ys zs : List ResourceId)
     → (if b then k ∷ (ys ++ zs) else ys ++ zs) ≡ (if b then k ∷ ys else ys) ++ zs
@@ -54,18 +54,6 @@ keys_joined x [] zs = refl
 keys_joined x (y ∷ ys) zs =
     ap (λ ks. if names_resource x y then y.key ∷ ks else ks) (keys_joined x ys zs)
     ∙ joined_by (names_resource x y) y.key (keys_named x ys) (keys_named x zs)
-
-told_pure : {A : Type 0} (t : Table) (x : A) → told_in t (pure x) ≡ value x
-unfolding told
-told_pure t x = refl
-
-told_done : {A : Type 0} (t : Table) (o : Option A) → told_in t (done o) ≡ finished o
-unfolding told
-told_done t o = refl
-
-goes : {A B : Type 0} (t : Table) (r : Reads A) (f : A → Reads B)
-    → told_in t (continued r f) ≡ and_then (told_in t r) (λ x. told_in t (f x))
-goes {A} {B} t r f = told-continued Cell Json A B (table (status_of (rows_in t))) r f
 
 -- what is gathered, after these
 module _ (t : Table) (x : List ℕ) where

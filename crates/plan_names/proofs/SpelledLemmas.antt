@@ -1,23 +1,20 @@
 -- Whether a text spells a type and a name, by the key of these.
-use Rattle.std.proofs.Common.{◌≡◌, ℕ, ◌<◌, Bool, true, false, List, [], ◌∷◌, ◌++◌, map, length, refl, sym, ap, ◌∙◌}
+use Rattle.std.proofs.Common.{◌≡◌, ℕ, ◌<◌, Bool, true, false, List, ◌∷◌, ◌++◌, map, length, refl, sym, ap, ◌∙◌}
 use Rattle.std.proofs.Common.{arith}
 use Rattle.std.specs.Prelude.{◌||◌, bytes_eq}
 use Rattle.std.specs.Char.{to_ascii_lowercase}
 use Rattle.std.proofs.lemmas.List.{map-append, length-map}
 use Rattle.arm_value.specs.Look.{fold, is_same_folded}
-use Rattle.arm_ids.specs.Segments.{segments, slashed, joined}
+use Rattle.arm_ids.specs.Segments.{segments, joined}
 use Rattle.arm_ids.specs.declared.id.Place.{Place}
-use Rattle.arm_ids.proofs.SegmentLemmas.{slashed-segments, segments-fold, fold-fold}
+use Rattle.arm_ids.proofs.SegmentLemmas.{slashed-segments, segments-fold, fold-fold, some_segments}
 use Rattle.arm_env.specs.Find.{names_resource, names_key}
 use Rattle.foundation.proofs.Words.{swapped}
 use Rattle.deploy_cells.specs.Puts.{key_at}
-use Rattle.plan_cells.specs.Sites.{deployment_type, deployment_key}
+use Rattle.plan_cells.specs.Sites.{deployment_key}
 use Rattle.plan_listing.proofs.KeyLemmas.{joined_segments}
 use Rattle.plan_names.specs.Named.{is_spelled}
-
-some_segments : (ss : List (List ℕ)) (t : List ℕ) → slashed ss ≡ 47 ∷ t → 0 < length ss
-some_segments [] t e = absurd (cc)
-some_segments (s ∷ ss) t e = omega arith
+use Rattle.arm_ids.specs.Members.{deployment_type}
 
 -- the segments of a text in small letters, joined, are that text in small letters
 pub joined_small : (t : List ℕ) → joined (map fold (segments t)) ≡ fold t

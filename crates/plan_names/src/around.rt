@@ -6,13 +6,14 @@ ghost use Rattle.arm_value.specs.View.{json};
 ghost use Rattle.reading.specs.Reading.{pure, continued};
 ghost use Rattle.deploy_cells.specs.Listing.{named_of, instances_of, listing_of};
 ghost use Rattle.plan_cells.specs.Scopes.{visible};
-ghost use Rattle.plan_cells.specs.Sites.{all_but_first, concat, deployment_key, deployment_type, first_name, seek_name};
+ghost use Rattle.plan_cells.specs.Sites.{all_but_first, concat, deployment_key, first_name, seek_name};
 ghost use Rattle.plan_table.specs.Whole.{whole_of};
 ghost use Rattle.plan_table.specs.Found.{scope_at};
 ghost use Rattle.plan_sight.specs.Ready.{IsReady, told_in};
 ghost use Rattle.plan_sight.specs.Seen.{Shows};
 ghost use Rattle.plan_names.specs.Named.{is_spelled, NamedOr, name_first};
 ghost use Rattle.arm_env.specs.Find.{names_key};
+ghost use Rattle.arm_ids.specs.Members.{deployment_type};
 
 use crate::spelled::{is_spelled, key_formed};
 use arm_ids::{DEPLOYMENT_TYPE, Key, Place};

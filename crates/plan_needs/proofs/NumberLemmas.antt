@@ -3,7 +3,7 @@ use Rattle.std.proofs.Common.{◌≡◌, ℕ, zero, suc, ◌<◌, Bool, true, fa
 use Rattle.std.proofs.Common.{[], ◌∷◌, length}
 use Rattle.std.proofs.Common.{refl, sym, ap, ◌∙◌, arith}
 use Rattle.std.specs.Prelude.{nat_eq, ◌||◌, if◌then◌else◌}
-use Rattle.deploy_cells.specs.Cells.{Cell, Position, deployments}
+use Rattle.deploy_cells.specs.Cells.{Position, deployments}
 use Rattle.deploy_cells.specs.Same.{same_position}
 use Rattle.deploy_cells.proofs.SameLemmas.{cell_is, cell_same}
 use Rattle.plan_cells.specs.Meaning.{Deployment}
@@ -14,12 +14,8 @@ use Rattle.plan_table.specs.Opened.{Opened, opened_at}
 use Rattle.plan_table.specs.Lines.{rows_of}
 use Rattle.plan_table.specs.Keys.{Index}
 use Rattle.plan_table.specs.Laid.{Laid}
-use Rattle.plan_table.proofs.HaltLemmas.{one_scope}
+use Rattle.plan_table.proofs.HaltLemmas.{one_scope, position_of}
 use Rattle.plan_needs.specs.Numbers.{is_here, number_in}
-
-abbrev position_of : Cell → Position
-position_of (deployments p) = p
-position_of _ = []
 
 position_is : (p q : Position) → same_position p q ≡ true → p ≡ q
 position_is p q e = ap position_of (cell_is (deployments p) (deployments q) e)

@@ -21,7 +21,7 @@ use Rattle.reading.specs.Knowledge.{and_then}
 use Rattle.reading.proofs.Parts.{told-continued}
 use Rattle.template_parts.specs.declared.output.Output.{Output}
 use Rattle.template_tree.specs.Tree.{TemplateTree}
-use Rattle.deploy_cells.specs.Cells.{Step, Position, Cell, offered, output, is_true}
+use Rattle.deploy_cells.specs.Cells.{Step, Position, Cell, offered, output}
 use Rattle.deploy_cells.specs.Guarded.{Reads}
 use Rattle.plan_cells.specs.Resources.{header_in}
 use Rattle.plan_cells.specs.Scopes.{template_at, visible}
@@ -50,6 +50,8 @@ use Rattle.plan_listing.specs.Hits.{is_at}
 use Rattle.plan_nested.specs.Sighted.{IsInside, instance_at, found_of}
 use Rattle.plan_nested.specs.declared.seeking.Sighting.{Sighting}
 use Rattle.plan_nested.proofs.SeekLemmas.{read_stops, stop_goes}
+use Rattle.arm_value.specs.Kinds.{is_true}
+use Rattle.plan_sight.proofs.ToldLemmas.{told_pure}
 
 -- ---- the condition of an output
 
@@ -110,10 +112,6 @@ lacks_stopped t lack.OutOfMemory u h = tt
 pub nothing_told : {A : Type 0} (t : Table) → told_in t (pure {A = Option A} None) ≡ value None
 unfolding told
 nothing_told t = refl
-
-pub told_pure : {A : Type 0} (t : Table) (x : A) → told_in t (pure x) ≡ value x
-unfolding told
-told_pure t x = refl
 
 -- ---- the output of a scope inside
 

@@ -9,7 +9,7 @@ use Rattle.arm_value.specs.declared.value.Value as values
 use Rattle.reading.specs.Reading.{pure, read, continued}
 use Rattle.reading.specs.Knowledge.{Known, known, Told, value, told, and_then}
 use Rattle.reading.proofs.Parts.{told-continued}
-use Rattle.deploy_cells.specs.Cells.{Step, step, Position, Cell, parent, count, included, deployments, copies, is_true}
+use Rattle.deploy_cells.specs.Cells.{Step, step, Position, Cell, parent, count, included, deployments, copies}
 use Rattle.deploy_cells.specs.Guarded.{Reads, told_by}
 use Rattle.deploy_cells.specs.Listing as listing
 use Rattle.deploy_cells.specs.Listing.{IsListed, IsSought, found, sought, listing_value}
@@ -51,6 +51,7 @@ use Rattle.plan_nested.specs.Sighted.{instance_at, found_of, IsThere, HereOr, Fi
 use Rattle.plan_nested.specs.Sighted.{Leads}
 use Rattle.plan_nested.proofs.InvertLemmas.{none_there, read_known, unguarded, deployments_told, listing_told, all_told}
 use Rattle.plan_nested.proofs.InvertLemmas.{resource_told}
+use Rattle.arm_value.specs.Kinds.{is_true}
 
 -- ---- numbers of nested deployments
 

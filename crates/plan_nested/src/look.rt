@@ -14,6 +14,7 @@ ghost use Rattle.plan_table.specs.Found.{scope_at, IsLineOf, IsTrueLine, state_a
 ghost use Rattle.plan_sight.specs.Ready.{IsReady, told_in};
 ghost use Rattle.plan_sight.specs.Seen.{Shows, Yields};
 ghost use Rattle.plan_nested.specs.Sighted.{IsInside, IsThere, found_of, instance_at};
+ghost use Rattle.arm_value.specs.Kinds.{is_true};
 
 use crate::seeking::{Sighting, seek};
 use arm_ids::{Key, Place};
@@ -30,7 +31,7 @@ pub(crate) fn is_offered(table: &Table, at: usize) -> Result<bool, Lack>
     requires listed { at < length table.now.lines.items }
     ensures told { Yields (λ b. b) table.now result (told_in table.now
         (ask (cell_of (scopes_of table.now) (line_at table.now.lines.items at).spot)
-        (λ v. pure (cells.is_true v)))) }
+        (λ v. pure (is_true v)))) }
     ensures line { IfOk result (λ b. b ≡ true → IsTrueLine (state_at table.now at)) }
 {
     match &table.lines[at].state {
@@ -44,7 +45,7 @@ pub(crate) fn is_offered(table: &Table, at: usize) -> Result<bool, Lack>
 
 // Whether the value is true.
 fn is_true(value: &Value) -> bool
-    ensures { result ≡ cells.is_true (Some (json value.now)) }
+    ensures { result ≡ is_true (Some (json value.now)) }
 {
     match value {
         Value::Bool(truth) => *truth,

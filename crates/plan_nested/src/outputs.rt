@@ -13,6 +13,7 @@ ghost use Rattle.plan_table.specs.Found.{scope_at};
 ghost use Rattle.plan_sight.specs.Ready.{IsReady, told_in};
 ghost use Rattle.plan_sight.specs.Seen.{Shows, Yields};
 ghost use Rattle.plan_nested.specs.Sighted.{IsInside, IsThere, found_of, instance_at};
+ghost use Rattle.arm_value.specs.Kinds.{is_true};
 
 use crate::look::is_offered;
 use crate::seeking::{Sighting, seek};
@@ -31,7 +32,7 @@ fn offered_in(alloc: Global, table: &Table, frame: usize, name: &Text) -> Result
     requires there { frame < length table.now.frames.items }
     requires named { Has (fold name.now) (output_names (scope_at table.now frame).template) }
     ensures { Yields (λ b. b) table.now result (told_in table.now
-        (ask (cells.offered (scope_at table.now frame).position (fold name.now)) (λ v. pure (cells.is_true v)))) }
+        (ask (cells.offered (scope_at table.now frame).position (fold name.now)) (λ v. pure (is_true v)))) }
 {
     match table.offered_line(alloc, frame, name) {
         Ok(Some(at)) => is_offered(table, at),

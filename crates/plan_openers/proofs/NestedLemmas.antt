@@ -8,7 +8,7 @@ use Rattle.arm_value.specs.View.{json}
 use Rattle.arm_ids.specs.declared.id.Place.{Place}
 use Rattle.arm_ids.specs.declared.id.ResourceId.{ResourceId}
 use Rattle.reading.specs.Knowledge.{known_value}
-use Rattle.deploy_cells.specs.Cells.{Step, step, Position, Cell, included, name, is_true}
+use Rattle.deploy_cells.specs.Cells.{Step, step, Position, Cell, included, name}
 use Rattle.deploy_cells.specs.Puts.{Kind, IsNested, key_at}
 use Rattle.deploy_cells.proofs.SameLemmas.{cell_is}
 use Rattle.plan_cells.specs.Known as knowing
@@ -38,6 +38,9 @@ use Rattle.plan_table.proofs.LaidLemmas.{row_here, length_rows}
 use Rattle.plan_tasks.specs.Start.{start_of, IsStartTable, IsInstance}
 use Rattle.plan_openers.specs.declared.opener.Opener.{Opener}
 use Rattle.plan_openers.specs.Openers.{IsOpener}
+use Rattle.arm_value.specs.Kinds.{is_true}
+use Rattle.plan_refusals.proofs.RefusalLemmas.{position_in}
+use Rattle.plan_tasks.proofs.TableLemmas.{step_in}
 
 -- ---- of a scope that is there, its nested deployment
 
@@ -163,14 +166,6 @@ record IsSpotOf (os : List Opened) (x : Spot) (p : Position) (s : Step) : Type 0
   frame : ℕ
   is : x ≡ Included frame s.resource s.copy
   at : (opened_at os frame).position ≡ p
-
-position_in : Cell → Position
-position_in (included p s) = p
-position_in _ = []
-
-step_in : Cell → Step
-step_in (included p s) = s
-step_in _ = step 0 0
 
 spot_of : (os : List Opened) (x : Spot) (p : Position) (s : Step) → cell_of os x ≡ included p s → IsSpotOf os x p s
 unfolding position_in step_in

@@ -9,7 +9,6 @@ use Rattle.arm_value.specs.Json.{Json}
 use Rattle.reading.specs.Knowledge.{known_value}
 use Rattle.template_tree.specs.Tree.{TemplateTree}
 use Rattle.deploy_cells.specs.Cells.{Step, Position, Cell, parent, admits, count, included, deployments, copies}
-use Rattle.deploy_cells.specs.Cells.{is_true}
 use Rattle.plan_cells.specs.Resources.{Listed, Nested, nested_in, nested_at, resource_at, resources_in}
 use Rattle.plan_cells.specs.Resources.{unless_existing}
 use Rattle.plan_cells.specs.Scopes.{template_at}
@@ -33,6 +32,7 @@ use Rattle.plan_table.proofs.LaidLemmas.{row_here, length_rows}
 use Rattle.plan_tasks.specs.InOrder.{copies_in, is_in}
 use Rattle.plan_tasks.specs.Start.{start_of, IsStartTable, IsInstance}
 use Rattle.plan_openers.specs.Openers.{IsOpener}
+use Rattle.arm_value.specs.Kinds.{is_true}
 
 -- ---- by the cells that are listed
 

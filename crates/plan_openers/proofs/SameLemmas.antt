@@ -1,12 +1,12 @@
 -- Scopes whose tags are shared are those of nested deployments with one key.
-use Rattle.std.proofs.Common.{◌≡◌, ◌⊎◌, inl, inr, ℕ, zero, suc, ◌<◌, Bool, true, false, true≢false, ◌||◌, List, [], ◌∷◌}
+use Rattle.std.proofs.Common.{◌≡◌, ◌⊎◌, inl, inr, ℕ, zero, suc, ◌<◌, Bool, true, false, true≢false, List, [], ◌∷◌}
 use Rattle.std.proofs.Common.{◌++◌, ◌+◌, ◌≤◌, map, length, drop, Option, Some, None, refl, sym, ap, ap₂, subst, ◌∙◌}
 use Rattle.std.proofs.Common.{arith, append_assoc}
 use Rattle.std.proofs.lemmas.List.{length-map, map-append}
 use Rattle.std.specs.declared.vec.Vec.{Vec}
 use Rattle.std.specs.declared.alloc.Global.{Global}
 use Rattle.std.specs.Prelude.{slice_get, nat_eq, bytes_eq, option_and_then, MatchOption}
-use Rattle.foundation.proofs.TruthValues.{both, and_true}
+use Rattle.foundation.proofs.TruthValues.{both, and_true, or_false_twice}
 use Rattle.foundation.proofs.Words.{eq_word, itself}
 use Rattle.arm_ids.specs.declared.id.ResourceId.{ResourceId}
 use Rattle.reading.specs.Knowledge.{known_value}
@@ -36,10 +36,6 @@ use Rattle.plan_openers.specs.SameNested.{keyed_tags, position_tags, scope_tags,
 use Rattle.plan_openers.proofs.OpenerLemmas.{around, opener_there}
 use Rattle.plan_openers.proofs.NestedLemmas.{IsKeyed, opener_keyed, HasScope, nested_scope}
 
-ends : (b : Bool) → ((b || false) || false) ≡ b
-ends true = refl
-ends false = refl
-
 first_of : (f g : ℕ) (xs ys : List ℕ) → f ∷ xs ≡ g ∷ ys → f ≡ g
 first_of f g xs ys e = cc
 
@@ -67,7 +63,7 @@ by_keys d q f g s u p r None b e h i = absurd (true≢false (sym i))
 by_keys d q f g s u p r (Some k) None e h i = absurd (true≢false (sym i))
 by_keys d q f g s u p r (Some k) (Some l) e h i =
     let same : f ∷ key_code k ≡ g ∷ key_code l =
-    eq_word (f ∷ key_code k) (g ∷ key_code l) (sym (ends (bytes_eq (f ∷ key_code k) (g ∷ key_code l))) ∙ i) in
+    eq_word (f ∷ key_code k) (g ∷ key_code l) (sym (or_false_twice (bytes_eq (f ∷ key_code k) (g ∷ key_code l))) ∙ i) in
     let codes : key_code k ≡ key_code l = rest_of f g (key_code k) (key_code l) same in
     let keys : k ≡ l =
     id_is k l (sym (key_eq k l) ∙ ap (bytes_eq (key_code k)) (sym codes) ∙ itself (key_code k)) in
@@ -224,7 +220,7 @@ module _ (t : Table) (start : IsStartTable t) where
     second = tag ∷ [];
     is_first = tags_at os tags i h ∙ ap Some e;
     is_second = tags_at os tags j k ∙ ap Some f;
-    share = ends (bytes_eq tag tag) ∙ itself tag;
+    share = or_false_twice (bytes_eq tag tag) ∙ itself tag;
   }
 
   by_order : (i j : ℕ) → (i ≡ j → ⊥) → (i < j) ⊎ (j < i)

@@ -7,8 +7,8 @@ use Rattle.arm_value.specs.View.{json}
 use Rattle.arm_value.specs.declared.value.Value.{Value}
 use Rattle.arm_value.specs.declared.value.Value.TheVariants as values
 use Rattle.arm_ids.specs.declared.id.Place.{Place}
-use Rattle.reading.specs.Reading.{done, pure, read, continued}
-use Rattle.reading.specs.Knowledge.{value, told, finished}
+use Rattle.reading.specs.Reading.{done, read, continued}
+use Rattle.reading.specs.Knowledge.{value, finished}
 use Rattle.deploy_cells.specs.Cells.{Step, step, Position, name, count}
 use Rattle.deploy_cells.specs.Guarded.{Reads}
 use Rattle.plan_cells.specs.Scopes.{owner, own_place, with_deployment}
@@ -27,6 +27,7 @@ use Rattle.plan_sight.proofs.LookLemmas.{scope_is, scopes_there, frames_there, o
 use Rattle.plan_nested.proofs.SeekLemmas.{read_goes, read_stops}
 use Rattle.plan_places.specs.Places.{Forms, IsNamed}
 use Rattle.plan_places.proofs.PlaceLemmas.{around_there, position_around, name_there}
+use Rattle.plan_sight.proofs.ToldLemmas.{told_pure, told_done}
 
 pub no_place : (place : Place) (v : Value) → ((s : List ℕ) → v ≡ values.Text s → ⊥)
     → with_deployment place (json v) ≡ None
@@ -36,14 +37,6 @@ no_place place (values.Int z) h = refl
 no_place place (values.Text s) h = absurd (h s refl)
 no_place place (values.Array js) h = refl
 no_place place (values.Object ms) h = refl
-
-told_done : {A : Type 0} (t : Table) (o : Option A) → told_in t (done o) ≡ finished o
-unfolding told
-told_done t o = refl
-
-told_pure : {A : Type 0} (t : Table) (x : A) → told_in t (pure x) ≡ value x
-unfolding told
-told_pure t x = refl
 
 pub root_told : (t : Table) (place : Place) → told_in t (own_place place []) ≡ value place
 root_told t place = told_pure t place

@@ -58,7 +58,7 @@ unanswered d rows j f h e =
 
 -- ---- keys
 
-abbrev position_in : Cell → Position
+abbrev pub position_in : Cell → Position
 position_in (included p s) = p
 position_in _ = []
 

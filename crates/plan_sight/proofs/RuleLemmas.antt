@@ -63,7 +63,7 @@ found_own f (y ∷ xs) a (suc n) x h e =
     refl a.0 (in_list (λ z. fold (f z)) xs n (omega (arith, h))) (Some x)
     (found_own f xs a.1 n x (omega (arith, h)) e)
 
-own_names : (u : TemplateTree) → NamesDiffer u → HasOwnNames (header_in u)
+pub own_names : (u : TemplateTree) → NamesDiffer u → HasOwnNames (header_in u)
 own_names (template h rs) n = n.0
 
 module _ (t : Table) (laid : IsLaid t) (differ : NamesDiffer (whole_of t).template) (at : ℕ)

@@ -1,9 +1,9 @@
 -- What is told of a cell that is listed.
-use Rattle.std.proofs.Common.{◌≡◌, ◌⊎◌, inl, inr, ℕ, ◌<◌, Bool, true, length, Option, Some, None, ap, ◌∙◌}
+use Rattle.std.proofs.Common.{◌≡◌, ◌⊎◌, inl, inr, ℕ, ◌<◌, Bool, true, length, Option, Some, None, ap, ◌∙◌, refl, ◌-◌}
 use Rattle.arm_value.specs.Json.{Json}
-use Rattle.reading.specs.Knowledge.{Known, known, Told, told, by_entry}
+use Rattle.reading.specs.Knowledge.{Known, known, Told, told, by_entry, value, finished, and_then}
 use Rattle.deploy_cells.specs.Cells.{Cell, parent, admits}
-use Rattle.deploy_cells.specs.Guarded.{told_by, told_where}
+use Rattle.deploy_cells.specs.Guarded.{told_by, told_where, Reads}
 use Rattle.deploy_cells.proofs.CellLemmas.{guarded_told}
 use Rattle.plan_cells.specs.Meaning.{meaning, plain}
 use Rattle.plan_cells.specs.Children.{Has, roots}
@@ -16,6 +16,8 @@ use Rattle.plan_table.specs.Whole.{whole_of, rows_in}
 use Rattle.plan_table.specs.Found.{state_at}
 use Rattle.plan_sight.specs.Ready.{IsReady, told_in}
 use Rattle.plan_sight.proofs.LookLemmas.{cell_at, status_at}
+use Rattle.reading.specs.Reading.{pure, done, continued}
+use Rattle.reading.proofs.Parts.{told-continued}
 
 by_parent : (q : Cell → Known Json) (c : Cell) (o : Option Cell) (t : Told Cell (Option Json)) → parent c ≡ o
     → told_by q c (parent c) t ≡ told_by q c o t
@@ -59,3 +61,16 @@ pub told_listed : (t : Table) (j : ℕ) → IsReady t → j < length t.lines.ite
 told_listed t j ready h =
     told_there t (cell_at t j) (ready.sound.good.is_there (cell_at t j) (status_in (state_at t j))
     (status_at t j ready h))
+
+-- What a table says of readings, part by part.
+pub told_pure : {A : Type 0} (t : Table) (x : A) → told_in t (pure x) ≡ value x
+unfolding told
+told_pure t x = refl
+
+pub told_done : {A : Type 0} (t : Table) (o : Option A) → told_in t (done o) ≡ finished o
+unfolding told
+told_done t o = refl
+
+pub goes : {A B : Type 0} (t : Table) (r : Reads A) (f : A → Reads B)
+    → told_in t (continued r f) ≡ and_then (told_in t r) (λ x. told_in t (f x))
+goes {A} {B} t r f = told-continued Cell Json A B (table (status_of (rows_in t))) r f

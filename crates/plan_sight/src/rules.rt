@@ -4,12 +4,14 @@ ghost use Rattle.plan_cells.specs.Resources.{Listed, header_in};
 ghost use Rattle.arm_value.specs.View.{json};
 ghost use Rattle.arm_eval.specs.Trees.{count_of};
 ghost use Rattle.arm_eval.specs.Titles.{key_at};
-ghost use Rattle.template_parameters.specs.Rule.{breach, is_of, is_text, is_int, is_bool, is_object, is_array};
+ghost use Rattle.template_parameters.specs.Rule.{breach, is_of, is_text, is_int, is_bool};
 ghost use Rattle.plan_cells.specs.Meaning.{rule};
 ghost use Rattle.plan_table.specs.Lines.{cell_of, line_at};
 ghost use Rattle.plan_table.specs.Whole.{whole_of, scopes_of, IsLaid};
 ghost use Rattle.plan_table.specs.Found.{scope_at};
 ghost use Rattle.plan_cells.specs.Children.{NamesDiffer};
+ghost use Rattle.arm_value.specs.Kinds.{is_array};
+ghost use Rattle.arm_value.specs.Kinds.{is_object};
 
 use arm_eval::symbols::key_at;
 use arm_value::{OutOfMemory, Value};

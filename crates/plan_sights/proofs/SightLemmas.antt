@@ -93,7 +93,7 @@ await_stops stop.OutOfMemory c u h e = tt
 
 -- ---- states
 
-spot_differs : (o : Opened) (s : Spot) (k : ResourceId) → same (cell_in o s) (state k) ≡ false
+pub spot_differs : (o : Opened) (s : Spot) (k : ResourceId) → same (cell_in o s) (state k) ≡ false
 spot_differs o (Parameter f n) k = refl
 spot_differs o (Variable f n) k = refl
 spot_differs o (Offered f n) k = refl
@@ -103,7 +103,7 @@ spot_differs o (Included f r i) k = refl
 spot_differs o (Name f r i) k = refl
 spot_differs o (Deployments f) k = refl
 
-no_state : (os : List Opened) (ls : List Line) (k : ResourceId) → status_of (map (row_of os) ls) (state k) ≡ None
+pub no_state : (os : List Opened) (ls : List Line) (k : ResourceId) → status_of (map (row_of os) ls) (state k) ≡ None
 no_state os [] k = refl
 no_state os (l ∷ ls) k =
     ap (λ b. if b then Some (row_of os l).status else status_of (map (row_of os) ls) (state k))

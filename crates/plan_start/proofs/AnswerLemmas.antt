@@ -5,14 +5,13 @@ use Rattle.std.specs.Prelude.{option_map, IfOk}
 use Rattle.arm_value.specs.Json.{Json}
 use Rattle.arm_value.specs.View.{json}
 use Rattle.arm_value.specs.declared.value.Value.{Value}
-use Rattle.reading.specs.Reading.{done, pure, continued}
-use Rattle.reading.specs.Knowledge.{Told, value, no_value, waits, absent, told, finished, and_then}
-use Rattle.reading.proofs.Parts.{told-continued}
+use Rattle.reading.specs.Reading.{done, pure}
+use Rattle.reading.specs.Knowledge.{Told, value, no_value, waits, absent, finished, and_then}
 use Rattle.deploy_cells.specs.Cells.{Cell}
 use Rattle.deploy_cells.specs.Guarded.{Reads, there, there_if}
 use Rattle.plan_cells.specs.Known.{entry_told}
 use Rattle.plan_cells.specs.Meaning.{Deployment, meaning, plain, raw, rule, ruled, if_meets}
-use Rattle.plan_filling.specs.Rows.{row_at, status_of, table}
+use Rattle.plan_filling.specs.Rows.{row_at}
 use Rattle.plan_filling.specs.Sound.{Tells}
 use Rattle.plan_filling.specs.declared.sheet.Answer.{Answer}
 use Rattle.plan_filling.specs.declared.sheet.Answer.TheVariants as answer
@@ -23,21 +22,9 @@ use Rattle.plan_table.specs.Lines.{cell_of, line_at}
 use Rattle.plan_table.specs.Whole.{whole_of, scopes_of, rows_in}
 use Rattle.plan_sight.specs.Ready.{IsReady, told_in}
 use Rattle.plan_sight.proofs.LookLemmas.{cell_of_row}
-use Rattle.plan_sight.proofs.ToldLemmas.{told_listed}
+use Rattle.plan_sight.proofs.ToldLemmas.{told_listed, told_pure, told_done, goes}
 use Rattle.plan_values.specs.Values.{told_raw}
 use Rattle.plan_start.specs.Sheets.{IsAnswer}
-
-told_pure : {A : Type 0} (t : Table) (x : A) → told_in t (pure x) ≡ value x
-unfolding told
-told_pure t x = refl
-
-told_done : {A : Type 0} (t : Table) (o : Option A) → told_in t (done o) ≡ finished o
-unfolding told
-told_done t o = refl
-
-goes : {A B : Type 0} (t : Table) (r : Reads A) (f : A → Reads B)
-    → told_in t (continued r f) ≡ and_then (told_in t r) (λ x. told_in t (f x))
-goes {A} {B} t r f = told-continued Cell Json A B (table (status_of (rows_in t))) r f
 
 -- ---- by what is told of the reading of a value
 

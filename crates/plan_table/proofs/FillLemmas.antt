@@ -9,7 +9,7 @@ use Rattle.arm_value.specs.View.{json}
 use Rattle.arm_value.specs.declared.value.Value.{Value}
 use Rattle.template_tree.specs.Tree.{TemplateTree}
 use Rattle.deploy_cells.specs.Cells.{Step, step, Position, Cell, parameter, variable, offered, output, count, included}
-use Rattle.deploy_cells.specs.Cells.{name, deployments, copies, is_true}
+use Rattle.deploy_cells.specs.Cells.{name, deployments, copies}
 use Rattle.plan_cells.specs.Resources.{Listed, Nested, resources_in, resource_at, nested_at, nested_in}
 use Rattle.plan_cells.specs.Scopes.{template_at, nested_of}
 use Rattle.plan_cells.specs.Meaning.{Deployment, is_own}
@@ -35,6 +35,7 @@ use Rattle.plan_table.proofs.ScopeLemmas.{Extends, extends_same, extends_more, o
 use Rattle.plan_table.proofs.ScopeLemmas.{resource_here, nested_here, root_kept}
 use Rattle.plan_table.proofs.LaidLemmas.{at_new, at_listed, laid_after, laid_set, rows_after, rows_of_new, row_here}
 use Rattle.plan_table.proofs.LaidLemmas.{rows_set, each_at, opens_new, all_new}
+use Rattle.arm_value.specs.Kinds.{is_true}
 
 -- the cell of a line
 pub cell_here : (os : List Opened) (ls : List Line) (at : ℕ) (s : Spot) → at < length ls → (line_at ls at).spot ≡ s

@@ -4,7 +4,7 @@ use Rattle.std.proofs.Common.{get_or, Option, Some, None, refl, sym, ap, subst, 
 use Rattle.std.specs.Prelude.{MatchOption}
 use Rattle.arm_value.specs.View.{json}
 use Rattle.deploy_cells.specs.Cells.{Step, step, Position, Cell, parameter, variable, offered, output, count, included}
-use Rattle.deploy_cells.specs.Cells.{name, deployments, state, copies, is_true}
+use Rattle.deploy_cells.specs.Cells.{name, deployments, state, copies}
 use Rattle.plan_cells.specs.Meaning.{Deployment}
 use Rattle.plan_cells.specs.Desired.{is_state}
 use Rattle.plan_cells.specs.Children.{Has, parameter_names, variable_names, output_names}
@@ -22,6 +22,7 @@ use Rattle.plan_table.specs.Laid.{IsOfScope, OpensBy, Laid}
 use Rattle.plan_table.specs.Whole.{whole_of, scopes_of, IsLaid}
 use Rattle.plan_table.specs.Found.{scope_at, HasCell, IsLineOf, state_at, Counts, IsTrueLine}
 use Rattle.plan_table.proofs.KeyLemmas.{position_in, one_frame, cell_by_key, one_shape, in_scope, no_state}
+use Rattle.arm_value.specs.Kinds.{is_true}
 
 has_at : (xs : List (List ℕ)) (n : ℕ) → n < length xs → Has (name_at xs n) xs
 has_at [] n h = absurd (omega (arith, h))

@@ -78,7 +78,7 @@ once (r ∷ rs) (suc i) zero a h k e =
     let some = status_found rs i a.1 (omega (arith, h)) in cc
 once (r ∷ rs) (suc i) (suc j) a h k e = ap suc (once rs i j a.1 (omega (arith, h)) (omega (arith, k)) e)
 
-abbrev position_of : Cell → Position
+abbrev pub position_of : Cell → Position
 position_of (deployments p) = p
 position_of _ = []
 

@@ -8,7 +8,7 @@ use Rattle.reading.specs.World.{Each}
 use Rattle.arm_value.specs.View.{json}
 use Rattle.arm_value.specs.declared.value.Value.{Value}
 use Rattle.arm_ids.specs.declared.id.ResourceId.{ResourceId}
-use Rattle.deploy_cells.specs.Cells.{step, Cell, copies, is_true, deployments}
+use Rattle.deploy_cells.specs.Cells.{step, Cell, copies, deployments}
 use Rattle.plan_cells.specs.Resources.{Nested, nested_at}
 use Rattle.plan_cells.specs.Meaning.{Deployment}
 use Rattle.plan_cells.specs.Children.{Has}
@@ -27,6 +27,7 @@ use Rattle.plan_table.specs.Keys.{Index, Indexes}
 use Rattle.plan_table.specs.Laid.{IsOfScope, HasCells, IsOpened, OpensBy, Opens, Laid}
 use Rattle.plan_table.proofs.KeyLemmas.{lt_or, eq_or, get_after, line_before, spot_set, indexed_set}
 use Rattle.plan_table.proofs.ScopeLemmas.{Extends, cell_still, placed_still, kept_still, extends_same}
+use Rattle.arm_value.specs.Kinds.{is_true}
 
 -- ---- lines after others
 

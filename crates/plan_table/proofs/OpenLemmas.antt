@@ -7,7 +7,7 @@ use Rattle.std.specs.Prelude.{IfOk, slice_get}
 use Rattle.reading.specs.World.{Each}
 use Rattle.arm_value.specs.View.{json}
 use Rattle.arm_value.specs.declared.value.Value.{Value}
-use Rattle.deploy_cells.specs.Cells.{copies, is_true}
+use Rattle.deploy_cells.specs.Cells.{copies}
 use Rattle.plan_cells.specs.Resources as cells
 use Rattle.plan_cells.specs.Resources.{Nested, nested_in}
 use Rattle.plan_cells.specs.Meaning.{Deployment}
@@ -31,6 +31,7 @@ use Rattle.plan_table.specs.Whole.{whole_of, scopes_of, rows_in, IsLaid}
 use Rattle.plan_table.proofs.FillLemmas.{Fills, instances_placed, count_fills, offered_fills, scope_fills}
 use Rattle.plan_table.proofs.FillLemmas.{scope_placed, root_laid, root_rows}
 use Rattle.plan_table.proofs.StepLemmas.{indexed_still, added_placed, extended}
+use Rattle.arm_value.specs.Kinds.{is_true}
 
 placed_line : (d : Deployment) (os : List Opened) (ix : Index) (ls : List Line) (at : ℕ) (s : Spot) → Laid d os ix ls
     → at < length ls → (line_at ls at).spot ≡ s → IsPlaced os s

@@ -16,7 +16,6 @@ use Rattle.template_tree.specs.declared.resource.Body.{Body}
 use Rattle.template_tree.specs.declared.resource.Body.TheVariants.{Members, Deployment}
 use Rattle.template_tree.specs.declared.resource.Deployment as code
 use Rattle.arm_value.specs.Json.{Member}
-use Rattle.deploy_cells.specs.Cells.{is_true}
 use Rattle.plan_cells.specs.Resources as cells
 use Rattle.plan_cells.specs.Resources.{Nested, nested_at, nested_in, resource_at}
 use Rattle.plan_cells.specs.Meaning as meaning
@@ -38,6 +37,7 @@ use Rattle.plan_table.proofs.ScopeLemmas.{Extends, extends_more, key_still, open
 use Rattle.plan_table.proofs.ScopeLemmas.{nested_here}
 use Rattle.plan_table.proofs.FrameLemmas.{frame_is, resource_read}
 use Rattle.plan_table.proofs.FillLemmas.{scope_placed}
+use Rattle.arm_value.specs.Kinds.{is_true}
 
 -- what holds of a result by two facts of it
 pub ok_both : {X E : Type 0} (r : Result X E) (P Q R : X → Type 0) → IfOk r P → IfOk r Q → ((x : X) → P x → Q x → R x)

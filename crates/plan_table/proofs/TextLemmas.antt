@@ -1,8 +1,9 @@
 -- Texts that are folded character by character.
-use Rattle.std.proofs.Common.{◌≡◌, ℕ, List, [], ◌∷◌, ◌++◌, map, refl, sym, ap, ◌∙◌, append_assoc}
+use Rattle.std.proofs.Common.{◌≡◌, ℕ, List, [], ◌∷◌, ◌++◌, map, sym, ap, ◌∙◌, append_assoc}
 use Rattle.std.proofs.lemmas.List.{map-append}
 use Rattle.std.specs.Char.{to_ascii_lowercase}
 use Rattle.arm_value.specs.Look.{fold}
+use Rattle.foundation.proofs.Lists.{same_map}
 
 pub folded_more : (first old new yielded : List ℕ) (c low : ℕ) → old ≡ first ++ fold yielded
     → low ≡ to_ascii_lowercase c → new ≡ old ++ low ∷ [] → new ≡ first ++ fold (yielded ++ c ∷ [])
@@ -10,10 +11,6 @@ folded_more first old new yielded c low e f g =
     g ∙ ap (λ xs. xs ++ low ∷ []) e ∙ append_assoc first (fold yielded) (low ∷ [])
     ∙ ap (λ l. first ++ (fold yielded ++ l ∷ [])) f
     ∙ ap (λ xs. first ++ xs) (sym (map-append to_ascii_lowercase yielded (c ∷ [])))
-
-same_map : (xs : List ℕ) → map (λ x. x) xs ≡ xs
-same_map [] = refl
-same_map (x ∷ xs) = ap (λ ys. x ∷ ys) (same_map xs)
 
 pub folded_all : (first new yielded all : List ℕ) → map (λ x. x) yielded ≡ all → new ≡ first ++ fold yielded
     → new ≡ first ++ fold all

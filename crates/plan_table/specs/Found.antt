@@ -2,7 +2,7 @@
 use Rattle.std.specs.Prelude.{◌≡◌, ℕ, ◌<◌, length, true, Some}
 use Rattle.arm_value.specs.View.{json}
 use Rattle.deploy_cells.specs.Cells.{Cell, parameter, variable, offered, output, count, included, name, deployments}
-use Rattle.deploy_cells.specs.Cells.{state, copies, is_true}
+use Rattle.deploy_cells.specs.Cells.{state, copies}
 use Rattle.plan_cells.specs.Children.{Has, parameter_names, variable_names, output_names}
 use Rattle.plan_table.specs.declared.table.Table.{Table}
 use Rattle.plan_table.specs.declared.line.State.{State}
@@ -10,6 +10,7 @@ use Rattle.plan_table.specs.declared.line.State.TheVariants as how
 use Rattle.plan_table.specs.Opened.{Opened, opened_at}
 use Rattle.plan_table.specs.Lines.{frame_of, cell_of, line_at, IsNumber}
 use Rattle.plan_table.specs.Whole.{scopes_of}
+use Rattle.arm_value.specs.Kinds.{is_true}
 
 -- the scope of a frame
 abbrev pub scope_at : Table → ℕ → Opened

@@ -2,7 +2,7 @@
 use Rattle.std.specs.Prelude.{◌≡◌, ◌⊎◌, ℕ, ◌<◌, List, [], ◌∷◌, true, false, length, Some, None}
 use Rattle.arm_value.specs.Json.{Json}
 use Rattle.arm_value.specs.View.{json}
-use Rattle.deploy_cells.specs.Cells.{step, copies, is_true}
+use Rattle.deploy_cells.specs.Cells.{step, copies}
 use Rattle.plan_cells.specs.Resources.{Nested, nested_at}
 use Rattle.plan_cells.specs.Meaning.{Deployment}
 use Rattle.plan_table.specs.declared.line.Line.{Line}
@@ -14,6 +14,7 @@ use Rattle.plan_table.specs.declared.line.State.TheVariants as how
 use Rattle.plan_table.specs.Opened.{Opened, opened_at, IsKept}
 use Rattle.plan_table.specs.Lines.{frame_of, IsDeclared, IsPlaced, line_at, IsAt}
 use Rattle.plan_table.specs.Keys.{Index, Indexes}
+use Rattle.arm_value.specs.Kinds.{is_true}
 
 -- the cell is there with its scope, and not by another value
 abbrev pub IsOfScope : Spot → Type 0

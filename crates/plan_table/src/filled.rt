@@ -4,7 +4,7 @@ ghost use Rattle.std.specs.Prelude.{slice_get, true, false};
 ghost use Rattle.reading.specs.World.{Each};
 ghost use Rattle.arm_value.specs.Json.{Json};
 ghost use Rattle.arm_value.specs.View.{json};
-ghost use Rattle.deploy_cells.specs.Cells.{copies, is_true};
+ghost use Rattle.deploy_cells.specs.Cells.{copies};
 ghost use Rattle.plan_cells.specs.Resources as cells;
 ghost use Rattle.plan_cells.specs.Children.{children};
 ghost use Rattle.plan_filling.specs.Rows.{row_at, with_status, with_value, fresh, IsUnfinished, AreDistinct};
@@ -19,6 +19,7 @@ ghost use Rattle.plan_table.specs.Spots.{scope_spots};
 ghost use Rattle.plan_table.specs.Laid.{IsAlone};
 ghost use Rattle.plan_table.specs.Whole.{whole_of, scopes_of, rows_in, IsLaid};
 ghost use Rattle.plan_table.specs.Counted.{IsCounted, AreNumbers, numbers_of};
+ghost use Rattle.arm_value.specs.Kinds.{is_true};
 
 use crate::counting::{add_instances, counted};
 use crate::frame::{Frame, Instance, frame_inside};

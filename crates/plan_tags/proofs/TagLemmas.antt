@@ -21,26 +21,9 @@ use Rattle.plan_cells.specs.Needs.{needs_by_order}
 use Rattle.plan_tags.specs.Tags.{Tag, entry, inside, before, root_left, child_of, same_tag, shares, tag_of, by_batch}
 use Rattle.plan_tags.specs.Tags.{by_copy, by_instance, first_ones, parent_by, entry_tags, delete_tags, leave_asks}
 use Rattle.plan_tags.specs.Tags.{delete_asks, tags_of, asks_of}
+use Rattle.foundation.proofs.TruthValues.{or_assoc, or_false, and_false_is, or_crossed, both_ways}
 
 -- ---- truth values
-
-or_false : (b : Bool) → (b || false) ≡ b
-or_false true = refl
-or_false false = refl
-
-or_assoc : (a b c : Bool) → ((a || b) || c) ≡ (a || (b || c))
-or_assoc true b c = refl
-or_assoc false b c = refl
-
-and_false : (b : Bool) → (b && false) ≡ false
-and_false true = refl
-and_false false = refl
-
--- two truth values that follow from one another
-both_ways : (a b : Bool) → (a ≡ true → b ≡ true) → (b ≡ true → a ≡ true) → a ≡ b
-both_ways true b f g = sym (f refl)
-both_ways false true f g = g refl
-both_ways false false f g = refl
 
 -- ---- what lists share
 
@@ -56,19 +39,12 @@ nothing_shared : (asks : List Tag) → shares asks [] ≡ false
 nothing_shared [] = refl
 nothing_shared (a ∷ asks) = nothing_shared asks
 
--- a tag asks for one that neither of the lists has, or one of them
-swap : (a b c d : Bool) → ((a || b) || (c || d)) ≡ ((a || c) || (b || d))
-swap true b c d = refl
-swap false true true d = refl
-swap false true false d = refl
-swap false false c d = refl
-
 shares_right : (asks ts us : List Tag) → shares asks (ts ++ us) ≡ (shares asks ts || shares asks us)
 shares_right [] ts us = refl
 shares_right (a ∷ asks) ts us =
     ap (λ b. b || shares asks (ts ++ us)) (any_joined (same_tag a) ts us)
     ∙ ap (λ b. (list_any (same_tag a) ts || list_any (same_tag a) us) || b) (shares_right asks ts us)
-    ∙ swap (list_any (same_tag a) ts) (list_any (same_tag a) us) (shares asks ts) (shares asks us)
+    ∙ or_crossed (list_any (same_tag a) ts) (list_any (same_tag a) us) (shares asks ts) (shares asks us)
 
 one_shared : (a t : Tag) → shares (a ∷ []) (t ∷ []) ≡ same_tag a t
 one_shared a t = or_false (same_tag a t || false) ∙ or_false (same_tag a t)
@@ -208,7 +184,7 @@ front_last : (xs : List (List ℕ)) (x : List ℕ) (ys : List (List ℕ))
 front_last [] x [] = refl
 front_last [] x (y ∷ ys) = more (length ys)
 front_last (z ∷ zs) x [] =
-    ap (λ b. is_front (z ∷ zs) (x ∷ []) && b) (less (length zs)) ∙ and_false (is_front (z ∷ zs) (x ∷ []))
+    ap (λ b. is_front (z ∷ zs) (x ∷ []) && b) (less (length zs)) ∙ and_false_is (is_front (z ∷ zs) (x ∷ []))
 front_last (z ∷ zs) x (y ∷ ys) =
     last_of (bytes_eq z x) (is_front zs (y ∷ ys)) (nat_eq (length (x ∷ y ∷ ys)) (suc (length (z ∷ zs))))
     ∙ ap (λ n. bytes_eq z x && (is_front zs (y ∷ ys) && n)) (both_less (length (y ∷ ys)) (suc (length zs)))
@@ -229,13 +205,13 @@ module _ (d : Deployment) where
       sym (ap (λ n. begins k l && (nat_eq n (suc (length k.types)) && nat_eq (length l.names) (suc (length k.names))))
       (ap length a)
       ∙ ap (λ c. begins k l && (c && nat_eq (length l.names) (suc (length k.names)))) (nothing (length k.types))
-      ∙ and_false (begins k l))
+      ∙ and_false_is (begins k l))
   child_by k l (x ∷ xs) [] a b =
       sym (ap (λ n. begins k l && (nat_eq (length l.types) (suc (length k.types)) && nat_eq n (suc (length k.names))))
       (ap length b)
       ∙ ap (λ c. begins k l && (nat_eq (length l.types) (suc (length k.types)) && c)) (nothing (length k.names))
-      ∙ ap (λ c. begins k l && c) (and_false (nat_eq (length l.types) (suc (length k.types))))
-      ∙ and_false (begins k l))
+      ∙ ap (λ c. begins k l && c) (and_false_is (nat_eq (length l.types) (suc (length k.types))))
+      ∙ and_false_is (begins k l))
   child_by k l (x ∷ xs) (y ∷ ys) a b =
       or_false (same_id k parent || false) ∙ or_false (same_id k parent)
       ∙ sym (ap (λ (ts : List (List ℕ)). (sub && (group && (is_front k.types ts && is_front k.names l.names)))
@@ -320,7 +296,7 @@ module _ (d : Deployment) where
   where_both true true x y h = h refl refl
 
   no_batch : (p q : Position) (r s : ℕ) → false ≡ (same_position p q && (nat_eq r s && false))
-  no_batch p q r s = sym (ap (λ b. same_position p q && b) (and_false (nat_eq r s)) ∙ and_false (same_position p q))
+  no_batch p q r s = sym (ap (λ b. same_position p q && b) (and_false_is (nat_eq r s)) ∙ and_false_is (same_position p q))
 
   in_batch : (p q : Position) (r n : ℕ) (t : Step) (o : Option ResourceCopy)
       → shares (before p r n ∷ []) (by_copy (λ m. suc m) q t o)

@@ -2,7 +2,7 @@
 use Rattle.std.proofs.Common.{◌≡◌, ℕ, zero, suc, ◌+◌, ◌-◌, ◌<◌, ◌≤◌, Bool, true, false, List, [], ◌∷◌, ◌++◌, map}
 use Rattle.std.proofs.Common.{length, drop, Some, None, refl, sym, ap, subst, ◌∙◌, arith, append_assoc}
 use Rattle.std.proofs.lemmas.List.{length-map, map-append}
-use Rattle.std.specs.Prelude.{slice_get, IfOk, Result, Ok, Err, if◌then◌else◌}
+use Rattle.std.specs.Prelude.{slice_get, if◌then◌else◌}
 use Rattle.reading.specs.World.{Each}
 use Rattle.reading.specs.Knowledge.{told, value}
 use Rattle.template_tree.specs.Tree.{BodyTree, body_members, deployment, TemplateTree}
@@ -234,7 +234,3 @@ all_listed t ts s e =
         ∙ ap (λ p. scope_in_order (start_of t) p (scope_at t 0).template) (sym s.laid.root)
 
 -- ---- results
-
-pub if_ok : {T E : Type 0} (P Q : T → Type 0) (r : Result T E) → IfOk r P → ((x : T) → P x → Q x) → IfOk r Q
-if_ok P Q (Ok x) h f = f x h
-if_ok P Q (Err e) h f = tt

@@ -1,12 +1,12 @@
 -- What the lines of a filled table say of instances.
-use Rattle.std.proofs.Common.{◌≡◌, ◌⊎◌, inl, inr, ℕ, zero, suc, ◌+◌, ◌<◌, Bool, true, false, true≢false, List, [], ◌∷◌}
+use Rattle.std.proofs.Common.{◌≡◌, inl, inr, ℕ, zero, suc, ◌+◌, ◌<◌, Bool, true, false, true≢false, List, [], ◌∷◌}
 use Rattle.std.proofs.Common.{length, get_or, Option}
 use Rattle.std.proofs.Common.{Some, None, refl, sym, ap, subst, ◌∙◌, arith}
 use Rattle.std.proofs.lemmas.List.{length-map}
 use Rattle.std.specs.Prelude.{slice_get, option_map, option_and_then, MatchOption, if◌then◌else◌}
 use Rattle.reading.specs.Knowledge.{known_value}
 use Rattle.template_tree.specs.Tree.{TemplateTree}
-use Rattle.deploy_cells.specs.Cells.{Step, step, Position, Cell, count, included, copies, is_true}
+use Rattle.deploy_cells.specs.Cells.{Step, step, Position, Cell, count, included, copies}
 use Rattle.plan_cells.specs.Resources as cells
 use Rattle.plan_cells.specs.Resources.{Nested, nested_in, nested_at, resource_at, resources_in, unless_existing}
 use Rattle.plan_cells.specs.Scopes.{template_at}
@@ -34,6 +34,8 @@ use Rattle.plan_tasks.specs.declared.instance.Found.{Found}
 use Rattle.plan_tasks.specs.Answered.{is_answered}
 use Rattle.plan_tasks.specs.InOrder.{copies_in, is_in}
 use Rattle.plan_tasks.specs.Start.{start_of, IsStartTable, copies_of, IsInstance, IsScopeOf, IsFound, found_by}
+use Rattle.foundation.proofs.Comparisons.{lt_or_is}
+use Rattle.arm_value.specs.Kinds.{is_true}
 
 -- ---- lines
 
@@ -119,7 +121,7 @@ instance_listed t f r i s h none =
 
 -- ---- conditions
 
-step_in : Cell → Step
+pub step_in : Cell → Step
 step_in (included p s) = s
 step_in _ = step 0 0
 
@@ -298,9 +300,6 @@ left_by_line t f r i j l s k e y =
     (ap (λ (n : Line). is_true (known_value (known_by (Some (status_in n.state)))))
     (line_is t.lines.items j l k.listed e)
     ∙ sym y)
-
-lt_or_is : (i n : ℕ) → i < n + 1 → (i < n) ⊎ (i ≡ n)
-lt_or_is i n h = grind (arith, h)
 
 -- one line more is answered
 pub answered_more : (t : Table) (at : ℕ) (l : Line) (b : Bool) → at < length t.lines.items

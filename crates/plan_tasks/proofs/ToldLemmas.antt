@@ -8,7 +8,7 @@ use Rattle.reading.specs.Knowledge.{known, value, told, by_entry, and_then, blan
 use Rattle.reading.proofs.Parts.{told-continued}
 use Rattle.template_tree.specs.Tree.{TemplateTree, template, ResourceTree, resource, BodyTree, body_members}
 use Rattle.template_tree.specs.Tree.{deployment, Trees, no_resources, a_resource}
-use Rattle.deploy_cells.specs.Cells.{Step, step, Position, Cell, count, included, copies, is_true, is_admitted}
+use Rattle.deploy_cells.specs.Cells.{Step, step, Position, Cell, count, included, copies, is_admitted}
 use Rattle.deploy_cells.specs.Guarded.{Reads}
 use Rattle.plan_cells.specs.Known.{Table}
 use Rattle.plan_cells.specs.Resources.{Above, Listed, Nested, tree_count, above_by, listed_at, listed_tree}
@@ -22,17 +22,8 @@ use Rattle.plan_tasks.specs.Answered.{AreAnswered}
 use Rattle.plan_tasks.specs.InOrder.{copies_in, is_in, instances_in_order, unless, scope_in_order, trees_in_order}
 use Rattle.plan_tasks.specs.InOrder.{tree_in_order, body_in_order}
 use Rattle.plan_tasks.proofs.OrderLemmas.{tree_length}
-
-get_left : (xs ys : List Listed) (k : ℕ) (y : Listed) → slice_get xs k ≡ Some y → slice_get (xs ++ ys) k ≡ Some y
-get_left [] ys k y e = let f : None ≡ Some y = e in absurd (cc)
-get_left (x ∷ xs) ys zero y e = e
-get_left (x ∷ xs) ys (suc k) y e = get_left xs ys k y e
-
-get_right : (xs ys : List Listed) (k : ℕ) → slice_get (xs ++ ys) (length xs + k) ≡ slice_get ys k
-get_right [] ys k = ap (slice_get ys) (let e : 0 + k ≡ k = omega arith in e)
-get_right (x ∷ xs) ys k =
-    ap (slice_get (x ∷ (xs ++ ys))) (let e : suc (length xs) + k ≡ suc (length xs + k) = omega arith in e)
-    ∙ get_right xs ys k
+use Rattle.arm_value.specs.Kinds.{is_true}
+use Rattle.plan_cells.proofs.TaskLemmas.{get_left, get_right}
 
 pub lt_is_true : (i n : ℕ) → i < n → nat_lt i n ≡ true
 lt_is_true i n l = grind (arith, l)

@@ -3,10 +3,11 @@ use Rattle.std.specs.Prelude.{ℕ, zero, suc, ◌+◌, Bool, List, [], ◌∷◌
 use Rattle.reading.specs.Knowledge.{known_value}
 use Rattle.template_tree.specs.Tree.{TemplateTree, template, ResourceTree, resource, BodyTree, body_members}
 use Rattle.template_tree.specs.Tree.{deployment, Trees, no_resources, a_resource}
-use Rattle.deploy_cells.specs.Cells.{Step, step, Position, count, included, copies, is_true}
+use Rattle.deploy_cells.specs.Cells.{Step, step, Position, count, included, copies}
 use Rattle.plan_cells.specs.Known.{Table}
 use Rattle.plan_cells.specs.Resources.{Listed, tree_count}
 use Rattle.plan_cells.specs.Tasks.{Task, enter, leave, put}
+use Rattle.arm_value.specs.Kinds.{is_true}
 
 -- how many instances a resource has
 abbrev pub copies_in : Table → Position → ℕ → ℕ

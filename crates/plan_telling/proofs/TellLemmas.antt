@@ -1,7 +1,7 @@
 -- What is told of what an expression sees of a table.
-use Rattle.std.proofs.Common.{◌≡◌, ℕ, ◌<◌, Bool, true, false, List, [], ◌∷◌, map, length, get_or, Option, Some, None}
+use Rattle.std.proofs.Common.{◌≡◌, ℕ, ◌<◌, Bool, true, false, List, length, get_or, Option, Some}
 use Rattle.std.proofs.Common.{Result, refl, sym, ap, subst, ◌∙◌}
-use Rattle.std.specs.Prelude.{if◌then◌else◌, option_map}
+use Rattle.std.specs.Prelude.{option_map}
 use Rattle.arm_value.specs.Json.{Json}
 use Rattle.arm_ids.specs.declared.id.Place.{Place}
 use Rattle.arm_ids.specs.declared.id.ResourceId.{ResourceId}
@@ -18,20 +18,15 @@ use Rattle.template_tree.specs.View.{template_tree}
 use Rattle.deploy_cells.specs.Cells.{Position, Cell, state}
 use Rattle.deploy_cells.specs.Followed.{followed}
 use Rattle.deploy_cells.specs.Guarded.{Reads}
-use Rattle.deploy_cells.specs.Same.{same}
 use Rattle.plan_cells.specs.Scopes.{template_at, owner, own_place}
 use Rattle.plan_cells.specs.Sites as sites
 use Rattle.plan_cells.specs.Sites.{value_of, looked_up, listed_at_scope, symbols_in, titles_at, surroundings}
-use Rattle.plan_cells.specs.Sites.{reading_at, reading_in}
+use Rattle.plan_cells.specs.Sites.{reading_at}
 use Rattle.plan_filling.specs.Rows.{status_of, table, known_by}
 use Rattle.plan_table.specs.declared.table.Table.{Table}
 use Rattle.plan_table.specs.declared.frame.Frame.{Frame}
 use Rattle.plan_table.specs.declared.line.Line.{Line}
-use Rattle.plan_table.specs.declared.line.Spot.{Spot}
-use Rattle.plan_table.specs.declared.line.Spot.TheVariants.{Parameter, Variable, Offered, Output, Count, Included}
-use Rattle.plan_table.specs.declared.line.Spot.TheVariants.{Name, Deployments}
-use Rattle.plan_table.specs.Opened.{Opened, opened_at}
-use Rattle.plan_table.specs.Lines.{cell_in, frame_of, row_of}
+use Rattle.plan_table.specs.Opened.{Opened}
 use Rattle.plan_table.specs.Whole.{whole_of, scopes_of, rows_in}
 use Rattle.plan_table.specs.Found.{scope_at}
 use Rattle.plan_sight.specs.declared.lack.Lack.{Lack}
@@ -49,10 +44,7 @@ use Rattle.plan_telling.specs.declared.site.Texts.{Texts}
 use Rattle.plan_telling.specs.declared.site.Texts.TheVariants as texts
 use Rattle.plan_telling.specs.Sources.{meaning_of, texts_in, site_in, read_at, read_in, followed_in}
 use Rattle.plan_telling.specs.Symbols.{symbols_at}
-
-pub told_pure : {A : Type 0} (t : Table) (x : A) → told_in t (pure x) ≡ value x
-unfolding told
-told_pure t x = refl
+use Rattle.plan_sights.proofs.SightLemmas.{no_state}
 
 -- the loops of a frame that was read
 pub loops_here : (t : Table) (f : ℕ) (fr : Frame) → f < length t.frames.items → fr ≡ get_or t.frames.items f fr
@@ -113,22 +105,6 @@ module _ (t : Table) (f : ℕ) (place : Place) (loops : List Looping) (b : Bool)
   cell_stops c e h s = subst (Stops t e) (sym (by_told (waits c) h)) s
 
 -- ---- states
-
-spot_differs : (o : Opened) (s : Spot) (k : ResourceId) → same (cell_in o s) (state k) ≡ false
-spot_differs o (Parameter f n) k = refl
-spot_differs o (Variable f n) k = refl
-spot_differs o (Offered f n) k = refl
-spot_differs o (Output f n) k = refl
-spot_differs o (Count f r) k = refl
-spot_differs o (Included f r i) k = refl
-spot_differs o (Name f r i) k = refl
-spot_differs o (Deployments f) k = refl
-
-no_state : (os : List Opened) (ls : List Line) (k : ResourceId) → status_of (map (row_of os) ls) (state k) ≡ None
-no_state os [] k = refl
-no_state os (l ∷ ls) k =
-    ap (λ b. if b then Some (row_of os l).status else status_of (map (row_of os) ls) (state k))
-    (spot_differs (opened_at os (frame_of l.spot)) l.spot k) ∙ no_state os ls k
 
 pub state_waits : (t : Table) (k : ResourceId) → told_in t (value_of (state k)) ≡ waits (state k)
 unfolding told

@@ -28,8 +28,8 @@ use Rattle.plan_nested.proofs.InvertLemmas.{read_known}
 use Rattle.plan_nested.proofs.SeekLemmas.{read_goes, read_stops}
 use Rattle.plan_names.specs.Named.{IsCopy}
 use Rattle.plan_values.specs.Values.{own_name, name_above, first_name}
-use Rattle.plan_values.proofs.RawLemmas.{told_pure}
 use Rattle.plan_values.proofs.SiteLemmas.{resource_numbered}
+use Rattle.plan_sight.proofs.ToldLemmas.{told_pure, told_done}
 
 -- ---- a text under another
 
@@ -75,10 +75,6 @@ ask_by t lack.OutOfMemory c k g n h = tt
 told_read : (t : Table) (c : Cell) → told_in t (read c) ≡ by_entry c (λ o. finished o) (table (status_of (rows_in t)) c)
 unfolding told
 told_read t c = refl
-
-told_done : {A : Type 0} (t : Table) (o : Option A) → told_in t (done o) ≡ finished o
-unfolding told
-told_done t o = refl
 
 -- ---- the name of the first instance of a parent
 
@@ -177,12 +173,6 @@ under_made t r up own full e q =
 pub under_stops : (t : Table) (r : Reads Json) (up : Json) (e : Lack) → Stops t e (told_in t r)
     → Stops t e (told_in t (continued r (λ j. pure (name_under (whole_of t) up j))))
 under_stops t r up e h = read_stops t e r (λ j. pure (name_under (whole_of t) up j)) h
-
--- the line of a cell that is read
-pub read_of_line : {X : Type 0} (view : X → Json) (t : Table) (f : ℕ) (c : Cell) (j : ℕ) (r : Result X Lack)
-    → IsLineOf t f c j → Yields view t r (told_in t (read (cell_of (scopes_of t) (line_at t.lines.items j).spot)))
-    → Yields view t r (told_in t (read c))
-read_of_line view t f c j r l h = subst (λ x. Yields view t r (told_in t (read x))) l.is h
 
 module _ (t : Table) (f : ℕ) (s : Step) (x : Listed) (a : Above) where
   abbrev at : Position

@@ -1,10 +1,10 @@
 -- What is told of the value of a cell.
 use Rattle.std.proofs.Common.{◌≡◌, ℕ, ◌<◌, true, length, get_or, Option, Some, None, Result, Ok, Err}
-use Rattle.std.proofs.Common.{refl, sym, ap, subst, ◌∙◌}
+use Rattle.std.proofs.Common.{sym, ap, subst, ◌∙◌}
 use Rattle.std.specs.Prelude.{option_map, option_and_then, if◌then◌else◌}
 use Rattle.arm_value.specs.Json.{Json}
 use Rattle.reading.specs.Reading.{pure}
-use Rattle.reading.specs.Knowledge.{value, told}
+use Rattle.reading.specs.Knowledge.{value}
 use Rattle.template_parts.specs.declared.output.Output.{Output}
 use Rattle.template_parts.specs.declared.parameter.Parameter.{Parameter}
 use Rattle.template_parts.specs.declared.variable.Variable.{Variable}
@@ -18,7 +18,7 @@ use Rattle.plan_cells.specs.Scopes.{template_at}
 use Rattle.plan_cells.specs.Sites.{parameter_named, variable_named, output_named}
 use Rattle.plan_cells.specs.Meaning.{Deployment, raw, parameter_value, variable_value, offered_value, output_value}
 use Rattle.plan_cells.specs.Meaning.{count_value, included_value, name_value, is_own, of_own_scope}
-use Rattle.plan_cells.specs.Children.{HasOwnNames, NamesDiffer, parameter_names, variable_names, output_names}
+use Rattle.plan_cells.specs.Children.{HasOwnNames, parameter_names, variable_names, output_names}
 use Rattle.plan_cells.proofs.ApartLemmas.{names_at}
 use Rattle.plan_table.specs.declared.table.Table.{Table}
 use Rattle.plan_table.specs.Lines.{name_at, IsNumber}
@@ -29,13 +29,10 @@ use Rattle.plan_sight.specs.declared.lack.Lack.TheVariants as lack
 use Rattle.plan_sight.specs.Ready.{IsReady, told_in}
 use Rattle.plan_sight.specs.Seen.{Shows, Yields}
 use Rattle.plan_sight.proofs.LookLemmas.{scopes_there}
-use Rattle.plan_sight.proofs.RuleLemmas.{found_own}
+use Rattle.plan_sight.proofs.RuleLemmas.{found_own, own_names}
 use Rattle.plan_nested.proofs.SeekLemmas.{read_goes, read_stops}
 use Rattle.plan_values.proofs.SiteLemmas.{resource_numbered}
-
-pub told_pure : {A : Type 0} (t : Table) (x : A) → told_in t (pure x) ≡ value x
-unfolding told
-told_pure t x = refl
+use Rattle.plan_sight.proofs.ToldLemmas.{told_pure}
 
 -- ---- what is there has a value
 
@@ -59,9 +56,6 @@ pure_there t j = read_goes t (pure j) (λ v. pure (Some v)) j (told_pure t j) �
 
 pub not_there : (t : Table) (o : Option (Reads Json)) → o ≡ None → told_in t (there_if o) ≡ value None
 not_there t o e = ap (λ p. told_in t (there_if p)) e ∙ told_pure t None
-
-own_names : (u : TemplateTree) → NamesDiffer u → HasOwnNames (header_in u)
-own_names (template h rs) n = n.0
 
 -- ---- the reading of each cell of a table
 

@@ -23,11 +23,6 @@ pub form_here : (t : Table) (f : ℕ) (fr : Frame) → f < length t.frames.items
     → fr.template.now.form ≡ (header_in (scope_at t f).template).form
 form_here t f fr h e = ap (λ (o : Opened). (header_in o.template).form) (sym (scope_is t f fr h e))
 
--- its loops
-pub loops_here : (t : Table) (f : ℕ) (fr : Frame) → f < length t.frames.items → fr ≡ get_or t.frames.items f fr
-    → fr.loops.items ≡ (scope_at t f).loops
-loops_here t f fr h e = ap (λ (o : Opened). o.loops) (sym (scope_is t f fr h e))
-
 module _ (t : Table) (f : ℕ) (ready : IsReady t) (h : f < length t.frames.items) where
   form_is : form_at (template_at (whole_of t).template (scope_at t f).position)
       ≡ (header_in (scope_at t f).template).form

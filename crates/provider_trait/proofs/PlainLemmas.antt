@@ -23,6 +23,7 @@ use Rattle.provider_trait.specs.Plain.{stored_properties, state_named, plain_sta
 use Rattle.foundation.proofs.AsciiWords.{word, ascii_word}
 use Rattle.provider_trait.proofs.NestLemmas.{put_body, members_nest, found_nests}
 use Rattle.arm_value.proofs.TreeLemmas.{put_nests, members-pairs}
+use Rattle.foundation.proofs.Choices.{cond_false}
 
 pub copied_members : {E : Type 0} (r : Result (List Member) E) (ms : List Member) (j : Json) → j ≡ object (pairs ms)
     → IfOk r (λ v. v ≡ ms) → IfOk r (λ v. v ≡ members_of j)
@@ -57,10 +58,6 @@ yes : {A : Type 0} (b : Bool) (x y : A) → b ≡ true → cond b x y ≡ x
 yes true x y e = refl
 yes false x y e = absurd (true≢false (sym e))
 
-no : {A : Type 0} (b : Bool) (x y : A) → b ≡ false → cond b x y ≡ y
-no false x y e = refl
-no true x y e = absurd (true≢false e)
-
 -- which of the four codes holds
 pub first_code : (kind name : List ℕ) (body : Json) → has_wrong_properties body ≡ true
     → refusal kind name body ≡ Some (codes "InvalidProperties")
@@ -70,13 +67,13 @@ first_code kind name body a = yes (has_wrong_properties body) _ _ a
 pub second_code : (kind name : List ℕ) (body : Json) → has_wrong_properties body ≡ false
     → lacks_location kind body ≡ true → refusal kind name body ≡ Some (codes "LocationRequired")
 unfolding refusal
-second_code kind name body a b = no (has_wrong_properties body) _ _ a ∙ yes (lacks_location kind body) _ _ b
+second_code kind name body a b = cond_false (has_wrong_properties body) _ _ a ∙ yes (lacks_location kind body) _ _ b
 
 pub third_code : (kind name : List ℕ) (body : Json) → has_wrong_properties body ≡ false
     → lacks_location kind body ≡ false → lacks_sku kind body ≡ true
     → refusal kind name body ≡ Some (codes "SkuRequired")
 unfolding refusal
-third_code kind name body a b c = no (has_wrong_properties body) _ _ a ∙ no (lacks_location kind body) _ _ b
+third_code kind name body a b c = cond_false (has_wrong_properties body) _ _ a ∙ cond_false (lacks_location kind body) _ _ b
     ∙ yes (lacks_sku kind body) _ _ c
 
 pub fourth_code : (kind name : List ℕ) (body : Json) → has_wrong_properties body ≡ false
@@ -84,7 +81,7 @@ pub fourth_code : (kind name : List ℕ) (body : Json) → has_wrong_properties 
     → refusal kind name body ≡ Some (codes "AccountNameInvalid")
 unfolding refusal
 fourth_code kind name body a b c d =
-    no (has_wrong_properties body) _ _ a ∙ no (lacks_location kind body) _ _ b ∙ no (lacks_sku kind body) _ _ c
+    cond_false (has_wrong_properties body) _ _ a ∙ cond_false (lacks_location kind body) _ _ b ∙ cond_false (lacks_sku kind body) _ _ c
     ∙ yes (has_wrong_name kind name) _ _ d
 
 pub no_code : (kind name : List ℕ) (body : Json) → has_wrong_properties body ≡ false
@@ -92,8 +89,8 @@ pub no_code : (kind name : List ℕ) (body : Json) → has_wrong_properties body
     → refusal kind name body ≡ None
 unfolding refusal
 no_code kind name body a b c d =
-    no (has_wrong_properties body) _ _ a ∙ no (lacks_location kind body) _ _ b ∙ no (lacks_sku kind body) _ _ c
-    ∙ no (has_wrong_name kind name) _ _ d
+    cond_false (has_wrong_properties body) _ _ a ∙ cond_false (lacks_location kind body) _ _ b ∙ cond_false (lacks_sku kind body) _ _ c
+    ∙ cond_false (has_wrong_name kind name) _ _ d
 
 and_then : (a x y : Bool) → a ≡ true → x ≡ y → x ≡ (a && y)
 and_then true x y e f = f

@@ -1,29 +1,17 @@
 -- A file stands for nothing exactly where a name in it means nothing.
-use Rattle.std.proofs.Common.{◌≡◌, ◌⊎◌, inl, inr, ℕ, List, [], ◌∷◌, map}
+use Rattle.std.proofs.Common.{ℕ, List, [], ◌∷◌, map}
 use Rattle.bicep_tree.specs.declared.leaf.LoopNames.{LoopNames}
 use Rattle.bicep_tree.specs.Tree.{ObjectTree, BodyTree, DeclarationTree, FileTree}
 use Rattle.bicep_tree.specs.Tree as tree
-use Rattle.bicep_found.specs.Found.{Found, found, unknown, mapped, both, all_found}
+use Rattle.bicep_found.specs.Found.{Found, all_found}
 use Rattle.bicep_names.specs.Scope.{Scope}
 use Rattle.bicep_names.specs.Unknown.{ObjectHasUnknown, Tells}
-use Rattle.bicep_names.proofs.UnknownLemmas.{tells, tells_members, tells_value}
+use Rattle.bicep_names.proofs.UnknownLemmas.{tells, tells_members, tells_value, tells-mapped, tells-both}
 use Rattle.bicep_declared.specs.Declare.{fields_of, body_of, declared, part_declared, output_declared, part_output}
-use Rattle.bicep_declared.specs.Declare.{declared_all, outputs_declared, declared_file}
+use Rattle.bicep_declared.specs.Declare.{declared_file}
 use Rattle.bicep_declared.specs.Sites.{declarations_of}
 use Rattle.resolved_program.specs.Unknown.{BodyHasUnknown, DeclarationHasUnknown, OutputHasUnknown, OfOne}
 use Rattle.resolved_program.specs.Unknown.{FileHasUnknown}
-
-tells-mapped : {A B : Type 0} (P : ℕ → Type 0) (g : A → B) (x : Found A) → Tells P x → Tells P (mapped g x)
-unfolding mapped
-tells-mapped P g (found x) h = h
-tells-mapped P g (unknown at) h = h
-
-tells-both : {A B : Type 0} (P Q : ℕ → Type 0) (x : Found A) (y : Found B) → Tells P x → Tells Q y
-    → Tells (λ at. P at ⊎ Q at) (both x y)
-unfolding both
-tells-both P Q (found x) (found y) h k = λ at c. elim c [ inl p ↦ h at p | inr q ↦ k at q ]
-tells-both P Q (found x) (unknown at) h k = inr k
-tells-both P Q (unknown at) y h k = inl h
 
 -- one of a list
 tells-all : {A : Type 0} (P : ℕ → DeclarationTree → Type 0) (part : DeclarationTree → Found (List A))

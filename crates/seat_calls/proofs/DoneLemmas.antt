@@ -12,6 +12,7 @@ use Rattle.provider_trait.specs.declared.call.Call.{Call}
 use Rattle.seat_calls.specs.declared.done.Done.{Done}
 use Rattle.seat_calls.specs.Called.{Kind, MayGive, Called}
 use Rattle.seat_calls.specs.Dones.{of, calls_of, jobs_of, reported, is_failure, has_failure, AllMay, Made}
+use Rattle.foundation.proofs.TruthValues.{or_assoc, or_false, impossible}
 
 cond_append : (b : Bool) (d : Done) (l m : List Done) → cond b (d ∷ (l ++ m)) (l ++ m) ≡ cond b (d ∷ l) l ++ m
 cond_append true d l m = refl
@@ -73,14 +74,6 @@ calls_none : calls_of [] ≡ []
 unfolding calls_of
 calls_none = refl
 
-or_assoc : (a b c : Bool) → ((a || b) || c) ≡ (a || (b || c))
-or_assoc true b c = refl
-or_assoc false b c = refl
-
-or_false : (a : Bool) → (a || false) ≡ a
-or_false true = refl
-or_false false = refl
-
 failure_append : (l m : List Done) → has_failure (l ++ m) ≡ (has_failure l || has_failure m)
 unfolding has_failure
 failure_append [] m = refl
@@ -110,9 +103,6 @@ may_none : (may : Kind) → AllMay may []
 unfolding AllMay
 may_none may = tt
 
-no : {A : Type 0} → false ≡ true → A
-no e = cc
-
 later : (before was now : ℕ) (got : Result Answer ProviderFault) → before ≤ was → Counts was now got
     → (before ≤ now) × (was ≤ now)
 later before was now (Ok a) l c = (omega arith, omega arith)
@@ -123,9 +113,9 @@ rises : (before was now : ℕ) (h : Bool) (got : Result Answer ProviderFault) �
     → (h ≡ true → Rose before was)
     → Counts was now got → (h || is_failure got) ≡ true → Rose before now
 rises before was now true got l r c t = let a = r refl in let b = (later before was now got l c).1 in omega arith
-rises before was now false (Ok a) l r c t = no t
+rises before was now false (Ok a) l r c t = impossible t
 rises before was now false (Err Fault) l r c t = let a = c.1 in omega arith
-rises before was now false (Err OutOfMemory) l r c t = no t
+rises before was now false (Err OutOfMemory) l r c t = impossible t
 
 adds : (old new : List Call) (job : Work) (got : Result Answer ProviderFault) → AddsCall old new job got
     → new ≡ old ++ reported job got
@@ -150,11 +140,11 @@ module _ {P : Type 0} (may : Kind) (tells : Bool) (calls : P → List Call) (fau
     fits = may_more may dones d m.fits c.fits;
   }
 
-  -- no call
+  -- impossible call
   pub made_none : (before : P) → Made may tells calls faults before before []
   made_none before = record {
     report = λ yes. sym (append-nil (calls before)) ∙ ap (λ x. calls before ++ x) (sym calls_none);
     kept = omega arith;
-    rose = λ h. no (sym failure_none ∙ h);
+    rose = λ h. impossible (sym failure_none ∙ h);
     fits = may_none may;
   }

@@ -29,12 +29,11 @@ use Rattle.tag_needs.specs.Numbers.{is_listed_at}
 use Rattle.tag_needs.proofs.TagLemmas.{any_same, shares_at, listed_shares, needed_shares, needed_rises, IsAsked}
 use Rattle.tag_needs.proofs.TagLemmas.{shares_from}
 use Rattle.tag_needs.proofs.TagLemmas.{shares_to}
+use Rattle.foundation.proofs.Lists.{next_item}
+use Rattle.foundation.proofs.Options.{same_some}
+use Rattle.foundation.proofs.Comparisons.{lt_or_is}
 
 -- ---- what is left of a list
-
-pub left : {A : Type 0} (xs : List A) (i : ℕ) (x : A) → i < length xs → x ≡ get_or xs i x
-    → drop i xs ≡ x ∷ drop (i + 1) xs
-left xs i x h e = rw (add-one, drop-cons xs i x h) (ap (λ y. y ∷ drop (suc i) xs) (sym e))
 
 left_number : (xs : List ℕ) (i : ℕ) → i < length xs → drop i xs ≡ get_or xs i 0 ∷ drop (i + 1) xs
 left_number xs i h = rw (add-one, drop-cons xs i 0 h) refl
@@ -155,7 +154,7 @@ once_next now new i all v s h e w u c t =
     ∙ ap (λ x. bytes_eq t x || is_in now t) w)
     ∙ turned (bytes_eq t v.items) (is_in now t) rest
     ∙ ap (λ (vs : List (Vec ℕ Global)). is_in now t || list_any (bytes_eq t) (map (λ x. x.items) vs))
-    (sym (left all i v h e))
+    (sym (next_item all i v h e))
     ∙ c t
 
 -- ---- the tags for which is asked
@@ -253,9 +252,6 @@ within [] n ts e = let no : None ≡ Some ts = e in absurd (cc)
 within (x ∷ xs) zero ts e = omega arith
 within (x ∷ xs) (suc n) ts e = let h = within xs n ts e in omega (arith, h)
 
-same_some : {A : Type 0} {a b : A} → Some a ≡ Some b → a ≡ b
-same_some e = cc
-
 pub shared_found : (m : Numbers) (tags : List (Vec (Vec ℕ Global) Global)) (n other : ℕ) (v : Vec (Vec ℕ Global) Global)
     (xs : List (Vec ℕ Global)) → AreNumbers m (tags_in tags) → n < length tags → v ≡ get_or tags n v → xs ≡ v.items
     → (n < other) × (is_listed_at m other (map (λ t. t.items) xs) ≡ true) → IsShared (tags_in tags) n other
@@ -276,9 +272,6 @@ shared_found m tags n other v xs a h e w g = record {
 
 abbrev pub NoneBelow : List (List Tag) → ℕ → Type 0
 NoneBelow tags n = (i j : ℕ) → i < n → IsShared tags i j → ⊥
-
-lt_or_is : (i n : ℕ) → i < n + 1 → (i < n) ⊎ (i ≡ n)
-lt_or_is i n h = grind (arith, h)
 
 pub apart_next : (m : Numbers) (tags : List (Vec (Vec ℕ Global) Global)) (n : ℕ) (v : Vec (Vec ℕ Global) Global)
     (xs : List (Vec ℕ Global)) → AreNumbers m (tags_in tags) → n < length tags → v ≡ get_or tags n v → xs ≡ v.items

@@ -5,6 +5,7 @@ use Rattle.std.specs.Prelude.{nat_eq, slice_get}
 use Rattle.std.specs.List.{list_any}
 use Rattle.tag_needs.specs.Tags.{Tag, shares, needed, pairs_of, needs_from, IsListed}
 use Rattle.tag_needs.proofs.TagLemmas.{shares_at, needed_shares, shares_from, shares_to, IsAsked}
+use Rattle.foundation.proofs.Options.{same_some}
 
 listed_front : (p : ℕ × ℕ) (xs ys : List (ℕ × ℕ)) → IsListed p xs → IsListed p (xs ++ ys)
 listed_front p [] ys h = elim h [ ]
@@ -59,9 +60,6 @@ from_first n j k (a ∷ rest) tags h =
       | inl e ↦ (let r = number_listed n j k (needed a 0 tags) e in let q = r.0 in omega (arith, q))
       | inr e ↦ (let r = from_first n j (suc k) rest tags e in omega (arith, r))
     ]
-
-same_some : {A : Type 0} {a b : A} → Some a ≡ Some b → a ≡ b
-same_some e = cc
 
 listed_at : (k : ℕ) (asks tags : List (List Tag)) (i j : ℕ) (a t : List Tag) → slice_get asks i ≡ Some a
     → slice_get tags j ≡ Some t → shares a t ≡ true → IsListed (k + i, j) (needs_from k asks tags)

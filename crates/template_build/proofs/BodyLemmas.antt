@@ -2,29 +2,18 @@
 use Rattle.std.proofs.Common.{◌≡◌, ◌<◌, ◌≤◌, ◌+◌, ℕ, length, get_or, drop, Bool, true, false, List, [], ◌∷◌, ◌++◌}
 use Rattle.std.proofs.Common.{map, Option, if◌then◌else◌, refl, sym, ap, ◌∙◌, subst, arith}
 use Rattle.std.proofs.lemmas.List.{drop_all, append-nil}
-use Rattle.std.specs.List.{AllByRecursion}
-use Rattle.std.specs.List.Sorted.{IsStrictlySortedBy}
-use Rattle.arm_value.specs.Json.{Member, keys, nesting, members_nesting, IsInOrder}
+use Rattle.arm_value.specs.Json.{Member, nesting, members_nesting, IsInOrder}
 use Rattle.arm_value.specs.View.{json, member}
 use Rattle.arm_value.specs.declared.value.Field.{Field}
 use Rattle.arm_value.proofs.GatherLemmas.{front_in_order, append_one}
 use Rattle.arm_value.proofs.JsonLemmas as parts
 use Rattle.arm_value.proofs.SetLemmas.{drop_from}
 use Rattle.template_meaning.specs.Resources.{is_outside, body_of}
+use Rattle.arm_value.proofs.GatheredLemmas.{without_one}
 
 pub member_within : (fs : List Field) (ms : List Member) (i : ℕ) (f : Field) (n : ℕ) → map member fs ≡ ms
     → i < length fs → f ≡ get_or fs i f → members_nesting ms ≤ n → nesting (json f.value) ≤ n
 member_within fs ms i f n e h is d = omega (arith, d, parts.member_nests fs i f h is, ap members_nesting e)
-
-all_but : (P : List ℕ → Type 0) (ms : List Member) (m : Member) (ns : List Member)
-    → AllByRecursion P (keys (ms ++ m ∷ ns)) → AllByRecursion P (keys (ms ++ ns))
-all_but P [] m ns h = h.1
-all_but P (x ∷ ms) m ns h = (h.0, all_but P ms m ns h.1)
-
-without_one : (ms : List Member) (m : Member) (ns : List Member) → IsInOrder (ms ++ m ∷ ns) → IsInOrder (ms ++ ns)
-unfolding IsStrictlySortedBy
-without_one [] m ns h = h.1
-without_one (x ∷ ms) m ns h = (all_but _ ms m ns h.0, without_one ms m ns h.1)
 
 at_next : (made : List Member) (fs : List Field) (i : ℕ) (f : Field) → IsInOrder (made ++ map member (drop i fs))
     → i < length fs → f ≡ get_or fs i f → IsInOrder (made ++ member f ∷ map member (drop (i + 1) fs))

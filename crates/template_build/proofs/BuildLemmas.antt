@@ -1,21 +1,22 @@
 -- How deep what is built nests, and resources that are described one after another.
-use Rattle.std.proofs.Common.{◌≡◌, ◌<◌, ◌≤◌, ◌+◌, ℕ, suc, max, length, get_or, take, Bool, true, false, List, [], ◌∷◌}
-use Rattle.std.proofs.Common.{◌++◌, map, Some, None, cond, bytes_eq, refl, sym, ap, ◌∙◌, subst, arith, add-one}
+use Rattle.std.proofs.Common.{◌≡◌, ◌<◌, ◌≤◌, ◌+◌, ℕ, suc, length, get_or, take, Bool, List, [], ◌∷◌}
+use Rattle.std.proofs.Common.{◌++◌, map, Some, None, bytes_eq, refl, sym, ap, ◌∙◌, subst, arith, add-one}
 use Rattle.std.proofs.Common.{chars}
 use Rattle.std.proofs.lemmas.List.{take_all}
-use Rattle.arm_value.specs.Json.{Json, null, bool, int, text, array, object, Pairs, no_pairs, pair}
+use Rattle.arm_value.specs.Json.{Json, null, bool, int, text, array, object, Pairs}
 use Rattle.arm_value.specs.Json.{nesting, row_nesting, pairs_nesting, items_nesting}
 use Rattle.arm_value.specs.Json.{members_nesting}
 use Rattle.arm_value.specs.Look.{first_by, or_else, look, is_same_folded}
 use Rattle.arm_value.specs.View.{json, member}
 use Rattle.arm_value.specs.declared.value.Field.{Field}
 use Rattle.arm_value.specs.declared.value.Value.{Value}
-use Rattle.arm_value.proofs.JsonLemmas.{item_nests, member_nests, map-take-more}
+use Rattle.arm_value.proofs.JsonLemmas.{item_nests, member_nests, map-take-more, first_by_nests}
 use Rattle.arm_value.proofs.TreeLemmas.{row-items, pairs-members}
 use Rattle.template_meaning.specs.Values.{Place, inside, items_in, members_in}
 use Rattle.template_meaning.specs.Resources.{Listed}
 use Rattle.template_meaning.specs.Describes.{DescribesResource, DescribesResources}
 use Rattle.template_tree.specs.Tree.{ResourceTree, trees}
+use Rattle.foundation.proofs.Lists.{map-both}
 
 -- ---- nesting
 
@@ -23,15 +24,6 @@ use Rattle.template_tree.specs.Tree.{ResourceTree, trees}
 abbrev pub depth : Place → ℕ
 depth None = 0
 depth (Some j) = suc (nesting j)
-
-first_by_nests : (p : List ℕ → Bool) (ms : Pairs) (v : Json) → first_by p ms ≡ Some v → nesting v ≤ pairs_nesting ms
-first_by_nests p no_pairs v e = cc
-first_by_nests p (pair k j ms) v e = at_first (p k) e (first_by_nests p ms v)
-  where
-    at_first : (b : Bool) → cond b (Some j) (first_by p ms) ≡ Some v
-        → (first_by p ms ≡ Some v → nesting v ≤ pairs_nesting ms) → nesting v ≤ max (nesting j) (pairs_nesting ms)
-    at_first true e h = let same : j ≡ v = cc in omega (arith, ap nesting same)
-    at_first false e h = omega (arith, h e)
 
 -- no deeper than so much, where it is there
 abbrev Within : ℕ → Place → Type 0
@@ -128,10 +120,6 @@ described_more f xs i x rs new r d h is one n =
     subst (λ ls. DescribesResources ls (trees new)) (sym (rw add-one (map-take-more f xs i x h is)))
     (subst (λ qs. DescribesResources (map f (take i xs) ++ f x ∷ []) (trees qs)) (sym n)
     (describes_push (map f (take i xs)) rs (f x) r d one))
-
-map-both : {A B C : Type 0} (f : A → B) (g : B → C) (xs : List A) → map (λ x. g (f x)) xs ≡ map g (map f xs)
-map-both f g [] = refl
-map-both f g (x ∷ xs) = ap (λ r. g (f x) ∷ r) (map-both f g xs)
 
 -- all resources
 pub described_all : {A B : Type 0} (v : A → B) (f : B → Listed) (xs : List A) (ys : List B) (i : ℕ)

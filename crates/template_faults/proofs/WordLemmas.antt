@@ -1,6 +1,9 @@
 -- Words of ASCII characters are their own characters.
 use Rattle.std.proofs.Common.{◌≡◌, codes, chars, refl}
 use Rattle.foundation.proofs.AsciiWords.{word}
+use Rattle.template_parts.proofs.WordLemmas.{chars_name, chars_copy, chars_resources, chars_existing}
+use Rattle.template_parts.proofs.WordLemmas.{chars_properties, chars_mode, chars_metadata, chars_parameters}
+use Rattle.template_parts.proofs.WordLemmas.{chars_variables}
 
 pub chars_schema : chars (codes "$schema") ≡ codes "$schema"
 chars_schema = word (codes "$schema") refl
@@ -14,20 +17,8 @@ chars_languageVersion = word (codes "languageVersion") refl
 pub chars_functions : chars (codes "functions") ≡ codes "functions"
 chars_functions = word (codes "functions") refl
 
-pub chars_metadata : chars (codes "metadata") ≡ codes "metadata"
-chars_metadata = word (codes "metadata") refl
-
 pub chars_apiProfile : chars (codes "apiProfile") ≡ codes "apiProfile"
 chars_apiProfile = word (codes "apiProfile") refl
-
-pub chars_resources : chars (codes "resources") ≡ codes "resources"
-chars_resources = word (codes "resources") refl
-
-pub chars_parameters : chars (codes "parameters") ≡ codes "parameters"
-chars_parameters = word (codes "parameters") refl
-
-pub chars_variables : chars (codes "variables") ≡ codes "variables"
-chars_variables = word (codes "variables") refl
 
 pub chars_outputs : chars (codes "outputs") ≡ codes "outputs"
 chars_outputs = word (codes "outputs") refl
@@ -35,20 +26,8 @@ chars_outputs = word (codes "outputs") refl
 pub chars_two : chars (codes "2.0") ≡ codes "2.0"
 chars_two = word (codes "2.0") refl
 
-pub chars_copy : chars (codes "copy") ≡ codes "copy"
-chars_copy = word (codes "copy") refl
-
-pub chars_name : chars (codes "name") ≡ codes "name"
-chars_name = word (codes "name") refl
-
-pub chars_existing : chars (codes "existing") ≡ codes "existing"
-chars_existing = word (codes "existing") refl
-
 pub chars_template : chars (codes "template") ≡ codes "template"
 chars_template = word (codes "template") refl
-
-pub chars_mode : chars (codes "mode") ≡ codes "mode"
-chars_mode = word (codes "mode") refl
 
 pub chars_expressionEvaluationOptions : chars (codes "expressionEvaluationOptions")
     ≡ codes "expressionEvaluationOptions"
@@ -65,9 +44,6 @@ chars_outer = word (codes "outer") refl
 
 pub chars_inner : chars (codes "inner") ≡ codes "inner"
 chars_inner = word (codes "inner") refl
-
-pub chars_properties : chars (codes "properties") ≡ codes "properties"
-chars_properties = word (codes "properties") refl
 
 pub ruleset words = (
   chars_schema,

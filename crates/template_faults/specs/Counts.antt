@@ -1,8 +1,8 @@
 -- How many parameters, variables, outputs and resources a template has, and which number is beyond its limit (Microsoft
 -- Learn, "Template limits").
-use Rattle.std.specs.Prelude.{ℕ, suc, ◌+◌, min, nat_lt, Bool, false, Option, Some, None, codes}
+use Rattle.std.specs.Prelude.{ℕ, suc, ◌+◌, min, nat_lt, Bool, Option, Some, None, codes}
 use Rattle.std.specs.Prelude.{if◌then◌else◌}
-use Rattle.arm_value.specs.Json.{Json, bool, array, object, Row, no_items, item, Pairs, no_pairs, pair}
+use Rattle.arm_value.specs.Json.{Json, array, object, Row, no_items, item, Pairs, no_pairs, pair}
 use Rattle.arm_value.specs.Look.{is_same_folded, look, look_in, first_by}
 use Rattle.template_faults.specs.Header.{form_in}
 use Rattle.template_parts.specs.declared.fault.TemplateFault.{TemplateFault}
@@ -12,7 +12,8 @@ use Rattle.template_parts.specs.declared.limit.Which.TheVariants as which
 use Rattle.template_parts.specs.declared.mode.Form.{Form}
 use Rattle.template_parts.specs.declared.mode.Form.TheVariants.{One, Two}
 use Rattle.template_values.specs.Order.{first_of}
-use Rattle.template_values.specs.Values.{is_copy}
+use Rattle.arm_value.specs.Kinds.{row_length, is_true}
+use Rattle.arm_expr.specs.Brackets.{is_copy}
 
 -- the sum of two counts, which stays at the largest number of 64 bits
 abbrev pub total : ℕ → ℕ → ℕ
@@ -37,11 +38,6 @@ abbrev mutual
   pub children_count : Pairs → ℕ
   children_count no_pairs = 0
   children_count (pair k j ms) = if is_same_folded (codes "resources") k then array_count j else children_count ms
-
--- whether a value says that its resource exists already
-abbrev pub is_true : Option Json → Bool
-is_true (Some (bool b)) = b
-is_true _ = false
 
 abbrev pub exists : Json → Bool
 exists j = is_true (look (codes "existing") j)
@@ -78,11 +74,6 @@ member_count _ = 0
 abbrev pub plain_count : ℕ → Pairs → ℕ
 plain_count n no_pairs = n
 plain_count n (pair k j ms) = if is_copy k then plain_count n ms else plain_count (total n 1) ms
-
--- the number of loops
-abbrev pub row_length : Row → ℕ
-row_length no_items = 0
-row_length (item j js) = suc (row_length js)
 
 abbrev pub loop_count : Option Json → ℕ
 loop_count (Some (array js)) = row_length js

@@ -3,7 +3,8 @@ use Rattle.std.specs.Prelude.{ℕ, List, [], ◌∷◌, ◌++◌, Option, Some, 
 use Rattle.arm_value.specs.Json.{Json, array, object, Row, no_items, item, Pairs, no_pairs, pair, pair_keys}
 use Rattle.arm_value.specs.Look.{look, first_by}
 use Rattle.template_texts.specs.declared.sight.Sight.{Sight}
-use Rattle.template_values.specs.Values.{is_copy, loop_name, names_with}
+use Rattle.template_values.specs.Values.{loop_name, names_with}
+use Rattle.arm_expr.specs.Brackets.{is_copy}
 
 -- the names of the members
 abbrev pub member_names : Option Json → List (List ℕ)

@@ -3,8 +3,9 @@
 ghost use Rattle.std.specs.Prelude.{◌≡◌, option_map};
 ghost use Rattle.arm_value.specs.Json.{row, pairs};
 ghost use Rattle.arm_value.specs.View.{json};
-ghost use Rattle.template_faults.specs.Counts.{total, array_count, row_count, tree_count, children_count, is_true};
+ghost use Rattle.template_faults.specs.Counts.{total, array_count, row_count, tree_count, children_count};
 ghost use Rattle.template_faults.specs.Counts.{exists, pairs_count, symbols_count, form_count, resource_count};
+ghost use Rattle.arm_value.specs.Kinds.{is_true};
 
 use crate::header::form_in;
 use crate::names::is_resources;

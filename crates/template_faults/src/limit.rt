@@ -3,9 +3,10 @@
 ghost use Rattle.std.specs.Prelude.{◌≡◌, option_map};
 ghost use Rattle.arm_value.specs.Json.{pairs, row};
 ghost use Rattle.arm_value.specs.View.{json};
-ghost use Rattle.template_faults.specs.Counts.{pairs_length, row_length, member_count, plain_count, loop_count};
+ghost use Rattle.template_faults.specs.Counts.{pairs_length, member_count, plain_count, loop_count};
 ghost use Rattle.template_faults.specs.Counts.{variable_count, beyond, variables_beyond, later_count_fault};
 ghost use Rattle.template_faults.specs.Counts.{count_fault};
+ghost use Rattle.arm_value.specs.Kinds.{row_length};
 
 use crate::count::{resource_count, total};
 use crate::sight::copies_in;

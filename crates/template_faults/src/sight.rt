@@ -6,7 +6,8 @@ ghost use Rattle.arm_value.specs.Look.{first_by};
 ghost use Rattle.arm_value.specs.View.{json};
 ghost use Rattle.template_faults.specs.Sights.{member_names, plain_names, row_names, loop_names, variable_names};
 ghost use Rattle.template_faults.specs.Sights.{sight_of};
-ghost use Rattle.template_values.specs.Values.{is_copy, loop_name, names_with};
+ghost use Rattle.template_values.specs.Values.{loop_name, names_with};
+ghost use Rattle.arm_expr.specs.Brackets.{is_copy};
 
 use arm_value::{Fields, Items, OutOfMemory, Value};
 use name_set::NameSet;

@@ -1,15 +1,12 @@
 -- Values of the code and their trees.
-use Rattle.std.proofs.Common.{◌≡◌, List, [], ◌∷◌, refl, ap}
-use Rattle.arm_value.specs.Json.{Json, null, bool, int, text, array, object, row, items}
+use Rattle.std.proofs.Common.{◌≡◌, refl, ap}
+use Rattle.arm_value.specs.Json.{Json, null, bool, int, text, array, object}
 use Rattle.arm_value.specs.View.{json}
 use Rattle.arm_value.specs.declared.value.Value.{Value}
 use Rattle.arm_value.specs.declared.value.Value.TheVariants as value
 use Rattle.arm_value.proofs.TreeLemmas.{row-items, members-pairs, pairs-members}
 use Rattle.template_meaning.specs.Values.{value_of}
-
-pub items-row : (js : List Json) → items (row js) ≡ js
-items-row [] = refl
-items-row (j ∷ js) = ap (λ r. j ∷ r) (items-row js)
+use Rattle.arm_value.proofs.SameLemmas.{items-row}
 
 -- a value is the one of its tree
 pub value_back : (v : Value) → value_of (json v) ≡ v

@@ -1,27 +1,11 @@
 -- Words of ASCII characters are their own characters.
 use Rattle.std.proofs.Common.{◌≡◌, codes, chars, refl}
 use Rattle.foundation.proofs.AsciiWords.{word}
-
-pub chars_type : chars (codes "type") ≡ codes "type"
-chars_type = word (codes "type") refl
+use Rattle.template_parts.proofs.WordLemmas.{chars_name, chars_copy, chars_count, chars_type, chars_condition}
+use Rattle.template_parts.proofs.WordLemmas.{chars_metadata, chars_input}
 
 pub chars_value : chars (codes "value") ≡ codes "value"
 chars_value = word (codes "value") refl
-
-pub chars_copy : chars (codes "copy") ≡ codes "copy"
-chars_copy = word (codes "copy") refl
-
-pub chars_condition : chars (codes "condition") ≡ codes "condition"
-chars_condition = word (codes "condition") refl
-
-pub chars_metadata : chars (codes "metadata") ≡ codes "metadata"
-chars_metadata = word (codes "metadata") refl
-
-pub chars_count : chars (codes "count") ≡ codes "count"
-chars_count = word (codes "count") refl
-
-pub chars_input : chars (codes "input") ≡ codes "input"
-chars_input = word (codes "input") refl
 
 pub chars_defaultValue : chars (codes "defaultValue") ≡ codes "defaultValue"
 chars_defaultValue = word (codes "defaultValue") refl
@@ -61,9 +45,6 @@ chars_secureObject = word (codes "secureObject") refl
 
 pub chars_array : chars (codes "array") ≡ codes "array"
 chars_array = word (codes "array") refl
-
-pub chars_name : chars (codes "name") ≡ codes "name"
-chars_name = word (codes "name") refl
 
 pub ruleset words = (
   chars_name,

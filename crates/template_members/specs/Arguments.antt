@@ -1,6 +1,6 @@
 -- Why what a nested deployment gives for the parameters of its template is refused.
 use Rattle.std.specs.Prelude.{ℕ, ◌||◌, Bool, true, false, List, [], ◌∷◌, Option, Some, codes, if◌then◌else◌}
-use Rattle.arm_expr.specs.Brackets.{is_bracketed}
+use Rattle.arm_expr.specs.Brackets.{is_bracketed, is_copy}
 use Rattle.arm_value.specs.Json.{Json, array, object, item, Pairs, no_pairs, pair, pair_keys}
 use Rattle.arm_value.specs.Look.{is_same_folded}
 use Rattle.template_members.specs.Loops.{loops_fault}
@@ -10,7 +10,7 @@ use Rattle.template_parts.specs.declared.fault.TemplateFault.{TemplateFault}
 use Rattle.template_parts.specs.declared.fault.TemplateFault.TheVariants.{WrongForm}
 use Rattle.template_texts.specs.declared.sight.Place.TheVariants.{Elsewhere}
 use Rattle.template_texts.specs.declared.sight.Sight.{Sight}
-use Rattle.template_values.specs.Values.{is_copy, value_fault}
+use Rattle.template_values.specs.Values.{value_fault}
 
 -- whether it is an array of one or more items
 abbrev pub has_item : Json → Bool

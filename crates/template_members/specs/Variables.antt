@@ -8,7 +8,8 @@ use Rattle.template_parts.specs.declared.fault.TemplateFault.{TemplateFault}
 use Rattle.template_parts.specs.declared.fault.TemplateFault.TheVariants.{WrongForm}
 use Rattle.template_texts.specs.declared.sight.Place.{Place}
 use Rattle.template_texts.specs.declared.sight.Sight.{Sight}
-use Rattle.template_values.specs.Values.{is_copy, value_fault}
+use Rattle.template_values.specs.Values.{value_fault}
+use Rattle.arm_expr.specs.Brackets.{is_copy}
 
 -- why a member of the variables is refused, of which all have these names: `copy` has loops that give further
 -- variables, and every other member is a variable

@@ -1,26 +1,19 @@
 -- What the loops over items and members of literal values have come to.
 use Rattle.std.proofs.Common.{◌≡◌, ◌≤◌, ◌<◌, ◌+◌, ℕ, length, get_or, drop, false, List, [], ◌∷◌, ◌++◌, map, Option}
-use Rattle.std.proofs.Common.{Some, None, if◌then◌else◌, sym, ap, ap₂, ◌∙◌, arith, subst}
+use Rattle.std.proofs.Common.{Some, None, if◌then◌else◌, sym, ap, ap₂, ◌∙◌, arith}
 use Rattle.std.proofs.lemmas.List.{drop_all}
-use Rattle.arm_value.specs.Json.{Json, Row, item, Pairs, pair, Member, row, pairs, nesting, items_nesting}
-use Rattle.arm_value.specs.Json.{members_nesting, IsInOrder}
+use Rattle.arm_value.specs.Json.{Json, Row, Pairs, Member, row, pairs, nesting}
 use Rattle.arm_value.specs.View.{json, member}
 use Rattle.arm_value.specs.declared.value.Value.{Value}
 use Rattle.arm_value.specs.declared.value.Field.{Field}
 use Rattle.arm_value.proofs.SetLemmas.{drop_from}
 use Rattle.arm_value.proofs.JsonLemmas as parts
-use Rattle.template_parameters.specs.Literal.{is_copy, item_before, pair_before, literal, row_literal, pairs_literal}
-use Rattle.template_parameters.proofs.LiteralLemmas.{literal_nests, then_row-push, then_row-none, then_pairs-push}
-use Rattle.template_parameters.proofs.LiteralLemmas.{then_pairs-none, with_row, with_row-push, with_pairs}
-use Rattle.template_parameters.proofs.LiteralLemmas.{with_pairs-push, with_value, next_last}
-
-pub item_within : (vs : List Value) (js : List Json) (i : ℕ) (v : Value) → map json vs ≡ js → i < length vs
-    → v ≡ get_or vs i v → nesting (json v) ≤ items_nesting js
-item_within vs js i v e h is = omega (arith, parts.item_nests vs i v h is, ap items_nesting e)
-
-pub member_within : (fs : List Field) (ms : List Member) (i : ℕ) (f : Field) → map member fs ≡ ms → i < length fs
-    → f ≡ get_or fs i f → nesting (json f.value) ≤ members_nesting ms
-member_within fs ms i f e h is = omega (arith, parts.member_nests fs i f h is, ap members_nesting e)
+use Rattle.template_parameters.specs.Literal.{literal, row_literal, pairs_literal}
+use Rattle.template_parameters.proofs.LiteralLemmas.{literal_nests}
+use Rattle.arm_value.specs.Gathered.{item_before, pair_before}
+use Rattle.arm_value.proofs.GatheredLemmas.{then_row-none, then_pairs-none, with_row}
+use Rattle.arm_value.proofs.GatheredLemmas.{with_pairs, with_row-push, with_pairs-push}
+use Rattle.arm_expr.specs.Brackets.{is_copy}
 
 pub literal_within : (j k : Json) (o : Option Json) (n : ℕ) → o ≡ literal j → o ≡ Some k → nesting j ≤ n → nesting k ≤ n
 literal_within j k o n e f h = omega (arith, literal_nests j k o e f)
@@ -42,25 +35,6 @@ literal_items found vs js i e h a =
     sym (ap (λ ks. row_literal (row ks)) (sym e) ∙ a
     ∙ ap (λ ds. with_row found (row_literal (row (map json ds)))) (drop_all i vs h)
     ∙ ap Some (then_row-none found))
-
--- the next member with another value, after what was found
-pub member_last : (found : List Member) (fs : List Field) (i : ℕ) (f : Field) (name : List ℕ) (k : Json)
-    → IsInOrder (found ++ map member (drop i fs)) → i < length fs → f ≡ get_or fs i f → name ≡ f.name
-    → IsInOrder (found ++ (name, k) ∷ [])
-member_last found fs i f name k o h is e =
-    subst (λ (n : List ℕ). IsInOrder (found ++ (n, k) ∷ [])) (sym e)
-    (next_last found f.name (json f.value) k (map member (drop (i + 1) fs))
-    (subst (λ ds. IsInOrder (found ++ map member ds)) (drop_from fs i f h is) o))
-
-pub members_ordered : (found new : List Member) (fs : List Field) (i : ℕ) (f : Field) (name : List ℕ) (k : Json)
-    → IsInOrder (found ++ map member (drop i fs)) → i < length fs → f ≡ get_or fs i f → name ≡ f.name
-    → new ≡ found ++ (name, k) ∷ []
-    → IsInOrder (new ++ map member (drop (i + 1) fs))
-members_ordered found new fs i f name k o h is e n =
-    let last = with_value found f.name (json f.value) k (map member (drop (i + 1) fs))
-    (subst (λ ds. IsInOrder (found ++ map member ds)) (drop_from fs i f h is) o) in
-    subst (λ ms. IsInOrder (ms ++ map member (drop (i + 1) fs))) (ap (λ (l : List ℕ). found ++ (l, k) ∷ []) (sym e)
-    ∙ sym n) last
 
 pub literal_member : (all : Option Pairs) (found new : List Member) (fs : List Field) (i : ℕ) (f : Field)
     (name : List ℕ) (k : Json) (o : Option Json)

@@ -1,10 +1,10 @@
 -- The rule of a parameter (Microsoft Learn, "Parameters in ARM templates"): its type, the values that are allowed, and
 -- its bounds.
-use Rattle.std.specs.Prelude.{ℕ, ℤ, zero, suc, pos, nat_le, int_le, ◌&&◌, ◌||◌, Bool, true, false, List, [], ◌∷◌}
+use Rattle.std.specs.Prelude.{ℤ, pos, nat_le, int_le, ◌&&◌, ◌||◌, Bool, true, false, List}
 use Rattle.std.specs.Prelude.{length}
 use Rattle.std.specs.Prelude.{Option, Some, None, if◌then◌else◌}
 use Rattle.std.specs.List.{list_any}
-use Rattle.arm_value.specs.Json.{Json, null, bool, int, text, array, object, Row, no_items, item, nesting}
+use Rattle.arm_value.specs.Json.{Json, bool, int, text, array, Row, no_items, item, nesting}
 use Rattle.arm_value.specs.Same.{is_same}
 use Rattle.template_parts.specs.declared.parameter.Bounds.{Bounds}
 use Rattle.template_parts.specs.declared.parameter.Parameter.{Parameter}
@@ -12,6 +12,7 @@ use Rattle.template_parts.specs.declared.value_type.ValueType.{ValueType}
 use Rattle.template_parts.specs.declared.value_type.ValueType.TheVariants as type
 use Rattle.template_parameters.specs.declared.rule.Breach.{Breach}
 use Rattle.template_parameters.specs.declared.rule.Breach.TheVariants.{WrongType, NotAllowed, OutOfBounds}
+use Rattle.arm_value.specs.Kinds.{row_length, is_array, is_object}
 
 abbrev pub is_text : Json → Bool
 is_text (text s) = true
@@ -24,14 +25,6 @@ is_int _ = false
 abbrev pub is_bool : Json → Bool
 is_bool (bool b) = true
 is_bool _ = false
-
-abbrev pub is_object : Json → Bool
-is_object (object ms) = true
-is_object _ = false
-
-abbrev pub is_array : Json → Bool
-is_array (array js) = true
-is_array _ = false
 
 -- whether the value is of the type
 abbrev pub is_of : ValueType → Json → Bool
@@ -76,11 +69,6 @@ is_at_most (Some most) z = int_le z most
 
 abbrev pub is_between : Option ℤ → Option ℤ → ℤ → Bool
 is_between least most z = is_at_least least z && is_at_most most z
-
--- the number of items
-abbrev pub row_length : Row → ℕ
-row_length no_items = zero
-row_length (item j js) = suc (row_length js)
 
 -- whether a number, or the length of a text (in characters) or of an array, is within the bounds
 abbrev pub is_within : Bounds → Json → Bool

@@ -2,7 +2,9 @@
 
 ghost use Rattle.std.specs.Prelude.{◌≡◌};
 ghost use Rattle.arm_value.specs.View.{json};
-ghost use Rattle.template_parameters.specs.Rule.{is_text, is_int, is_bool, is_object, is_array, is_of};
+ghost use Rattle.template_parameters.specs.Rule.{is_text, is_int, is_bool, is_of};
+ghost use Rattle.arm_value.specs.Kinds.{is_array};
+ghost use Rattle.arm_value.specs.Kinds.{is_object};
 
 use arm_value::Value;
 use template_parts::ValueType;

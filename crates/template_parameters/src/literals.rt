@@ -3,7 +3,8 @@
 ghost use Rattle.std.specs.Prelude.{◌≡◌, IfOk, chars, codes, bytes_eq, option_map};
 ghost use Rattle.arm_value.specs.View.{json};
 ghost use Rattle.arm_value.specs.Json.{text, array, object, row, pairs};
-ghost use Rattle.template_parameters.specs.Literal.{literal_text, is_copy, literal, row_literal, pairs_literal};
+ghost use Rattle.template_parameters.specs.Literal.{literal_text, literal, row_literal, pairs_literal};
+ghost use Rattle.arm_expr.specs.Brackets.{is_copy};
 
 use crate::parts::{nothing, with_item, with_member};
 use arm_expr::{Meaning, meaning_of};

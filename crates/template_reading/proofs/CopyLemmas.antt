@@ -6,7 +6,8 @@ use Rattle.arm_value.specs.declared.value.Value.{Value}
 use Rattle.arm_value.specs.declared.value.Value.TheVariants as value
 use Rattle.arm_value.proofs.TreeLemmas.{members-pairs}
 use Rattle.template_meaning.specs.Values.{Place, value_in, items_in, members_in}
-use Rattle.template_meaning.proofs.ValueLemmas.{value_back, items-row}
+use Rattle.template_meaning.proofs.ValueLemmas.{value_back}
+use Rattle.arm_value.proofs.SameLemmas.{items-row}
 
 -- the value of a place
 pub value_at : (o : Place) (v : Value) → o ≡ Some (json v) → value_in o ≡ v

@@ -1,6 +1,6 @@
 -- What loops over members have come to.
 use Rattle.std.proofs.Common.{◌≡◌, ◌<◌, ◌≤◌, ◌+◌, ℕ, length, get_or, drop, take, true, false, List, [], ◌∷◌}
-use Rattle.std.proofs.Common.{◌++◌, map, Some, None, if◌then◌else◌, refl, sym, ap, ap₂, ◌∙◌, add-one}
+use Rattle.std.proofs.Common.{◌++◌, map, Some, None, if◌then◌else◌, sym, ap, ap₂, ◌∙◌, add-one}
 use Rattle.std.proofs.Common.{append_assoc}
 use Rattle.std.proofs.lemmas.List.{take_all, drop_all, append-nil}
 use Rattle.arm_value.specs.Json.{Member}
@@ -9,10 +9,7 @@ use Rattle.arm_value.specs.declared.value.Field.{Field}
 use Rattle.arm_value.proofs.JsonLemmas.{map-take-more}
 use Rattle.arm_value.proofs.SetLemmas.{drop_from}
 use Rattle.template_meaning.specs.Parts.{is_copy, unlooped, copies_in}
-
-pub map-both : {A B C : Type 0} (f : A → B) (g : B → C) (xs : List A) → map (λ x. g (f x)) xs ≡ map g (map f xs)
-map-both f g [] = refl
-map-both f g (x ∷ xs) = ap (λ r. g (f x) ∷ r) (map-both f g xs)
+use Rattle.foundation.proofs.Lists.{map-both}
 
 -- one part more
 pub part_more : {A T : Type 0} (f : A → T) (parts new : List T) (xs : List A) (i : ℕ) (x : A) (y : T)

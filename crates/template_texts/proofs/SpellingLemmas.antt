@@ -9,19 +9,15 @@ use Rattle.arm_expr.specs.Stack.{kept_reading}
 use Rattle.arm_expr.specs.View.{tree_of}
 use Rattle.arm_expr.specs.Answers.{Reads}
 use Rattle.arm_expr.specs.Brackets.{opens, closes, is_bracketed, meaning, meaning_in_brackets}
-use Rattle.arm_expr.specs.Brackets.{an_expression, plain}
+use Rattle.arm_expr.specs.Brackets.{an_expression, plain, without_last, inside}
 use Rattle.arm_expr.specs.declared.expr.Expr.{Expr}
 use Rattle.arm_expr.specs.declared.fault.ExprFault.{ExprFault}
 use Rattle.arm_expr.specs.declared.fault.ExprFault.TheVariants.{TooLong, NotAnExpression, TooDeep, OutOfMemory}
 use Rattle.arm_expr.proofs.Reading.{in_brackets, Found, answered, spelled_once}
 use Rattle.foundation.proofs.TruthValues.{both}
-use Rattle.template_texts.specs.Texts.{without_last, inside, spelling, spelling_of, spelled, IsSpelling}
+use Rattle.template_texts.specs.Texts.{spelling, spelling_of, spelled, IsSpelling}
 use Rattle.template_texts.specs.Texts.{too_long}
-
-closes_last : (cs : List ℕ) → closes cs ≡ true → cs ≡ without_last cs ++ 93 ∷ []
-closes_last [] h = cc
-closes_last (c ∷ []) h = ap (λ c. c ∷ []) (eqb-true c 93 h)
-closes_last (c ∷ d ∷ cs) h = ap (λ r. c ∷ r) (closes_last (d ∷ cs) h)
+use Rattle.arm_expr.proofs.BracketLemmas.{closes_last}
 
 after : (c : ℕ) (cs : List ℕ) → c ≡ 91 → closes (c ∷ cs) ≡ true → closes cs ≡ true
 after c [] e h = let wrong : closes (c ∷ []) ≡ false = grind (arith, nat_tests) in cc

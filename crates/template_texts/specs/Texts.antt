@@ -1,7 +1,7 @@
 -- Why a text of a template is refused.
-use Rattle.std.specs.Prelude.{◌≡◌, ℕ, nat_lt, ◌&&◌, Bool, List, [], ◌∷◌, length, Option, Some, None, Result, Ok, Err}
+use Rattle.std.specs.Prelude.{◌≡◌, ℕ, nat_lt, ◌&&◌, Bool, List, [], length, Option, Some, None, Result, Ok, Err}
 use Rattle.std.specs.Prelude.{if◌then◌else◌, true, false}
-use Rattle.arm_expr.specs.Brackets.{Meaning, an_expression, plain, meaning}
+use Rattle.arm_expr.specs.Brackets.{Meaning, an_expression, plain, meaning, inside}
 use Rattle.arm_expr.specs.Stack.{kept_reading}
 use Rattle.arm_expr.specs.Tree.{Tree}
 use Rattle.arm_expr.specs.View.{tree_of}
@@ -22,17 +22,6 @@ pub data Spelling : Type 0 where
   no_expression : Spelling
   too_deep : Spelling
   spelled : Tree → Spelling
-
--- all characters but the last
-abbrev pub without_last : List ℕ → List ℕ
-without_last [] = []
-without_last (c ∷ []) = []
-without_last (c ∷ d ∷ cs) = c ∷ without_last (d ∷ cs)
-
--- the characters between the brackets
-abbrev pub inside : List ℕ → List ℕ
-inside [] = []
-inside (c ∷ cs) = without_last cs
 
 -- of what was read between the brackets: nothing where nothing is spelled, and no tree where it nests above 64
 abbrev pub spelling_of : Option (Option Tree) → Spelling

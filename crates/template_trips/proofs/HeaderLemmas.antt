@@ -10,10 +10,10 @@ use Rattle.arm_value.specs.Json.{pairs_nesting, members_nesting}
 use Rattle.arm_value.specs.Look.{fold, first_by, look_in}
 use Rattle.arm_value.proofs.SetLemmas.{equal_keys}
 use Rattle.arm_value.proofs.TreeLemmas.{pairs-members, row-items}
-use Rattle.arm_expr.specs.Brackets.{is_bracketed}
+use Rattle.arm_expr.specs.Brackets.{is_bracketed, is_copy}
 use Rattle.foundation.proofs.AsciiWords as ascii
 use Rattle.foundation.proofs.TruthValues.{or_right}
-use Rattle.template_faults.specs.Counts.{total, pairs_length, member_count, plain_count, row_length, loop_count}
+use Rattle.template_faults.specs.Counts.{total, pairs_length, member_count, plain_count, loop_count}
 use Rattle.template_faults.specs.Counts.{variable_count, resource_count, beyond, count_fault}
 use Rattle.template_faults.specs.Header.{template_members, schema_fault, text_fault, form_of, form_in}
 use Rattle.template_faults.specs.Header.{language_fault, functions_fault, describing_fault, template_member}
@@ -40,7 +40,7 @@ use Rattle.template_texts.specs.declared.sight.Sight.{Sight}
 use Rattle.template_tree.specs.Tree.{Header}
 use Rattle.template_parts.specs.declared.limit.Which.TheVariants as which
 use Rattle.template_values.specs.Order.{first_of, to_item, decided}
-use Rattle.template_values.specs.Values.{is_copy, loop_name, names_with}
+use Rattle.template_values.specs.Values.{loop_name, names_with}
 use Rattle.template_written.specs.Slots.{put_slot, put_slots, an_object, array_unless_empty, object_unless_empty}
 use Rattle.template_written.specs.Slots.{NestsWithin, SlotsNest}
 use Rattle.template_written.specs.Parts.{parameter_slots, written_parameter, output_slots, written_output}
@@ -55,6 +55,8 @@ use Rattle.written_parts.proofs.ValueLemmas.{by_object, missing_none, Kept}
 use Rattle.written_parts.proofs.PartLemmas.{parameter_kept, output_kept, relooped}
 use Rattle.written_parts.proofs.GivenLemmas.{unless_kept, variables_kept, variables_written, argument_kept, copy_same}
 use Rattle.written_parts.proofs.GivenLemmas.{same_loop, nothing_put, variable_loops_fine}
+use Rattle.arm_value.specs.Kinds.{row_length}
+use Rattle.written_resources.proofs.BodyLemmas.{look_inside}
 
 -- ---- lists by name
 
@@ -201,10 +203,6 @@ form_by (Some (int z)) = refl
 form_by (Some (text t)) = ap (λ w. if bytes_eq w t then Two else One) (ascii.word (codes "2.0") refl)
 form_by (Some (array js)) = refl
 form_by (Some (object ms)) = refl
-
-look_inside : (name : List ℕ) (ms : Pairs) → list_all (λ b. nat_lt b 128) name ≡ true
-    → look_in name ms ≡ inside name (Some (object ms))
-look_inside name ms w = ap (λ n. look_in n ms) (sym (ascii.word name w))
 
 pub form_read : (ms : Pairs) → meaning.form_of (Some (object ms)) ≡ form_in ms
 form_read ms =

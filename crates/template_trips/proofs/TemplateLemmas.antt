@@ -78,10 +78,11 @@ use Rattle.template_trips.proofs.RowLemmas.{EachKept, SymbolsKept, WrittenAs, Re
 use Rattle.template_trips.proofs.RowLemmas.{each_none, each_more, symbols_none, symbols_more, ChildrenKept}
 use Rattle.template_trips.proofs.RowLemmas.{children_from}
 use Rattle.template_trips.proofs.NestedLemmas.{properties_from, single_found}
+use Rattle.arm_value.specs.Kinds as kinds
 
 -- ---- resources
 
-truth_kept : (o : Option Json) → counts.is_true (true_or_none (is_true o)) ≡ counts.is_true o
+truth_kept : (o : Option Json) → kinds.is_true (true_or_none (is_true o)) ≡ kinds.is_true o
 truth_kept None = refl
 truth_kept (Some null) = refl
 truth_kept (Some (bool true)) = refl
@@ -141,8 +142,8 @@ resource_written here rank taken ms js ss base f c a h =
       count = ap (total 1) (first_count ws ∙ ap count_in (declared_found s (codes "resources") ws refl refl apart
           ∙ f.resources) ∙ c.count ∙ sym (ap count_in (declared_found s (codes "resources") ms refl refl a))
           ∙ sym (first_count ms));
-      existing = λ y. ap counts.is_true (look_inside (codes "existing") ws refl ∙ f.existing y)
-          ∙ truth_kept (inside (codes "existing") v) ∙ sym (ap counts.is_true (look_inside (codes "existing") ms refl));
+      existing = λ y. ap kinds.is_true (look_inside (codes "existing") ws refl ∙ f.existing y)
+          ∙ truth_kept (inside (codes "existing") v) ∙ sym (ap kinds.is_true (look_inside (codes "existing") ms refl));
     }
 
 fine_children : (here : Sight) (rank : Rank) (ms : Pairs) (o : Option Json)

@@ -1,3 +1,1 @@
-pub mod PartLemmas
 pub mod WordLemmas
-pub mod Words

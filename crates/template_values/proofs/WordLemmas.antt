@@ -1,15 +1,5 @@
 -- Words of ASCII characters are their own characters.
-use Rattle.std.proofs.Common.{◌≡◌, codes, chars, refl}
-use Rattle.foundation.proofs.AsciiWords.{word}
-
-pub chars_count : chars (codes "count") ≡ codes "count"
-chars_count = word (codes "count") refl
-
-pub chars_input : chars (codes "input") ≡ codes "input"
-chars_input = word (codes "input") refl
-
-pub chars_name : chars (codes "name") ≡ codes "name"
-chars_name = word (codes "name") refl
+use Rattle.template_parts.proofs.WordLemmas.{chars_name, chars_count, chars_input}
 
 pub ruleset words = (
   chars_count,

@@ -1,11 +1,11 @@
 -- Why a value that may have expressions and loops in it is refused (Microsoft Learn, "Property iteration in ARM
 -- templates").
-use Rattle.std.specs.Prelude.{ℕ, zero, ◌+◌, ◌||◌, bytes_eq, Bool, List, [], ◌∷◌, ◌++◌, Option, Some, None, codes}
+use Rattle.std.specs.Prelude.{ℕ, zero, ◌+◌, ◌||◌, List, [], ◌∷◌, ◌++◌, Option, Some, None, codes}
 use Rattle.std.specs.Prelude.{if◌then◌else◌}
 use Rattle.arm_value.specs.Json.{Json, null, bool, int, text, array, object, Row, no_items, item, Pairs, no_pairs, pair}
 use Rattle.arm_value.specs.Json.{pair_keys}
 use Rattle.arm_value.specs.Look.{is_same_folded, first_by}
-use Rattle.arm_expr.specs.Brackets.{is_bracketed}
+use Rattle.arm_expr.specs.Brackets.{is_bracketed, is_copy}
 use Rattle.name_set.specs.Names.{is_named, is_listed}
 use Rattle.template_parts.specs.declared.fault.TemplateFault.{TemplateFault}
 use Rattle.template_parts.specs.declared.fault.TemplateFault.TheVariants.{WrongForm}
@@ -14,10 +14,6 @@ use Rattle.template_texts.specs.declared.sight.Place.{Place}
 use Rattle.template_texts.specs.declared.sight.Sight.{Sight}
 use Rattle.template_values.specs.Order.{to_member, to_item, then_faults, then_members, missing, decided}
 use Rattle.template_values.specs.declared.order.Faulty.{Faulty}
-
--- whether a member of this name makes loops
-abbrev pub is_copy : List ℕ → Bool
-is_copy name = bytes_eq name (codes "copy")
 
 -- the members of a loop, in byte order
 abbrev pub loop_members : List (List ℕ)

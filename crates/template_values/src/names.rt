@@ -4,7 +4,8 @@ ghost use Rattle.std.specs.Prelude.{◌≡◌, IfOk, chars, option_map};
 ghost use Rattle.arm_value.specs.Json.{keys, pairs};
 ghost use Rattle.arm_value.specs.Look.{first_by, is_same_folded};
 ghost use Rattle.arm_value.specs.View.{json};
-ghost use Rattle.template_values.specs.Values.{is_copy, text_in, loop_name, names_with};
+ghost use Rattle.template_values.specs.Values.{text_in, loop_name, names_with};
+ghost use Rattle.arm_expr.specs.Brackets.{is_copy};
 
 use arm_value::{Fields, OutOfMemory, Text, Value};
 use name_set::TextSet;

@@ -21,7 +21,7 @@ use Rattle.template_meaning.specs.Values.{Place, inside, optional, value_in, num
 use Rattle.template_meaning.specs.Values.{is_word}
 use Rattle.template_meaning.specs.Parts.{type_in, bounds_of, allowed_in, parameter_of, loop_of, content_by, output_of}
 use Rattle.template_meaning.specs.Parts.{is_copy, copies_in, first_in, argument_of}
-use Rattle.template_meaning.proofs.ValueLemmas.{value_back, items-row}
+use Rattle.template_meaning.proofs.ValueLemmas.{value_back}
 use Rattle.foundation.proofs.AsciiWords as ascii
 use Rattle.template_written.specs.Slots.{Slot, put_slot, an_object, word, array_unless_empty, object_unless_empty}
 use Rattle.template_written.specs.Parts.{type_word, parameter_slots, written_parameter, value_slot, loop_slots}
@@ -29,6 +29,7 @@ use Rattle.template_written.specs.Parts.{named_loop}
 use Rattle.template_written.specs.Parts.{output_loop, output_slots, written_output, value_loop}
 use Rattle.template_written.specs.Parts.{argument_slots, written_argument}
 use Rattle.template_written.proofs.SlotLemmas.{look_slot, slot_at}
+use Rattle.arm_value.proofs.SameLemmas.{items-row}
 
 -- ---- values that may be missing
 

@@ -1,5 +1,5 @@
 -- A template that is written is described by its value.
-use Rattle.std.proofs.Common.{◌≡◌, ℕ, pos, nat_le, nat_lt, chars, codes, Bool, true, false, ◌||◌, ◌&&◌}
+use Rattle.std.proofs.Common.{◌≡◌, ℕ, pos, nat_le, nat_lt, chars, codes, Bool, true, false, ◌&&◌}
 use Rattle.std.proofs.Common.{List, [], ◌∷◌, map, Option, Some, None, option_map, is_some, Ordering, Less, Equal}
 use Rattle.std.proofs.Common.{Greater}
 use Rattle.std.proofs.Common.{if◌then◌else◌, refl, sym, ap, ap₂, ◌∙◌, subst}
@@ -31,7 +31,7 @@ use Rattle.template_meaning.specs.Resources.{declaration_of, is_named, is_outsid
 use Rattle.template_meaning.specs.Resources.{is_deployment, scope_in, arguments_in}
 use Rattle.template_meaning.specs.Describes.{form_of, header_by, DescribesTemplate, DescribesResource, DescribesBody}
 use Rattle.template_meaning.specs.Describes.{DescribesResources}
-use Rattle.template_meaning.proofs.ValueLemmas.{value_back, items-row}
+use Rattle.template_meaning.proofs.ValueLemmas.{value_back}
 use Rattle.template_tree.specs.Tree.{Header, TemplateTree, template, ResourceTree, resource, BodyTree, body_members}
 use Rattle.template_tree.specs.Tree.{deployment, Trees, no_resources, a_resource}
 use Rattle.template_written.specs.Slots.{Slot, put_slot, put_slots, an_object, word, array_unless_empty}
@@ -47,6 +47,8 @@ use Rattle.template_written.proofs.BackLemmas.{optional_back, members_unless, it
 use Rattle.template_written.proofs.BackLemmas.{parameter_back}
 use Rattle.template_written.proofs.BackLemmas.{output_back, argument_back, map_back}
 use Rattle.template_written.proofs.VariableLemmas.{all_unlooped, variables_back}
+use Rattle.foundation.proofs.TruthValues.{or_true}
+use Rattle.arm_value.proofs.SameLemmas.{items-row}
 
 -- ---- all of a template but its resources
 
@@ -80,14 +82,6 @@ header_back h r k = sym (λ x. record {
 })
 
 -- ---- what declares a resource
-
-or_true : (a : Bool) → (a || true) ≡ true
-or_true true = refl
-or_true false = refl
-
-and_true : (a : Bool) → (a && true) ≡ a
-and_true true = refl
-and_true false = refl
 
 -- members of a body, of which none has one of these names
 none_named : (p : List ℕ → Bool) (symbol : Option (List ℕ)) (ms : List Member)

@@ -141,7 +141,7 @@ loops_last [] [] = tt
 loops_last [] (j ∷ js) = all_looped js
 loops_last (m ∷ ms) js = loops_last ms js
 
-plain_none : (js : List Json) → plain_variables (map looped_variable js) ≡ []
+pub plain_none : (js : List Json) → plain_variables (map looped_variable js) ≡ []
 plain_none [] = refl
 plain_none (j ∷ js) = plain_none js
 

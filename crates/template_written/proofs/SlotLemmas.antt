@@ -1,22 +1,22 @@
 -- What is found in objects whose members have fixed names, and how deep their members nest.
-use Rattle.std.proofs.Common.{◌≡◌, ◌≤◌, ℕ, max, nat_lt, chars, bytes_eq, encode_utf8_all, Bool, true, false, ◌&&◌, not}
+use Rattle.std.proofs.Common.{◌≡◌, ◌≤◌, ℕ, nat_lt, chars, bytes_eq, encode_utf8_all, Bool, true, false, ◌&&◌, not}
 use Rattle.std.proofs.Common.{List, []}
 use Rattle.std.proofs.Common.{◌∷◌, Option, Some, None, Ordering, Less, Equal, Greater, refl, sym, ap, ap₂, ◌∙◌}
-use Rattle.std.proofs.Common.{cond}
 use Rattle.std.proofs.Common.{arith, if◌then◌else◌}
 use Rattle.std.specs.List.{list_all}
 use Rattle.std.specs.Ordering.{match_ordering}
 use Rattle.std.specs.Ordering.{ordering_reverse}
 use Rattle.std.proofs.lemmas.Cmp.{nat_list_cmp_total}
 use Rattle.std.proofs.lemmas.Slice.Eq.{bytes_eq-Decides}
-use Rattle.arm_value.specs.Json.{Json, object, Pairs, no_pairs, pair, Member, pairs, put, key_cmp, nesting}
-use Rattle.arm_value.specs.Json.{pairs_nesting, members_nesting}
+use Rattle.arm_value.specs.Json.{Json, object, Member, pairs, put, key_cmp}
+use Rattle.arm_value.specs.Json.{members_nesting}
 use Rattle.arm_value.specs.Look.{fold, is_same_folded, first_by, or_else}
 use Rattle.arm_value.proofs.SetLemmas.{equal_keys}
 use Rattle.foundation.proofs.AsciiWords.{word}
-use Rattle.foundation.proofs.TruthValues.{both}
+use Rattle.foundation.proofs.TruthValues.{both, of_not}
 use Rattle.template_meaning.specs.Values.{inside}
 use Rattle.template_written.specs.Slots.{Slot, put_slot, put_slots, NestsWithin, SlotsNest}
+use Rattle.arm_value.proofs.JsonLemmas.{first_by_nests}
 
 -- ---- one member
 
@@ -221,10 +221,6 @@ folds_alike a b c e f =
     (bytes_eq-Decides (fold b) (fold c)).1
     (sym ((bytes_eq-Decides (fold a) (fold b)).0 e) ∙ (bytes_eq-Decides (fold a) (fold c)).0 f)
 
-of_not : (b : Bool) → not b ≡ true → b ≡ false
-of_not true e = let d : true ≡ false = sym e in cc
-of_not false e = refl
-
 same_words : (a b : List ℕ) → list_all (λ b. nat_lt b 128) a ≡ true → list_all (λ b. nat_lt b 128) b ≡ true
     → is_same_folded (chars a) (chars b) ≡ is_same_folded a b
 same_words a b e f = ap₂ is_same_folded (word a e) (word b f)
@@ -276,15 +272,6 @@ look_slot name ss ms a g n =
     ∙ either p q h ss once ∙ slot_found name ss a g
 
 -- ---- nesting
-
-first_by_nests : (p : List ℕ → Bool) (ms : Pairs) (v : Json) → first_by p ms ≡ Some v → nesting v ≤ pairs_nesting ms
-first_by_nests p no_pairs v e = cc
-first_by_nests p (pair k j ms) v e = at_first (p k) e (first_by_nests p ms v)
-  where
-    at_first : (b : Bool) → cond b (Some j) (first_by p ms) ≡ Some v
-        → (first_by p ms ≡ Some v → nesting v ≤ pairs_nesting ms) → nesting v ≤ max (nesting j) (pairs_nesting ms)
-    at_first true e h = let same : j ≡ v = cc in omega (arith, ap nesting same)
-    at_first false e h = omega (arith, h e)
 
 exact_none : (k : List ℕ) (ss : List Slot) → list_all (λ b. nat_lt b 128) k ≡ true → none_same k (names ss) ≡ true
     → are_apart (names ss) ≡ true → NonePass (bytes_eq (chars k)) ss

@@ -7,7 +7,7 @@ use Rattle.dealer_trait.specs.declared.dealer_step.DealerStep.{DealerStep}
 use Rattle.dealer_trait.specs.declared.note.Note.{Note}
 use Rattle.driver_loop.specs.Actions.{each, end_of, if_own, step_by, steps_of, hands_of, noted, notes_of, first_fault}
 use Rattle.driver_loop.specs.Actions.{fault_of}
-use Rattle.driver_loop.specs.Actions.{or_else, AreTakes}
+use Rattle.driver_loop.specs.Actions.{AreTakes}
 use Rattle.driver_loop.specs.Ends.{BeginsNoMore}
 use Rattle.driver_loop.specs.declared.action.Action.{Action}
 use Rattle.driver_loop.specs.declared.action.Action.TheVariants.{Hand, Take}
@@ -18,6 +18,7 @@ use Rattle.provider_trait.specs.declared.answer.Answer.{Answer}
 use Rattle.provider_trait.specs.declared.answer.ProviderFault.{ProviderFault}
 use Rattle.worker_crew.specs.Deals.{begun_by, begins, answer_by, answers, HasNoBack, HasNoBegin, BeginsNoneAfterBack}
 use Rattle.worker_crew.specs.Deals.{kept_of, kept, answers_to, notes_to}
+use Rattle.foundation.specs.Options.{or_else}
 
 not_begun : (k task : ℕ) (got : Result Answer ProviderFault) (r : Option BookFault)
     → begun_by k (end_of task got r) ≡ []

@@ -10,7 +10,7 @@ use Rattle.dealer_trait.specs.Steps.{NoneBegun}
 use Rattle.dealer_trait.specs.declared.book_fault.BookFault.{BookFault}
 use Rattle.dealer_trait.specs.declared.book_fault.BookFault.TheVariants.{Full, DiskFault, MustReopen}
 use Rattle.dealer_trait.specs.declared.dealer_step.DealerStep.{DealerStep}
-use Rattle.driver_loop.specs.Actions.{step_by, refusals_of, or_else, hand_by, dones_of, done_by}
+use Rattle.driver_loop.specs.Actions.{step_by, refusals_of, hand_by, dones_of, done_by}
 use Rattle.driver_loop.specs.Courses.{IsOfJob}
 use Rattle.driver_loop.specs.Moments.{Pages}
 use Rattle.driver_loop.specs.declared.fault.DriveFault.{DriveFault}
@@ -30,6 +30,7 @@ use Rattle.seat_calls.proofs.DoneLemmas.{of_none, jobs_none, made_none}
 use Rattle.worker_crew.proofs.DealLemmas.{begins_hands, answers_kept, notes_kept, none_after_back}
 use Rattle.worker_crew.specs.Driven.{Driven, HasFinished, HasEnded, HasDriven, CallsAt, CallsOf, HasNoJobs}
 use Rattle.worker_crew.specs.Driven.{HasRefused, IsCause}
+use Rattle.foundation.specs.Options.{or_else}
 
 -- the same calls, as another condition says them
 driven_as : (tells : Bool) (s s' : List DealerStep) (p p' : Pages) (n m : ℕ) (A B : ℕ → List Done → Type 0)

@@ -5,7 +5,7 @@ use Rattle.std.proofs.lemmas.Bool.Decides.{eqb_tells, leb_tells}
 use Rattle.std.specs.Prelude.{Result, Ok, Err}
 use Rattle.dealer_trait.specs.declared.book_fault.BookFault.{BookFault}
 use Rattle.dealer_trait.specs.declared.dealer_step.DealerStep.{DealerStep}
-use Rattle.driver_loop.specs.Actions.{each, first_fault, fault_of, or_else, dones_of, hands_of, refusals_of, refused_by}
+use Rattle.driver_loop.specs.Actions.{each, first_fault, fault_of, dones_of, hands_of, refusals_of, refused_by}
 use Rattle.driver_loop.specs.Courses.{Goes, Resembles}
 use Rattle.driver_loop.specs.Ends.{Closed, Strayed, Blames}
 use Rattle.driver_loop.specs.Moments.{Moment, moment, Pages}
@@ -28,6 +28,7 @@ use Rattle.crew_seating.specs.Closed.{Told, HasNone}
 use Rattle.worker_crew.specs.Driven.{Driven}
 use Rattle.crew_seating.proofs.BackLemmas.{answers_by, whole_by}
 use Rattle.worker_crew.proofs.DealLemmas.{begins_hands, answers_kept, notes_kept, none_after_back}
+use Rattle.foundation.specs.Options.{or_else}
 
 failed_or : (got : Result Answer ProviderFault) (r : Option BookFault) (w k : ℕ) (rest : Option DriveFault) (h : Bool)
     → (rest ≡ Some (Provider k) → h ≡ true) → or_else (fault_of w got r) rest ≡ Some (Provider k)

@@ -5,7 +5,7 @@ use Rattle.std.proofs.Common.{List, [], ◌∷◌, map, Option, Some, None, is_s
 use Rattle.std.proofs.Common.{if◌then◌else◌, Ordering, Less, Equal, Greater}
 use Rattle.std.specs.List.{list_any}
 use Rattle.std.specs.Ordering.{match_ordering}
-use Rattle.arm_expr.specs.Brackets.{is_bracketed}
+use Rattle.arm_expr.specs.Brackets.{is_bracketed, is_copy}
 use Rattle.arm_value.specs.Json.{Json, null, bool, int, text, array, object, Row, no_items, item, row, items, Member}
 use Rattle.arm_value.specs.Json.{no_pairs, pair, pairs, members, keys, put, key_cmp, nesting}
 use Rattle.arm_value.specs.Json.{row_nesting, pairs_nesting, members_nesting}
@@ -35,7 +35,7 @@ use Rattle.template_texts.specs.declared.sight.Place.{Place}
 use Rattle.template_texts.specs.declared.sight.Place.TheVariants.{Elsewhere}
 use Rattle.template_texts.specs.declared.sight.Sight.{Sight}
 use Rattle.template_values.specs.Order.{to_item, then_faults, then_members, decided}
-use Rattle.template_values.specs.Values.{is_copy, value_fault, loop_name, names_with}
+use Rattle.template_values.specs.Values.{value_fault, loop_name, names_with}
 use Rattle.template_written.specs.Slots.{Slot, put_slot, an_object, array_unless_empty, object_unless_empty}
 use Rattle.template_written.specs.Slots.{NestsWithin}
 use Rattle.template_written.specs.Parts.{loop_slots, named_loop, plain_variables, variable_loops, written_variables}
@@ -48,6 +48,7 @@ use Rattle.written_parts.proofs.FaultLemmas.{faulty_nothing}
 use Rattle.written_parts.proofs.ObjectLemmas.{object_within, inside_within, accepts_put, apart_put}
 use Rattle.written_parts.proofs.ValueLemmas.{kept_value, within_value, Kept}
 use Rattle.written_parts.proofs.PartLemmas.{ContentFine, loop_passes, relooped, loop_read}
+use Rattle.template_written.proofs.KeptLemmas.{plain_none}
 
 -- ---- members that make loops
 
@@ -145,10 +146,6 @@ loops_kept here place owner old new i (item j js) w e =
     )
 
 -- ---- variables
-
-plain_none : (js : List Json) → plain_variables (map looped_variable js) ≡ []
-plain_none [] = refl
-plain_none (j ∷ js) = plain_none js
 
 plain_back : (ms : List Member) (js : List Json)
     → plain_variables (map variable_of ms ++ map looped_variable js) ≡ ms

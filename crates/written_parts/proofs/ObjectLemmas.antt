@@ -1,6 +1,6 @@
 -- Objects whose members have fixed names: what a rule accepts of them, which names they have, and how deep they nest.
 use Rattle.std.proofs.Common.{◌≡◌, ◌≤◌, ℕ, suc, max, chars, nat_lt, bytes_eq, Bool, true, false, ◌&&◌, not}
-use Rattle.std.proofs.Common.{List, [], ◌∷◌, Option, Some, None, is_some, Ordering, Less, Equal, Greater, refl, sym}
+use Rattle.std.proofs.Common.{List, [], ◌∷◌, Option, Some, None, is_some, Ordering, Less, Equal, Greater, refl}
 use Rattle.std.proofs.Common.{ap, ◌∙◌}
 use Rattle.std.proofs.Common.{if◌then◌else◌, arith, ap₂}
 use Rattle.std.specs.List.{list_all}
@@ -10,7 +10,7 @@ use Rattle.arm_value.specs.Json.{put, key_cmp, nesting, pairs_nesting, members_n
 use Rattle.arm_value.specs.Look.{is_same_folded, first_by, or_else}
 use Rattle.arm_value.proofs.TreeLemmas.{put_nests}
 use Rattle.foundation.proofs.AsciiWords.{word}
-use Rattle.foundation.proofs.TruthValues.{both}
+use Rattle.foundation.proofs.TruthValues.{both, of_not}
 use Rattle.template_members.specs.Objects.{Single, Rule, members_fault, object_fault}
 use Rattle.template_meaning.specs.Values.{inside}
 use Rattle.template_values.specs.Order.{missing, decided}
@@ -122,10 +122,6 @@ accepts_words rule (s ∷ ss) ms w h a =
 pub accepts_slots : (rule : Rule) (ss : List Slot) (ms : List Member) → are_apart (names ss) ≡ true
     → SlotsPass rule ss → Accepts rule (pairs ms) → Accepts rule (pairs (put_slots ss ms))
 accepts_slots rule ss ms e h a = accepts_words rule ss ms (words_apart (names ss) e) h a
-
-of_not : (b : Bool) → not b ≡ true → b ≡ false
-of_not true e = let d : true ≡ false = sym e in cc
-of_not false e = refl
 
 slot_other : (p : List ℕ → Bool) (k : List ℕ) (o : Option Json) (ms : List Member) → p (chars k) ≡ false
     → first_by p (pairs ms) ≡ None → first_by p (pairs (put_slot k o ms)) ≡ None

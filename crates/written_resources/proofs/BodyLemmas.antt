@@ -35,6 +35,7 @@ use Rattle.written_parts.proofs.ObjectLemmas.{SlotsPass, NoneHas, FreeOf, AreIn,
 use Rattle.written_parts.proofs.ObjectLemmas.{slots_there}
 use Rattle.written_parts.proofs.ObjectLemmas.{slots_within}
 use Rattle.written_resources.proofs.ResourceLemmas.{copy_known}
+use Rattle.foundation.proofs.TruthValues.{or_true}
 
 -- ---- the members of a body
 
@@ -101,14 +102,6 @@ none_outside w symbol (m ∷ ms) h = by_test (is_outside symbol m.0) refl (none_
         ap (λ b. if b then Some m.1 else first_by (is_same_folded (chars w)) (pairs (body_of symbol ms)))
         (other (is_same_folded (chars w) m.0) refl e)
         ∙ r
-
-or_true : (a : Bool) → (a || true) ≡ true
-or_true true = refl
-or_true false = refl
-
-and_true : (a : Bool) → (a && true) ≡ a
-and_true true = refl
-and_true false = refl
 
 pub outside_type : (s : Option (List ℕ)) (k : List ℕ) → is_same_folded (chars (codes "type")) k ≡ true
     → is_outside s k ≡ true

@@ -5,8 +5,9 @@ use Rattle.bicep_found.proofs.GatherLemmas.{after, after-none, more_some, none_s
 use Rattle.bicep_names.specs.Scope.{scope}
 use Rattle.bicep_declared.specs.Declare.{part_declared}
 use Rattle.bicep_declared.specs.View.{declared_tree, declarations_tree, site_tree}
-use Rattle.bicep_declared.proofs.FileLemmas.{declared_at, of_equal, all_after}
+use Rattle.bicep_declared.proofs.FileLemmas.{declared_at, all_after}
 use Rattle.bicep_declared.proofs.files.declare_all.Goals as goal
+use Rattle.bicep_names.proofs.ArmLemmas.{of_equal}
 
 pub loop-site-init : goal.loop-site-init
 loop-site-init c =

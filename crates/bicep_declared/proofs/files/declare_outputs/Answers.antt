@@ -5,8 +5,9 @@ use Rattle.bicep_found.proofs.GatherLemmas.{after, after-none, more_some, none_s
 use Rattle.bicep_names.specs.Scope.{scope}
 use Rattle.bicep_declared.specs.Declare.{part_output}
 use Rattle.bicep_declared.specs.View.{output_tree, outputs_tree, site_tree}
-use Rattle.bicep_declared.proofs.FileLemmas.{output_at, of_equal, all_after}
+use Rattle.bicep_declared.proofs.FileLemmas.{output_at, all_after}
 use Rattle.bicep_declared.proofs.files.declare_outputs.Goals as goal
+use Rattle.bicep_names.proofs.ArmLemmas.{of_equal}
 
 pub loop-site-init : goal.loop-site-init
 loop-site-init c =

@@ -20,7 +20,7 @@ use Rattle.bicep_outcomes.specs.declared.stop.Stop.{Stop}
 use Rattle.bicep_outcomes.specs.declared.stop.Stop.TheVariants.{NoValue}
 use Rattle.bicep_outcomes.specs.Outcomes.{Gives, all_texts, all_json, all_members, whole}
 use Rattle.bicep_outcomes.proofs.OutcomeLemmas.{told-done}
-use Rattle.bicep_outcomes.proofs.ListLemmas.{left, follow, seen, follow-none, turned, turn_stops, all_given}
+use Rattle.bicep_outcomes.proofs.ListLemmas.{follow, seen, follow-none, turned, turn_stops, all_given}
 use Rattle.bicep_eval.specs.Values as spec
 use Rattle.bicep_outcomes.specs.declared.loops.Turn.{Turn}
 use Rattle.bicep_surroundings.specs.Sight.{AreSeen}
@@ -37,6 +37,7 @@ use Rattle.bicep_eval.proofs.CoalesceLemmas.{first_found, first_null, first_stop
 use Rattle.bicep_eval.proofs.RunLemmas.{runs_left, no_runs, turn_seen}
 use Rattle.bicep_eval.proofs.TruthLemmas.{decided_second, decided_first, decided_stops}
 use Rattle.bicep_eval.proofs.expressions.+evaluate.Goals as goal
+use Rattle.foundation.proofs.Lists.{next_item}
 
 pub evaluate-returns : goal.evaluate-returns
 evaluate-returns g t c =
@@ -61,7 +62,7 @@ values-returns-in-Err g t c =
     (m.values s.here s.around (sources (map source_of (drop (i + 1) c.args.items.now))) fs)
     (c.loop-item.invariant fs h
     ∙ ap (λ xs. follow (seen json c.loop-item.all) (told s.known (spec.values s (sources (map source_of xs)) fs)))
-    (left c.args.items.now i c.item-item.result c.loop-item-test.true c.item-item.is))
+    (next_item c.args.items.now i c.item-item.result c.loop-item-test.true c.item-item.is))
     (c.evaluate-value.ensures fs h) c.in-Err.ensures
 
 pub values-loop-item-preserved : goal.values-loop-item-preserved
@@ -74,7 +75,7 @@ values-loop-item-preserved g t c =
     (m.values s.here s.around (sources (map source_of (drop (i + 1) c.args.items.now))) fs)
     (c.loop-item.invariant fs h
     ∙ ap (λ xs. follow (seen json c.loop-item.all) (told s.known (spec.values s (sources (map source_of xs)) fs)))
-    (left c.args.items.now i c.item-item.result c.loop-item-test.true c.item-item.is))
+    (next_item c.args.items.now i c.item-item.result c.loop-item-test.true c.item-item.is))
     (c.evaluate-value.ensures fs h) c.in-Ok.ensures
 
 pub values-returns : goal.values-returns
@@ -105,7 +106,7 @@ holes-returns-in-Err g t c =
     (c.loop-item.invariant fs h
     ∙ ap (λ xs. follow (seen (λ (x : List ℕ). x) c.loop-item.all) (told s.known (spec.texts s (pieces
     (map piece_of xs)) fs)))
-    (left c.args.items.now i c.item-item.result c.loop-item-test.true c.item-item.is))
+    (next_item c.args.items.now i c.item-item.result c.loop-item-test.true c.item-item.is))
     (c.hole_of-text.ensures fs h) c.in-Err.ensures
 
 pub holes-loop-item-preserved : goal.holes-loop-item-preserved
@@ -119,7 +120,7 @@ holes-loop-item-preserved g t c =
     (c.loop-item.invariant fs h
     ∙ ap (λ xs. follow (seen (λ (x : List ℕ). x) c.loop-item.all) (told s.known (spec.texts s (pieces
     (map piece_of xs)) fs)))
-    (left c.args.items.now i c.item-item.result c.loop-item-test.true c.item-item.is))
+    (next_item c.args.items.now i c.item-item.result c.loop-item-test.true c.item-item.is))
     (c.hole_of-text.ensures fs h) c.in-Ok.ensures
 
 pub holes-returns : goal.holes-returns
@@ -151,7 +152,7 @@ members-returns-in-Err g t c =
     (c.loop-item.invariant fs h
     ∙ ap (λ xs. follow (seen member c.loop-item.all) (told s.known (spec.members s (properties
     (map property_of xs)) fs)))
-    (left c.args.items.now i c.item-item.result c.loop-item-test.true c.item-item.is))
+    (next_item c.args.items.now i c.item-item.result c.loop-item-test.true c.item-item.is))
     (c.member_of-field.ensures fs h) c.in-Err.ensures
 
 pub members-loop-item-preserved : goal.members-loop-item-preserved
@@ -165,7 +166,7 @@ members-loop-item-preserved g t c =
     (c.loop-item.invariant fs h
     ∙ ap (λ xs. follow (seen member c.loop-item.all) (told s.known (spec.members s (properties
     (map property_of xs)) fs)))
-    (left c.args.items.now i c.item-item.result c.loop-item-test.true c.item-item.is))
+    (next_item c.args.items.now i c.item-item.result c.loop-item-test.true c.item-item.is))
     (c.member_of-field.ensures fs h) c.in-Ok.ensures
 
 pub members-returns : goal.members-returns

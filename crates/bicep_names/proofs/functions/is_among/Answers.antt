@@ -1,9 +1,8 @@
 use Rattle.std.proofs.Common.{◌+◌, [], get_or, drop, map}
 use Rattle.std.specs.Str.{chars}
 use Rattle.arm_value.proofs.TextLemmas.{is_folded}
-use Rattle.bicep_names.proofs.FunctionLemmas.{Spelled, spelled, name_apart, no_name_left, name_found, name_passed}
-use Rattle.bicep_names.proofs.FunctionLemmas.{no_name}
 use Rattle.bicep_names.proofs.functions.is_among.Goals as goal
+use Rattle.arm_value.proofs.AmongLemmas.{Spelled, spelled, name_apart, no_name_left, name_found, name_passed, no_name}
 
 pub returns-then-folded_eq : goal.returns-then-folded_eq
 returns-then-folded_eq c =

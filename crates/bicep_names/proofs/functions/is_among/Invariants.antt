@@ -1,7 +1,7 @@
 use Rattle.std.proofs.Common.{◌≡◌, map, drop}
 use Rattle.std.specs.Str.{chars}
-use Rattle.bicep_names.specs.Functions.{is_among}
 use Rattle.bicep_names.proofs.functions.is_among.Given as goal
+use Rattle.arm_value.specs.Look.{is_among}
 
 -- the rest decides
 abbrev pub invariant-loop-other : goal.invariant-loop-other

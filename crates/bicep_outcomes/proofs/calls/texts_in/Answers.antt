@@ -2,8 +2,8 @@ use Rattle.std.proofs.Common.{◌≡◌, ◌∷◌, ◌++◌, ◌+◌, [], List,
 use Rattle.std.proofs.Common.{subst}
 use Rattle.arm_value.specs.View.{json}
 use Rattle.function_texts.specs.Cuts.{texts_in}
-use Rattle.bicep_outcomes.proofs.CallLemmas.{text_more, text_fails, text_ends}
 use Rattle.bicep_outcomes.proofs.calls.texts_in.Goals as goal
+use Rattle.arm_functions.proofs.CallLemmas.{text_ends, text_fails, text_more}
 
 pub returns-in-None : goal.returns-in-None
 returns-in-None c =

@@ -2,8 +2,8 @@ use Rattle.std.proofs.Common.{◌++◌, ◌∷◌, [], List, refl, sym, subst, a
 use Rattle.std.proofs.lemmas.List.{drop_all}
 use Rattle.bicep_outcomes.specs.declared.loops.Turn.{Turn}
 use Rattle.bicep_outcomes.specs.Outcomes.{AreCopies, IsInner}
-use Rattle.bicep_outcomes.proofs.ListLemmas.{left}
 use Rattle.bicep_outcomes.proofs.loops.within.Goals as goal
+use Rattle.foundation.proofs.Lists.{next_item}
 
 pub loop-outer-init : goal.loop-outer-init
 loop-outer-init c =
@@ -17,7 +17,7 @@ loop-outer-preserved c =
     (sym (append_assoc c.loop-outer.inner.items (c.copy_of.result ∷ []) cs))
     (c.loop-outer.invariant (c.copy_of.result ∷ cs)
     (subst (λ (ts : List Turn). AreCopies ts (c.copy_of.result ∷ cs))
-    (sym (left c.args.turns.now c.loop-outer.outer-index c.outer-item.result c.loop-outer-test.true c.outer-item.is))
+    (sym (next_item c.args.turns.now c.loop-outer.outer-index c.outer-item.result c.loop-outer-test.true c.outer-item.is))
     (c.copy_of.ensures, h))))
 
 pub returns : goal.returns

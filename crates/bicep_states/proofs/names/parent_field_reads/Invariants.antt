@@ -1,7 +1,7 @@
 use Rattle.std.proofs.Common.{◌≡◌, map, drop, codes}
 use Rattle.bicep_resolved.specs.View.{property_of, properties}
-use Rattle.bicep_mentions.specs.Names.{field_named}
 use Rattle.bicep_states.proofs.names.parent_field_reads.Given as goal
+use Rattle.bicep_resolved.specs.Source.{field_named}
 
 -- none of the fields before has that name
 abbrev pub invariant-loop-field : goal.invariant-loop-field

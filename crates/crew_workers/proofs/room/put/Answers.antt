@@ -1,6 +1,6 @@
 use Rattle.std.proofs.Common.{◌<◌, ◌++◌, ◌∷◌, [], ap, ◌∙◌, subst, get_or, vec_items, vec_len}
-use Rattle.crew_workers.proofs.MarkLemmas.{get_old, get_new}
 use Rattle.crew_workers.proofs.room.put.Goals as goal
+use Rattle.foundation.proofs.Lists.{get_new, get_old}
 
 pub returns-clause-before : goal.returns-clause-before
 returns-clause-before g c k d low =

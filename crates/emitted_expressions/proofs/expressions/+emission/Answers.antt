@@ -4,10 +4,11 @@ use Rattle.arm_expr.specs.Tree.{text}
 use Rattle.bicep_resolved.specs.View.{source_of, piece_of, property_of, sources, pieces, properties}
 use Rattle.bicep_emission.specs.Emitted as e
 use Rattle.bicep_emission.specs.Texts.{format_text}
-use Rattle.emitted_parts.proofs.BuiltLemmas.{left, grown, grown_twice, all_grown, one_grown}
+use Rattle.emitted_parts.proofs.BuiltLemmas.{grown, grown_twice, all_grown, one_grown}
 use Rattle.emitted_expressions.specs.Sight.{frames_of}
 use Rattle.emitted_expressions.specs.Values as spec
 use Rattle.emitted_expressions.proofs.expressions.+emission.Goals as goal
+use Rattle.foundation.proofs.Lists.{next_item}
 
 pub all-loop-item-preserved : goal.all-loop-item-preserved
 all-loop-item-preserved g t c =
@@ -20,7 +21,7 @@ all-loop-item-preserved g t c =
     (spec.all s (sources (map source_of (drop (i + 1) items))) fs) (spec.all s (sources (map source_of items)) fs)
     c.in-Ok.ensures c.emitted.ensures c.loop-item.invariant
     (ap (λ xs. spec.all s (sources (map source_of xs)) fs)
-    (left items i c.item-item.result c.loop-item-test.true c.item-item.is))
+    (next_item items i c.item-item.result c.loop-item-test.true c.item-item.is))
 
 pub all-returns : goal.all-returns
 all-returns g t c =
@@ -52,7 +53,7 @@ holes-loop-item-preserved g t c =
     (spec.format s c.args.first.now (pieces (map piece_of items)) fs)
     c.in-Ok-with.ensures c.hole.ensures c.loop-item.invariant
     (ap (λ xs. e.holes_of s.file s.files s.scope (pieces (map piece_of xs)) fs)
-    (left items i c.item-item.result c.loop-item-test.true c.item-item.is))
+    (next_item items i c.item-item.result c.loop-item-test.true c.item-item.is))
 
 pub holes-returns : goal.holes-returns
 holes-returns g t c =
@@ -78,7 +79,7 @@ members-loop-item-preserved g t c =
     (spec.members s (properties (map property_of items)) fs)
     c.with.ensures c.in-Ok.ensures c.name_of.ensures c.value_in-value.ensures c.loop-item.invariant
     (ap (λ xs. spec.members s (properties (map property_of xs)) fs)
-    (left items i c.item-item.result c.loop-item-test.true c.item-item.is))
+    (next_item items i c.item-item.result c.loop-item-test.true c.item-item.is))
 
 pub members-returns : goal.members-returns
 members-returns g t c =

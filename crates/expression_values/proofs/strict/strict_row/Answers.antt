@@ -7,10 +7,10 @@ use Rattle.arm_env.specs.Answer.{Gives}
 use Rattle.arm_env.specs.Sight.{here, held_of}
 use Rattle.arm_env.specs.Id.{resource_id, subscription_id}
 use Rattle.arm_env.specs.declared.function.Strict.{Strict}
-use Rattle.expression_values.specs.Row.{texts_in}
 use Rattle.expression_values.specs.Meaning.{strict_row}
 use Rattle.expression_values.proofs.IdLemmas.{id_is}
 use Rattle.expression_values.proofs.strict.strict_row.Goals as goal
+use Rattle.function_texts.specs.Cuts.{texts_in}
 
 pub returns-in-ResourceId : goal.returns-in-ResourceId
 returns-in-ResourceId g c =

@@ -1,9 +1,9 @@
 use Rattle.std.proofs.Common.{◌≡◌, ◌∷◌, ◌++◌, ◌+◌, [], List, ℕ, map, drop, option_map, sym, ap, ◌∙◌}
 use Rattle.std.proofs.Common.{subst}
 use Rattle.arm_value.specs.View.{json}
-use Rattle.expression_values.specs.Row.{texts_in}
-use Rattle.expression_values.proofs.RowLemmas.{text_more, text_fails, text_ends}
 use Rattle.expression_values.proofs.strict.texts_in.Goals as goal
+use Rattle.function_texts.specs.Cuts.{texts_in}
+use Rattle.arm_functions.proofs.CallLemmas.{text_ends, text_fails, text_more}
 
 pub returns-in-None : goal.returns-in-None
 returns-in-None c =

@@ -1,8 +1,8 @@
 use Rattle.std.proofs.Common.{◌≡◌, drop, map}
 use Rattle.std.specs.List.{list_all}
 use Rattle.arm_value.specs.View.{json}
-use Rattle.function_lists.specs.Members.{is_object}
 use Rattle.function_lists.proofs.unions.are_objects.Given as goal
+use Rattle.arm_value.specs.Kinds.{is_object}
 
 abbrev pub invariant-loop-value : goal.invariant-loop-value
 invariant-loop-value l = list_all is_object (map json (drop l.value-index l.values)) ≡ list_all is_object

@@ -1,8 +1,9 @@
 use Rattle.std.proofs.Common.{option_map, ap, sym, ◌∙◌, arith, refl}
 use Rattle.arm_value.specs.View.{json}
-use Rattle.literal_template.proofs.LoopLemmas.{item_within, member_within, stated_within, stated_item, stated_items}
-use Rattle.literal_template.proofs.LoopLemmas.{member_last, members_ordered, stated_member, stated_members}
+use Rattle.literal_template.proofs.LoopLemmas.{stated_within, stated_item, stated_items}
+use Rattle.literal_template.proofs.LoopLemmas.{stated_member, stated_members}
 use Rattle.literal_template.proofs.literals.+stated.Goals as goal
+use Rattle.arm_value.proofs.GatheredLemmas.{item_within, member_within, member_last, members_ordered}
 
 pub items_stated-stated-requires : goal.items_stated-stated-requires
 items_stated-stated-requires t c =

@@ -2,8 +2,8 @@ use Rattle.std.proofs.Common.{◌≡◌, ◌+◌, ◌*◌, ◌++◌, drop, map}
 use Rattle.arm_value.specs.Json.{nesting, items_nesting, members_nesting, row, pairs, IsInOrder}
 use Rattle.arm_value.specs.View.{json, member}
 use Rattle.literal_template.specs.Literals.{row_stated, pairs_stated}
-use Rattle.literal_template.proofs.LiteralLemmas.{with_row, with_pairs}
 use Rattle.literal_template.proofs.literals.+stated.Given as goal
+use Rattle.arm_value.proofs.GatheredLemmas.{with_row, with_pairs}
 
 abbrev pub decreases-fields_stated : goal.decreases-fields_stated
 decreases-fields_stated l = 2 * members_nesting l.fields.now + 1

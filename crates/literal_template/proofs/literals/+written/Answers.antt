@@ -3,10 +3,11 @@ use Rattle.arm_value.specs.Json.{row, pairs}
 use Rattle.arm_value.specs.View.{json}
 use Rattle.literal_template.specs.Whole.{RowIsWhole, PairsAreWhole}
 use Rattle.literal_template.proofs.WholeLemmas.{RowIsWhole-push, PairsAreWhole-push}
-use Rattle.literal_template.proofs.LoopLemmas.{item_within, member_within, written_within, written_item}
-use Rattle.literal_template.proofs.LoopLemmas.{written_items, member_last, members_ordered, written_member}
+use Rattle.literal_template.proofs.LoopLemmas.{written_within, written_item}
+use Rattle.literal_template.proofs.LoopLemmas.{written_items, written_member}
 use Rattle.literal_template.proofs.LoopLemmas.{written_members}
 use Rattle.literal_template.proofs.literals.+written.Goals as goal
+use Rattle.arm_value.proofs.GatheredLemmas.{item_within, member_within, member_last, members_ordered}
 
 pub items_written-written-requires : goal.items_written-written-requires
 items_written-written-requires t c =

@@ -3,8 +3,8 @@ use Rattle.arm_value.specs.Json.{nesting, items_nesting, members_nesting, row, p
 use Rattle.arm_value.specs.View.{json, member}
 use Rattle.literal_template.specs.Literals.{row_written, pairs_written}
 use Rattle.literal_template.specs.Whole.{RowIsWhole, PairsAreWhole}
-use Rattle.literal_template.proofs.LiteralLemmas.{then_row, then_pairs}
 use Rattle.literal_template.proofs.literals.+written.Given as goal
+use Rattle.arm_value.proofs.GatheredLemmas.{then_row, then_pairs}
 
 abbrev pub decreases-fields_written : goal.decreases-fields_written
 decreases-fields_written l = 2 * members_nesting l.fields.now + 1

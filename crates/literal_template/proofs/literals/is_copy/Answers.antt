@@ -1,6 +1,6 @@
 use Rattle.std.proofs.Common.{codes, ◌∙◌, refl}
-use Rattle.literal_template.proofs.Words.{same_bytes}
 use Rattle.literal_template.proofs.literals.is_copy.Goals as goal
+use Rattle.arm_value.proofs.TextLemmas.{same_bytes}
 
 pub returns : goal.returns
 returns c = c.eq.ensures

@@ -1,6 +1,6 @@
 use Rattle.std.proofs.Common.{arith}
-use Rattle.literal_template.proofs.LoopLemmas.{item_within, member_within}
 use Rattle.literal_template.proofs.plain.+plain.Goals as goal
+use Rattle.arm_value.proofs.GatheredLemmas.{item_within, member_within}
 
 pub items_are_plain-is_plain-requires : goal.items_are_plain-is_plain-requires
 items_are_plain-is_plain-requires t c =

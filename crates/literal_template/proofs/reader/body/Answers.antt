@@ -1,8 +1,9 @@
 use Rattle.std.proofs.Common.{option_map, ap, sym, ◌∙◌, arith, refl}
 use Rattle.arm_value.specs.View.{json}
-use Rattle.literal_template.proofs.LoopLemmas.{member_within, stated_within, member_last, members_ordered}
+use Rattle.literal_template.proofs.LoopLemmas.{stated_within}
 use Rattle.literal_template.proofs.ReadLemmas.{head_passed, order_passed, body_member, body_end}
 use Rattle.literal_template.proofs.reader.body.Goals as goal
+use Rattle.arm_value.proofs.GatheredLemmas.{member_within, member_last, members_ordered}
 
 pub loop-field-preserved-then-is_head : goal.loop-field-preserved-then-is_head
 loop-field-preserved-then-is_head c = record {

@@ -2,8 +2,8 @@ use Rattle.std.proofs.Common.{◌++◌, ◌∙◌, Some, ap, sym}
 use Rattle.tag_needs.specs.Tags.{tags_of}
 use Rattle.plan_codes.specs.NameCodes.{text_asks}
 use Rattle.name_tags.proofs.LoopLemmas.{asked_in_one}
-use Rattle.name_tags.proofs.TextLemmas.{if_ok}
 use Rattle.name_tags.proofs.asks.push_text_asks.Goals as goal
+use Rattle.foundation.proofs.Options.{if_ok}
 
 pub returns-in-One : goal.returns-in-One
 returns-in-One c =

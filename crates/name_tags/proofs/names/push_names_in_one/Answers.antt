@@ -1,7 +1,8 @@
 use Rattle.tag_needs.specs.Tags.{tags_of}
 use Rattle.plan_table.specs.Listed.{listed_of}
-use Rattle.name_tags.proofs.TextLemmas.{names_made, if_ok}
+use Rattle.name_tags.proofs.TextLemmas.{names_made}
 use Rattle.name_tags.proofs.names.push_names_in_one.Goals as goal
+use Rattle.foundation.proofs.Options.{if_ok}
 
 pub returns : goal.returns
 returns c =

@@ -2,10 +2,11 @@ use Rattle.std.proofs.Common.{refl, ap, ◌∙◌, arith}
 use Rattle.arm_value.specs.Json.{array, object, row, pairs}
 use Rattle.arm_value.specs.View.{json}
 use Rattle.plain_values.specs.Plain.{changed}
-use Rattle.plain_values.proofs.TextsLemmas.{item_within, member_within, next_item_within, next_member_within}
+use Rattle.plain_values.proofs.TextsLemmas.{member_within, next_item_within, next_member_within}
 use Rattle.plain_values.proofs.TextsLemmas.{member_last}
 use Rattle.plain_values.proofs.TextsLemmas.{all_items, all_members, row-each, pairs-each}
 use Rattle.plain_values.proofs.texts.+texts.Goals as goal
+use Rattle.arm_value.proofs.GatheredLemmas.{item_within}
 
 pub each_text-returns-in_ok-items_texts-in-Array : goal.each_text-returns-in_ok-items_texts-in-Array
 each_text-returns-in_ok-items_texts-in-Array t c =

@@ -1,9 +1,9 @@
 use Rattle.std.proofs.Common.{sym, ap, ◌∙◌, chars}
 use Rattle.std.specs.Prelude.{option_map}
-use Rattle.plan_cells.specs.Sites.{deployment_type}
 use Rattle.plan_names.specs.Named.{is_spelled}
 use Rattle.plan_names.proofs.AroundLemmas.{listed_at, listed_passed, listed_end}
 use Rattle.plan_names.proofs.around.first_among.Goals as goal
+use Rattle.arm_ids.specs.Members.{deployment_type}
 
 pub returns-in-Some : goal.returns-in-Some
 returns-in-Some c =

@@ -1,9 +1,10 @@
 use Rattle.std.proofs.Common.{◌≡◌, drop, map}
 use Rattle.arm_value.specs.View.{json}
 use Rattle.deploy_cells.specs.Listing.{instances_of}
-use Rattle.plan_cells.specs.Sites.{first_name, concat, deployment_type}
+use Rattle.plan_cells.specs.Sites.{first_name, concat}
 use Rattle.plan_names.specs.Named.{is_spelled}
 use Rattle.plan_names.proofs.around.first_among.Given as goal
+use Rattle.arm_ids.specs.Members.{deployment_type}
 
 abbrev pub invariant-loop-number : goal.invariant-loop-number
 invariant-loop-number l =

@@ -1,7 +1,7 @@
-use Rattle.plan_cells.specs.Sites.{deployment_type}
 use Rattle.plan_names.specs.Named.{is_spelled}
 use Rattle.plan_names.proofs.AroundLemmas.{name_at, name_passed, names_end}
 use Rattle.plan_names.proofs.around.first_of.Goals as goal
+use Rattle.arm_ids.specs.Members.{deployment_type}
 
 pub returns-then-branch : goal.returns-then-branch
 returns-then-branch c =

@@ -1,8 +1,8 @@
 use Rattle.arm_value.specs.View.{json}
-use Rattle.plan_cells.specs.Sites.{deployment_type}
 use Rattle.plan_names.specs.Named.{is_spelled}
 use Rattle.plan_names.proofs.AroundLemmas.{here_named, here_lacks}
 use Rattle.plan_names.proofs.around.named_here.Goals as goal
+use Rattle.arm_ids.specs.Members.{deployment_type}
 
 pub returns-in-Ok-key_listed : goal.returns-in-Ok-key_listed
 returns-in-Ok-key_listed c =

@@ -1,9 +1,9 @@
 use Rattle.std.proofs.Common.{map}
 use Rattle.arm_value.specs.View.{json}
 use Rattle.tag_needs.specs.Tags.{tags_of}
-use Rattle.plan_tasks.proofs.ListLemmas.{if_ok}
 use Rattle.plan_needs.proofs.InstanceLemmas.{asks_listed}
 use Rattle.plan_needs.proofs.instance.push_instance_asks.Goals as goal
+use Rattle.foundation.proofs.Options.{if_ok}
 
 pub returns : goal.returns
 returns c =

@@ -1,7 +1,7 @@
 use Rattle.tag_needs.specs.Tags.{tags_of}
-use Rattle.plan_tasks.proofs.ListLemmas.{if_ok}
 use Rattle.plan_needs.proofs.InstanceLemmas.{names_listed}
 use Rattle.plan_needs.proofs.instance.push_keyed_names.Goals as goal
+use Rattle.foundation.proofs.Options.{if_ok}
 
 pub returns : goal.returns
 returns c =

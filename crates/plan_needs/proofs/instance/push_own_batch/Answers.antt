@@ -1,9 +1,9 @@
 use Rattle.std.proofs.Common.{◌++◌, ◌∙◌, ap}
 use Rattle.tag_needs.specs.Tags.{tags_of}
-use Rattle.plan_tasks.proofs.ListLemmas.{if_ok}
 use Rattle.plan_needs.specs.Order.{number_by, loop_codes}
 use Rattle.plan_needs.proofs.InstanceLemmas.{few, loop_is}
 use Rattle.plan_needs.proofs.instance.push_own_batch.Goals as goal
+use Rattle.foundation.proofs.Options.{if_ok}
 
 pub push_batch-requires : goal.push_batch-requires
 push_batch-requires c =

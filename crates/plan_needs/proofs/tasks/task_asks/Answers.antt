@@ -1,8 +1,8 @@
 use Rattle.std.proofs.Common.{◌∙◌, map, ap, sym}
 use Rattle.arm_value.specs.View.{json}
-use Rattle.plan_tasks.proofs.ListLemmas.{if_ok}
 use Rattle.plan_needs.specs.Lists.{asks_of_task}
 use Rattle.plan_needs.proofs.tasks.task_asks.Goals as goal
+use Rattle.foundation.proofs.Options.{if_ok}
 
 pub returns-in-Leave : goal.returns-in-Leave
 returns-in-Leave c =

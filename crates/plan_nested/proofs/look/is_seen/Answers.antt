@@ -3,8 +3,9 @@ use Rattle.reading.specs.Reading.{pure}
 use Rattle.plan_cells.specs.Sites.{truth_of_found}
 use Rattle.plan_sight.specs.Ready.{told_in}
 use Rattle.plan_nested.specs.Sighted.{IsThere, found_of}
-use Rattle.plan_nested.proofs.OutputLemmas.{seen_inside, told_pure}
+use Rattle.plan_nested.proofs.OutputLemmas.{seen_inside}
 use Rattle.plan_nested.proofs.look.is_seen.Goals as goal
+use Rattle.plan_sight.proofs.ToldLemmas.{told_pure}
 
 pub returns-in-Scope : goal.returns-in-Scope
 returns-in-Scope c =

@@ -1,7 +1,7 @@
 use Rattle.tag_needs.specs.Tags.{tags_of}
-use Rattle.plan_tasks.proofs.ListLemmas.{if_ok}
 use Rattle.plan_openers.proofs.SameLemmas.{opened_tags}
 use Rattle.plan_openers.proofs.same.tags_of_scope.Goals as goal
+use Rattle.foundation.proofs.Options.{if_ok}
 
 pub returns-in-Some : goal.returns-in-Some
 returns-in-Some c =

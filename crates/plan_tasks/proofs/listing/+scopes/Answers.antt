@@ -3,8 +3,9 @@ use Rattle.plan_tasks.specs.Start.{IsFound, IsTaskOf}
 use Rattle.plan_tasks.specs.declared.task.ScopeTask.TheVariants.{Enter, Leave}
 use Rattle.plan_tasks.proofs.TableLemmas.{copies_within, resources_count}
 use Rattle.plan_tasks.proofs.ListLemmas.{each_more, put_listed, scope_listed, copies_begin, copies_more, there_at}
-use Rattle.plan_tasks.proofs.ListLemmas.{resources_more, resources_end, if_ok}
+use Rattle.plan_tasks.proofs.ListLemmas.{resources_more, resources_end}
 use Rattle.plan_tasks.proofs.listing.+scopes.Goals as goal
+use Rattle.foundation.proofs.Options.{if_ok}
 
 pub list_instance-returns-in_ok-push-in-Resource-clause-listed : goal.list_instance-returns-in_ok-push-in-Resource-clause-listed
 list_instance-returns-in_ok-push-in-Resource-clause-listed t c =

@@ -9,8 +9,8 @@ use Rattle.plan_sight.specs.Seen.{Stops}
 use Rattle.plan_sight.specs.declared.lack.Lack.TheVariants as lack
 use Rattle.plan_sights.specs.Resolved.{stop_of}
 use Rattle.plan_sights.specs.Seats.{texts_of}
-use Rattle.plan_telling.proofs.TellLemmas.{told_pure}
 use Rattle.plan_telling.proofs.lacks.text_lack.Goals as goal
+use Rattle.plan_sight.proofs.ToldLemmas.{told_pure}
 
 pub returns-then-by_names : goal.returns-then-by_names
 returns-then-by_names c =

@@ -5,7 +5,6 @@ use Rattle.arm_env.specs.Look.{seen, all}
 use Rattle.arm_env.specs.Held.{capped, held_value}
 use Rattle.arm_env.specs.Names.{lazy_named, placed_named, strict_named}
 use Rattle.expression_values.specs.Meaning.{called, used, outcome}
-use Rattle.expression_values.specs.Row.{texts_in}
 use Rattle.arm_ids.specs.Id.{text_of}
 use Rattle.arm_eval.specs.Text.{expression_of}
 use Rattle.deploy_cells.specs.Guarded.{guarded}
@@ -18,6 +17,7 @@ use Rattle.plan_cells.specs.Meaning.{raw, plain, meaning}
 use Rattle.plan_cells.specs.Tasks.{work}
 use Rattle.plan_cells.specs.Needs.{needs}
 use Rattle.plan_tests.proofs.examples.an_output_by_what_is_given.Goals as goal
+use Rattle.function_texts.specs.Cuts.{texts_in}
 
 pub returns : goal.returns
 unfolding continued beside both through told seen all capped held_value lazy_named placed_named strict_named called

@@ -3,8 +3,8 @@ use Rattle.deploy_cells.specs.Cells.{step, name}
 use Rattle.plan_table.specs.Found.{scope_at}
 use Rattle.plan_sight.proofs.LookLemmas.{found_some}
 use Rattle.plan_names.proofs.GatherLemmas.{no_copy}
-use Rattle.plan_values.proofs.NameLemmas.{read_of_line}
 use Rattle.plan_values.proofs.names.first_name.Goals as goal
+use Rattle.plan_deployments.proofs.ItemLemmas.{read_of_line}
 
 pub returns-in-Ok-Some : goal.returns-in-Ok-Some
 returns-in-Ok-Some c =

@@ -5,8 +5,8 @@ use Rattle.template_parameters.specs.Binding.{value_view}
 use Rattle.plan_cells.specs.Meaning.{bound_value}
 use Rattle.plan_sight.specs.Ready.{told_in}
 use Rattle.plan_table.specs.Whole.{whole_of}
-use Rattle.plan_values.proofs.RawLemmas.{told_pure}
 use Rattle.plan_values.proofs.parameters.bound_told.Goals as goal
+use Rattle.plan_sight.proofs.ToldLemmas.{told_pure}
 
 pub returns-in-Ok : goal.returns-in-Ok
 returns-in-Ok c =

@@ -7,8 +7,9 @@ use Rattle.plan_table.specs.Opened.{step_of}
 use Rattle.plan_sight.specs.Ready.{told_in}
 use Rattle.plan_sight.specs.Seen.{Yields}
 use Rattle.plan_telling.specs.Sources.{texts_in, read_at}
-use Rattle.plan_values.proofs.SiteLemmas.{loops_here, instance_site_is, one_listed}
+use Rattle.plan_values.proofs.SiteLemmas.{instance_site_is, one_listed}
 use Rattle.plan_values.proofs.scopes.told_in_instance.Goals as goal
+use Rattle.plan_telling.proofs.TellLemmas.{loops_here}
 
 pub returns-in-Ok : goal.returns-in-Ok
 returns-in-Ok c =

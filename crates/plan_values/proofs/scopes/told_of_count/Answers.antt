@@ -3,8 +3,9 @@ use Rattle.arm_value.specs.View.{json}
 use Rattle.plan_sight.specs.Ready.{told_in}
 use Rattle.plan_sight.specs.Seen.{Yields}
 use Rattle.plan_telling.specs.Sources.{texts_in, read_at}
-use Rattle.plan_values.proofs.SiteLemmas.{loops_here, count_site_is}
+use Rattle.plan_values.proofs.SiteLemmas.{count_site_is}
 use Rattle.plan_values.proofs.scopes.told_of_count.Goals as goal
+use Rattle.plan_telling.proofs.TellLemmas.{loops_here}
 
 pub returns : goal.returns
 returns c =

@@ -1,6 +1,6 @@
 use Rattle.std.proofs.Common.{arith}
-use Rattle.template_values.proofs.PartLemmas.{item_within, member_within}
 use Rattle.template_faults.proofs.count.+count.Goals as goal
+use Rattle.arm_value.proofs.GatheredLemmas.{item_within, member_within}
 
 pub row_count-tree_count-requires : goal.row_count-tree_count-requires
 row_count-tree_count-requires t c =

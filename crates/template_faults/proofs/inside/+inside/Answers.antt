@@ -1,8 +1,8 @@
 use Rattle.std.proofs.Common.{ap, arith}
 use Rattle.arm_value.specs.Json.{nesting}
 use Rattle.arm_value.specs.View.{json}
-use Rattle.template_values.proofs.PartLemmas.{item_within, member_within}
 use Rattle.template_faults.proofs.inside.+inside.Goals as goal
+use Rattle.arm_value.proofs.GatheredLemmas.{item_within, member_within}
 
 pub array_in-resource_in-requires : goal.array_in-resource_in-requires
 array_in-resource_in-requires t c =

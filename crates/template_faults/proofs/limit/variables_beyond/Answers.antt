@@ -3,8 +3,8 @@ use Rattle.arm_value.specs.Json.{pairs}
 use Rattle.arm_value.specs.Look.{look_in}
 use Rattle.template_parts.specs.declared.limit.Which.TheVariants as which
 use Rattle.template_faults.specs.Counts.{beyond, variable_count}
-use Rattle.template_faults.proofs.WordLemmas.{chars_variables}
 use Rattle.template_faults.proofs.limit.variables_beyond.Goals as goal
+use Rattle.template_parts.proofs.WordLemmas.{chars_variables}
 
 pub returns : goal.returns
 returns c =

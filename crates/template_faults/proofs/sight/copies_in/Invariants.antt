@@ -2,8 +2,8 @@ use Rattle.std.proofs.Common.{◌≡◌, drop, map}
 use Rattle.arm_value.specs.Json.{pairs}
 use Rattle.arm_value.specs.Look.{first_by}
 use Rattle.arm_value.specs.View.{member}
-use Rattle.template_values.specs.Values.{is_copy}
 use Rattle.template_faults.proofs.sight.copies_in.Given as goal
+use Rattle.arm_expr.specs.Brackets.{is_copy}
 
 abbrev pub invariant-loop-field : goal.invariant-loop-field
 invariant-loop-field l =

@@ -1,6 +1,6 @@
 use Rattle.std.proofs.Common.{arith}
-use Rattle.template_values.proofs.PartLemmas.{item_within, member_within}
 use Rattle.template_members.proofs.plain.+plain.Goals as goal
+use Rattle.arm_value.proofs.GatheredLemmas.{item_within, member_within}
 
 pub items_plain_fault-plain_fault-requires : goal.items_plain_fault-plain_fault-requires
 items_plain_fault-plain_fault-requires t c =

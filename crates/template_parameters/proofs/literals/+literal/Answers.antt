@@ -1,9 +1,10 @@
 use Rattle.std.proofs.Common.{option_map, ap, sym, ◌∙◌, arith, refl}
 use Rattle.arm_value.specs.View.{json}
-use Rattle.template_parameters.proofs.LoopLemmas.{item_within, member_within, literal_within, literal_item}
+use Rattle.template_parameters.proofs.LoopLemmas.{literal_within, literal_item}
 use Rattle.template_parameters.proofs.LoopLemmas.{literal_items}
-use Rattle.template_parameters.proofs.LoopLemmas.{member_last, members_ordered, literal_member, literal_members}
+use Rattle.template_parameters.proofs.LoopLemmas.{literal_member, literal_members}
 use Rattle.template_parameters.proofs.literals.+literal.Goals as goal
+use Rattle.arm_value.proofs.GatheredLemmas.{item_within, member_within, member_last, members_ordered}
 
 pub items_literal-literal-requires : goal.items_literal-literal-requires
 items_literal-literal-requires t c =

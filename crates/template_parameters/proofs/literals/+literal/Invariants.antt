@@ -2,8 +2,8 @@ use Rattle.std.proofs.Common.{◌≡◌, ◌+◌, ◌*◌, ◌++◌, drop, map}
 use Rattle.arm_value.specs.Json.{nesting, items_nesting, members_nesting, row, pairs, IsInOrder}
 use Rattle.arm_value.specs.View.{json, member}
 use Rattle.template_parameters.specs.Literal.{row_literal, pairs_literal}
-use Rattle.template_parameters.proofs.LiteralLemmas.{with_row, with_pairs}
 use Rattle.template_parameters.proofs.literals.+literal.Given as goal
+use Rattle.arm_value.proofs.GatheredLemmas.{with_row, with_pairs}
 
 abbrev pub decreases-fields_literal : goal.decreases-fields_literal
 decreases-fields_literal l = 2 * members_nesting l.fields.now + 1

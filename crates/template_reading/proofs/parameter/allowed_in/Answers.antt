@@ -2,8 +2,8 @@ use Rattle.std.proofs.Common.{Some, map, option_map, sym, ap, ◌∙◌}
 use Rattle.arm_value.specs.View.{json}
 use Rattle.plain_values.specs.Plain.{meant}
 use Rattle.template_meaning.specs.Parts.{allowed_in}
-use Rattle.template_meaning.proofs.ValueLemmas.{items-row}
 use Rattle.template_reading.proofs.parameter.allowed_in.Goals as goal
+use Rattle.arm_value.proofs.SameLemmas.{items-row}
 
 pub returns-in_ok-meant_items-in-Array : goal.returns-in_ok-meant_items-in-Array
 returns-in_ok-meant_items-in-Array c =

@@ -1,6 +1,6 @@
 use Rattle.std.proofs.Common.{arith}
-use Rattle.template_values.proofs.PartLemmas.{item_within, member_within}
 use Rattle.template_values.proofs.value.+fault.Goals as goal
+use Rattle.arm_value.proofs.GatheredLemmas.{item_within, member_within}
 
 pub items_fault-value_fault-requires : goal.items_fault-value_fault-requires
 items_fault-value_fault-requires t c =

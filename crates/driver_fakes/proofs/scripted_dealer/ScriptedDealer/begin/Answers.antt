@@ -7,8 +7,9 @@ use Rattle.driver_fakes.specs.Stages.{stage_of, has_refusal}
 use Rattle.driver_fakes.specs.declared.stage.Stage.TheVariants.{Open}
 use Rattle.driver_fakes.proofs.DealingLemmas.{waits}
 use Rattle.driver_fakes.proofs.StageLemmas.{stages_after, begin_sets, count_begun, done_after, waiting_not_done}
-use Rattle.driver_fakes.proofs.StageLemmas.{has_refusal-push, or_false}
+use Rattle.driver_fakes.proofs.StageLemmas.{has_refusal-push}
 use Rattle.driver_fakes.proofs.scripted_dealer.ScriptedDealer.begin.Goals as goal
+use Rattle.foundation.proofs.TruthValues.{or_false}
 
 pub invariant_of-self-clause-stages_are : goal.invariant_of-self-clause-stages_are
 invariant_of-self-clause-stages_are c =

@@ -3,8 +3,9 @@ use Rattle.dealer_trait.specs.Steps.{given_back}
 use Rattle.driver_fakes.specs.Stages.{stage_of, has_refusal}
 use Rattle.driver_fakes.specs.declared.stage.Stage.TheVariants.{Waiting}
 use Rattle.driver_fakes.proofs.StageLemmas.{ending, stages_after, back_sets, count_closed, done_after, open_not_done}
-use Rattle.driver_fakes.proofs.StageLemmas.{has_refusal-push, or_false}
+use Rattle.driver_fakes.proofs.StageLemmas.{has_refusal-push}
 use Rattle.driver_fakes.proofs.scripted_dealer.ScriptedDealerDealer.back.Goals as goal
+use Rattle.foundation.proofs.TruthValues.{or_false}
 
 pub push_step-requires : goal.push_step-requires
 push_step-requires c =

@@ -1,11 +1,10 @@
--- Names of a list, one after another.
-use Rattle.std.proofs.Common.{◌≡◌, ◌<◌, ◌≤◌, ◌+◌, ℕ, Bool, true, false, List, [], ◌∷◌, Bor, length, get_or, drop, map}
-use Rattle.std.proofs.Common.{add-one, refl, ap, sym, ◌∙◌}
+-- Whether a name is among names, found one by one.
+use Rattle.std.proofs.Common.{ℕ, List, Bor, ◌≡◌, ◌<◌, ◌+◌, ◌∷◌, length, get_or, drop, map, add-one, ap, ◌≤◌, [], Bool}
+use Rattle.std.proofs.Common.{true, refl, sym, ◌∙◌, false}
 use Rattle.std.specs.Str.{chars}
 use Rattle.std.proofs.Math.Seq.{drop-cons}
 use Rattle.std.proofs.lemmas.List.{drop_all}
-use Rattle.arm_value.specs.Look.{is_same_folded}
-use Rattle.bicep_misplaced.specs.Words.{is_among}
+use Rattle.arm_value.specs.Look.{is_same_folded, is_among}
 
 abbrev pub Spelled : Type 0
 Spelled = Bor (List ℕ)

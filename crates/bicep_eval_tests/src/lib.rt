@@ -1,8 +1,7 @@
 //! Tests of the values of Bicep expressions, over public items.
 //!
 //! A table is one text with a row in each line: an expression, and after an arrow its value as compact JSON, `none`, or
-//! the name of the variable that it waits for. There is nothing here but tests, so there is no edit that must be
-//! refused.
+//! the number of the variable that it waits for. `sample` has what the expressions can look at.
 #![tactic(auto)]
 
 #[cfg(test)]

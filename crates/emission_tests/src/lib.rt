@@ -1,7 +1,7 @@
 //! Tests of what Bicep expressions become in templates, over public items.
 //!
 //! A table is one text with a row in each line: an expression, and after an arrow the template expression that it
-//! becomes. There is nothing here but tests, so there is no edit that must be refused.
+//! becomes. `sample` has what declarations become.
 #![tactic(auto)]
 
 #[cfg(test)]

@@ -1,5 +1,5 @@
-mod SiteLemmas
+pub mod SiteLemmas
 pub mod RawLemmas
 mod NameLemmas
-mod BoundLemmas
-mod ValueLemmas
+pub mod BoundLemmas
+pub mod ValueLemmas

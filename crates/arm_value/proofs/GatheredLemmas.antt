@@ -13,6 +13,7 @@ use Rattle.arm_value.specs.View.{json, member}
 use Rattle.arm_value.specs.declared.value.Value.{Value}
 use Rattle.arm_value.specs.declared.value.Field.{Field}
 use Rattle.arm_value.proofs.SetLemmas.{drop_from}
+use Rattle.arm_value.proofs.JsonLemmas as parts
 
 abbrev pub ValueNests : ℕ → Option Json → Type 0
 ValueNests n None = Unit {0}

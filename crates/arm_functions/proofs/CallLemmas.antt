@@ -22,6 +22,11 @@ pub onto : (done : List (List ℕ)) (t : List ℕ) (o : Option (List (List ℕ))
 onto done t (Some ts) = ap Some (append_assoc done (t ∷ []) ts)
 onto done t None = refl
 
+pub by_text : (o : Option (List ℕ)) (t : List ℕ) (js : List Json) → Some t ≡ o
+    → option_and_then (λ t. option_map (λ ts. t ∷ ts) (texts_in js)) o
+    ≡ option_map (λ ts. t ∷ ts) (texts_in js)
+by_text o t js e = ap (option_and_then (λ t. option_map (λ ts. t ∷ ts) (texts_in js))) (sym e)
+
 pub text_ends : (vs : List Value) (i : ℕ) (done : List (List ℕ)) (all : Option (List (List ℕ)))
     → length vs ≤ i → option_map (λ ts. done ++ ts) (texts_in (map json (drop i vs))) ≡ all
     → Some done ≡ all
@@ -50,11 +55,6 @@ text_more vs i v done t all l e h before =
     ∙ ap (option_map (λ ts. done ++ ts))
     (sym (by_text (text_of (json v)) t (map json (drop (i + 1) vs)) h))
     ∙ ap (λ js. option_map (λ ts. done ++ ts) (texts_in js)) (sym (next_in vs i v l e)) ∙ before
-
-pub by_text : (o : Option (List ℕ)) (t : List ℕ) (js : List Json) → Some t ≡ o
-    → option_and_then (λ t. option_map (λ ts. t ∷ ts) (texts_in js)) o
-    ≡ option_map (λ ts. t ∷ ts) (texts_in js)
-by_text o t js e = ap (option_and_then (λ t. option_map (λ ts. t ∷ ts) (texts_in js))) (sym e)
 
 pub unless_admitted : (b : Bool) (f : FunctionFault) (v : Option Json)
     → (if b then None else Some WrongCount) ≡ Some f → (if b then v else None) ≡ None

@@ -13,7 +13,7 @@ use bicep_lexer::LexFault;
 use bicep_parser::ParseFault;
 
 // Writes the whole text, or a beginning of it where the output fails.
-#[tactic(auto, using(crate::proofs::Parts::part_next))]
+#[tactic(auto, using(foundation::proofs::Lists::part_next))]
 fn write_all<O: Sink>(out: &mut O, text: &str) -> Result<(), Failed>
     ensures wrote { Wrote O.tells_written (O.written out.old) (O.written out.new)
         text.now result }

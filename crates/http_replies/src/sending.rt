@@ -8,7 +8,7 @@ use arm_edges::{Failed, Sink};
 
 /// Writes all the bytes, in as many calls as the sink takes for them. Where a call fails, a beginning of them was
 /// written.
-#[tactic(auto, using(crate::proofs::SentLemmas::part_next))]
+#[tactic(auto, using(foundation::proofs::Lists::part_next))]
 pub fn send_all<S: Sink>(sink: &mut S, bytes: &[u8]) -> Result<(), Failed>
     ensures sent { Sent S.tells_written (S.written sink.old) (S.written sink.new) bytes.now result }
     ensures apart { S.incoming sink.new ≡ S.incoming sink.old }

@@ -75,7 +75,7 @@ fn is_true(value: Option<&Value>) -> bool
 }
 
 // Whether a resource exists already.
-#[tactic(auto, using(crate::proofs::WordLemmas::chars_existing))]
+#[tactic(auto, using(template_parts::proofs::WordLemmas::chars_existing))]
 fn exists(value: &Value) -> bool
     ensures { result ≡ exists (json value.now) }
 {

@@ -104,7 +104,7 @@ fn later_count_fault(template: &Fields) -> Option<TemplateFault>
 }
 
 /// The first number of a template that is beyond its limit: its outputs, parameters, resources and variables.
-#[tactic(auto, using(crate::proofs::WordLemmas::chars_outputs, crate::proofs::WordLemmas::chars_parameters))]
+#[tactic(auto, using(crate::proofs::WordLemmas::chars_outputs, template_parts::proofs::WordLemmas::chars_parameters))]
 pub fn count_fault(template: &Fields) -> Option<TemplateFault>
     ensures { result ≡ count_fault (pairs template.now) }
 {

@@ -6,7 +6,7 @@ ghost use Rattle.arm_value.specs.Look.{is_same_folded};
 use arm_value::Text;
 
 /// Whether the member has resources.
-#[tactic(auto, using(crate::proofs::WordLemmas::chars_resources))]
+#[tactic(auto, using(template_parts::proofs::WordLemmas::chars_resources))]
 pub fn is_resources(name: &Text) -> bool
     ensures { result ≡ is_same_folded (codes "resources") name.now }
 {
@@ -14,7 +14,7 @@ pub fn is_resources(name: &Text) -> bool
 }
 
 /// Whether the member has properties.
-#[tactic(auto, using(crate::proofs::WordLemmas::chars_properties))]
+#[tactic(auto, using(template_parts::proofs::WordLemmas::chars_properties))]
 pub fn is_properties(name: &Text) -> bool
     ensures { result ≡ is_same_folded (codes "properties") name.now }
 {
@@ -30,7 +30,7 @@ pub fn is_template(name: &Text) -> bool
 }
 
 /// Whether the member has parameters.
-#[tactic(auto, using(crate::proofs::WordLemmas::chars_parameters))]
+#[tactic(auto, using(template_parts::proofs::WordLemmas::chars_parameters))]
 pub fn is_parameters(name: &Text) -> bool
     ensures { result ≡ is_same_folded (codes "parameters") name.now }
 {
@@ -38,7 +38,7 @@ pub fn is_parameters(name: &Text) -> bool
 }
 
 /// Whether the member has the mode of a nested deployment.
-#[tactic(auto, using(crate::proofs::WordLemmas::chars_mode))]
+#[tactic(auto, using(template_parts::proofs::WordLemmas::chars_mode))]
 pub fn is_mode(name: &Text) -> bool
     ensures { result ≡ is_same_folded (codes "mode") name.now }
 {

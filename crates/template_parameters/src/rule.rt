@@ -144,7 +144,7 @@ fn characters(text: &Text) -> usize
 }
 
 // Whether the value, or its length, is within the bounds.
-#[tactic(auto, using(crate::proofs::RowLemmas::row_length_row))]
+#[tactic(auto, using(arm_value::proofs::JsonLemmas::row_length_row))]
 fn is_within(bounds: Bounds, value: &Value) -> bool
     ensures { result ≡ is_within bounds (json value.now) }
 {

@@ -62,5 +62,5 @@ mutual
     loop : ℕ → SourceTree → LoopTree
 
 abbrev pub field_named : List ℕ → PropertyTrees → Option ValueTree
-field_named name no_property = None
-field_named name (property at x v ps) = if bytes_eq x name then Some v else field_named name ps
+field_named x no_property = None
+field_named x (property at y v ps) = if bytes_eq y x then Some v else field_named x ps

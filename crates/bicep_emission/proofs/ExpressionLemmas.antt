@@ -100,7 +100,7 @@ module _ (x : Sides) (here : Here) (ls : List Looping) (plain_place : IsPlainPla
   pub holds : (e : Tree) → Plain e → HoldsValue x around e
   holds e p = p ∙ sym (held_is e)
 
-  is_plain : (e : Tree) → HoldsValue x around e → Plain e
+  pub is_plain : (e : Tree) → HoldsValue x around e → Plain e
   is_plain e p = p ∙ held_is e
 
   pub stands : (e : Tree) (r : Reads Json) → Like x (value around e) (capped r) → Plain e → Stands x around e r

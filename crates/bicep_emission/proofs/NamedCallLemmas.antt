@@ -12,8 +12,7 @@ use Rattle.arm_value.specs.Look.{fold, is_same_folded, is_among}
 use Rattle.arm_expr.specs.Tree.{Trees, call}
 use Rattle.arm_functions.specs.Table.{row_of}
 use Rattle.arm_functions.specs.Values.{function_value}
-use Rattle.function_texts.specs.Cuts as cuts
-use Rattle.function_numbers.specs.Kinds.{text_of, of_none}
+use Rattle.function_numbers.specs.Kinds.{of_none}
 use Rattle.reading.specs.Reading.{done, none, continued}
 use Rattle.arm_env.specs.Look as look
 use Rattle.arm_env.specs.Look.{Looking, Surroundings}
@@ -122,12 +121,6 @@ is_placed name =
     (chosen_placed (is_same_folded (codes "subscription") name) strict.Subscription _ tt
     (chosen_placed (is_same_folded (codes "deployment") name) strict.Deployment None tt tt))))
 
--- the texts of values, by either definition
-same_texts : (vs : List Json) → texts_in vs ≡ cuts.texts_in vs
-unfolding texts_in cuts.texts_in
-same_texts [] = refl
-same_texts (v ∷ vs) = ap (λ o. option_and_then (λ t. option_map (λ ts. t ∷ ts) o) (text_of v)) (same_texts vs)
-
 module _ (x : Sides) (here : Surroundings) where
   abbrev sees : {A : Type 0} → Looking A → Seen A
   sees r = seen_in x.template x.template_marks r
@@ -155,9 +148,7 @@ module _ (x : Sides) (here : Surroundings) where
   pub placed_row : (f : Strict) → IsPlaced (Some f) → (vs : List Json)
       → sees (used (strict_row here f vs)) ≡ done_seen (kept_of (placed_value here.place f vs))
   placed_row strict.ResourceId h vs = by_texts (resource_id here.place) (texts_in vs)
-      ∙ ap (λ o. done_seen (kept_of (option_map text (option_and_then (resource_id here.place) o)))) (same_texts vs)
   placed_row strict.SubscriptionResourceId h vs = by_texts (subscription_id here.place) (texts_in vs)
-      ∙ ap (λ o. done_seen (kept_of (option_map text (option_and_then (subscription_id here.place) o)))) (same_texts vs)
   placed_row strict.ResourceGroup h vs = of_value (of_none (object.resource_group here.place) vs)
   placed_row strict.Subscription h vs = of_value (of_none (object.subscription here.place) vs)
   placed_row strict.Deployment h vs = of_value (of_none (object.deployment here.place) vs)

@@ -1,2 +1,2 @@
-mod ItemLemmas
+pub mod ItemLemmas
 mod ListLemmas

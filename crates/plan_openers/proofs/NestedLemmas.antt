@@ -39,8 +39,6 @@ use Rattle.plan_tasks.specs.Start.{start_of, IsStartTable, IsInstance}
 use Rattle.plan_openers.specs.declared.opener.Opener.{Opener}
 use Rattle.plan_openers.specs.Openers.{IsOpener}
 use Rattle.arm_value.specs.Kinds.{is_true}
-use Rattle.plan_refusals.proofs.RefusalLemmas.{position_in}
-use Rattle.plan_tasks.proofs.TableLemmas.{step_in}
 
 -- ---- of a scope that is there, its nested deployment
 
@@ -166,6 +164,14 @@ record IsSpotOf (os : List Opened) (x : Spot) (p : Position) (s : Step) : Type 0
   frame : ℕ
   is : x ≡ Included frame s.resource s.copy
   at : (opened_at os frame).position ≡ p
+
+position_in : Cell → Position
+position_in (included p s) = p
+position_in _ = []
+
+step_in : Cell → Step
+step_in (included p s) = s
+step_in _ = step 0 0
 
 spot_of : (os : List Opened) (x : Spot) (p : Position) (s : Step) → cell_of os x ≡ included p s → IsSpotOf os x p s
 unfolding position_in step_in

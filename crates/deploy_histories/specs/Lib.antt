@@ -1,0 +1,9 @@
+pub mod Planned
+pub mod Events
+pub mod Points
+pub mod Values
+pub mod Readiness
+pub mod Legal
+pub mod Answers
+pub mod Outcome
+pub mod Endings

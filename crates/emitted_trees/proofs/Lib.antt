@@ -1,0 +1,6 @@
+pub mod PutLemmas
+pub mod ItemLemmas
+pub mod CollectedLemmas
+pub mod TemplateLemmas
+pub mod LoopLemmas
+pub mod TreeLemmas

@@ -1,0 +1,5 @@
+pub mod Templates
+pub mod EmittedTrees
+pub mod Written
+pub mod Sound
+pub mod Standing

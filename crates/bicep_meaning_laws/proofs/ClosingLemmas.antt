@@ -1,10 +1,10 @@
 -- What declarations read is of the symbols to which they lead.
 use Rattle.std.proofs.Common.{◌≡◌, ℕ, zero, suc, List, [], ◌∷◌, Option, Some, None, Bool, true, false, refl, ap}
-use Rattle.std.proofs.Common.{cond, inl, inr, ◌∙◌}
+use Rattle.std.proofs.Common.{cond, inl, inr, ◌++◌, ◌∙◌, pos}
 use Rattle.std.specs.Prelude.{codes, slice_get, option_and_then, option_map}
-use Rattle.arm_value.specs.Json.{Json}
+use Rattle.arm_value.specs.Json.{Json, int}
 use Rattle.arm_value.specs.Look.{fold}
-use Rattle.reading.specs.Reading.{done, read, continued, both}
+use Rattle.reading.specs.Reading.{done, pure, read, continued, both}
 use Rattle.reading.specs.World.{value_in, reads_in, Each}
 use Rattle.reading.specs.Knowledge.{Has}
 use Rattle.deploy_cells.specs.Cells as cell
@@ -18,16 +18,17 @@ use Rattle.bicep_declared.specs.Declarations as d
 use Rattle.bicep_circles.specs.Mentions.{mentions, value_mentions, each_mentions}
 use Rattle.bicep_meaning.specs.Files.{symbol_name, declaration, field_named, Parent, no_parent, inside, below, parent}
 use Rattle.bicep_meaning.specs.Files.{type_of}
-use Rattle.bicep_meaning.specs.Around.{Here, Frame, index_of}
-use Rattle.bicep_meaning.specs.Meaning.{bare, value, value_of, frames}
+use Rattle.bicep_meaning.specs.Around.{Here, Frame, element, index_of, run_at}
+use Rattle.bicep_meaning.specs.Meaning.{bare, bare_value, value, value_of, frames}
 use Rattle.bicep_meaning.specs.Declared.{symbol_in_loop, named_by_symbol, id_named}
 use Rattle.bicep_meaning.specs.Declared.{id_after, value_or_none, variable_value}
 use Rattle.bicep_meaning.specs.Declared.{over, module_name, name_by, name_value}
 use Rattle.bicep_meaning.specs.Declared.{id_by, id_of, declared, around, body_of}
 use Rattle.bicep_meaning_laws.specs.Reached.{some_mentions, used_by, parent_used, uses, led_to, all_led_to}
-use Rattle.bicep_meaning_laws.specs.Reached.{IsMentioned}
+use Rattle.bicep_meaning_laws.specs.Reached.{IsMentioned, IsOfOne}
 use Rattle.bicep_meaning_laws.proofs.FineLemmas.{Fine, fine-done, fine-read, fine-continued, fine-then, fine-capped}
-use Rattle.bicep_meaning_laws.proofs.FineLemmas.{fine-both}
+use Rattle.bicep_meaning_laws.proofs.FineLemmas.{fine-both, fine-element}
+use Rattle.bicep_meaning_laws.proofs.SameLemmas.{first, second}
 use Rattle.bicep_meaning_laws.proofs.MentionLemmas.{Q, FineFrames, IsFine, first_of, second_of, head_of, reached_of}
 use Rattle.bicep_meaning_laws.proofs.MentionLemmas.{fine-bare, fine-value, fine-frames, fine-index}
 
@@ -179,3 +180,33 @@ reads_mentioned here w k e =
     let ms = all_led_to here.file k (mentions e) in
     fine-capped w (Q here w (λ n. Has n ms)) (bare here (around here k) e [])
     (fine-bare here w (λ n. Has n ms) k (all_fine here w (λ n. Has n ms) k) e [] (has_all ms ms (λ n g. g)) tt)
+
+-- what a value outside loops reads
+pub values_mentioned : (here : Here) (w : World) (k : ℕ) (v : ValueTree)
+    → Each (IsOfOne here w (all_led_to here.file k (value_mentions v)))
+    (reads_in w (value_of here (around here k) v []))
+values_mentioned here w k v =
+    let ms = all_led_to here.file k (value_mentions v) in
+    fine-capped w (Q here w (λ n. Has n ms)) (bare_value here (around here k) v [])
+    (fine-value here w (λ n. Has n ms) k (all_fine here w (λ n. Has n ms) k) v [] (has_all ms ms (λ n g. g)) tt)
+
+-- what a value reads in a run of a loop
+pub runs_mentioned : (here : Here) (w : World) (j k i : ℕ) (xs : SourceTree) (v : ValueTree)
+    → Each (IsOfOne here w (all_led_to here.file j (mentions xs) ++ all_led_to here.file k (value_mentions v)))
+    (reads_in w (value_of here (around here k) v (run_at (value here (around here j) xs []) i ∷ [])))
+unfolding element
+runs_mentioned here w j k i xs v =
+    let over = all_led_to here.file j (mentions xs) in
+    let own = all_led_to here.file k (value_mentions v) in
+    let all = has_all (over ++ own) (over ++ own) (λ n g. g) in
+    fine-capped w (Q here w (λ n. Has n (over ++ own)))
+    (bare_value here (around here k) v (run_at (value here (around here j) xs []) i ∷ []))
+    (fine-value here w (λ n. Has n (over ++ own)) k (all_fine here w (λ n. Has n (over ++ own)) k) v
+    (run_at (value here (around here j) xs []) i ∷ []) (second (λ n. Has n (over ++ own)) over own all) (
+      fine-element w (Q here w (λ n. Has n (over ++ own))) (value here (around here j) xs []) (pure (int (pos i)))
+          (fine-capped w (Q here w (λ n. Has n (over ++ own))) (bare here (around here j) xs [])
+          (fine-bare here w (λ n. Has n (over ++ own)) j (all_fine here w (λ n. Has n (over ++ own)) j) xs []
+          (first (λ n. Has n (over ++ own)) over own all) tt))
+          (fine-done w (Q here w (λ n. Has n (over ++ own))) (Some (int (pos i)))),
+      tt,
+    ))

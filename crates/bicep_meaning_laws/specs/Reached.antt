@@ -92,3 +92,7 @@ IsOf here w M c = HasOutput here w M c
 -- the cell is of a symbol to which the expression leads
 abbrev pub IsMentioned : Here → World → ℕ → SourceTree → Cell → Type 0
 IsMentioned here w k e c = IsOf here w (λ n. Has n (all_led_to here.file k (mentions e))) c
+
+-- the cell is of a symbol of the list
+abbrev pub IsOfOne : Here → World → List ℕ → Cell → Type 0
+IsOfOne here w ns c = IsOf here w (λ n. Has n ns) c

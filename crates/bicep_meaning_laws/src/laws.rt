@@ -1,17 +1,18 @@
 // What holds of the meanings of all declarations and expressions. A law has no body: its contract is the law.
-ghost use Rattle.std.specs.Prelude.{◌≡◌, ◌<◌, ℕ, List, [], Some};
+ghost use Rattle.std.specs.Prelude.{◌≡◌, ◌<◌, ℕ, List, [], ◌∷◌, ◌++◌, Some};
 ghost use Rattle.arm_value.specs.Json.{text};
 ghost use Rattle.arm_ids.specs.declared.id.ResourceId.{ResourceId};
 ghost use Rattle.reading.specs.World.{value_in, reads_in, Each};
 ghost use Rattle.deploy_cells.specs.Cells.{World};
-ghost use Rattle.bicep_resolved.specs.Source.{SourceTree};
+ghost use Rattle.bicep_resolved.specs.Source.{SourceTree, ValueTree};
+ghost use Rattle.bicep_circles.specs.Mentions.{mentions, value_mentions};
 ghost use Rattle.deploy_cells.specs.Puts.{id_at};
 ghost use Rattle.bicep_meaning.specs.Files.{type_of};
-ghost use Rattle.bicep_meaning.specs.Around.{Here, Frame};
-ghost use Rattle.bicep_meaning.specs.Meaning.{value};
+ghost use Rattle.bicep_meaning.specs.Around.{Here, Frame, run_at};
+ghost use Rattle.bicep_meaning.specs.Meaning.{value, value_of};
 ghost use Rattle.bicep_meaning.specs.Declared.{around};
 ghost use Rattle.bicep_meaning_laws.specs.Ranked.{IsRanked, IsSettled};
-ghost use Rattle.bicep_meaning_laws.specs.Reached.{IsMentioned};
+ghost use Rattle.bicep_meaning_laws.specs.Reached.{all_led_to, IsMentioned, IsOfOne};
 
 /// Where each declaration mentions only symbols of lower rank, each means what its expressions mean.
 pub fn declarations_settle()
@@ -24,6 +25,21 @@ pub fn declarations_settle()
 pub fn reads_are_of_what_is_mentioned()
     ensures { (here : Here) (w : World) (k : ℕ) (e : SourceTree)
         → Each (IsMentioned here w k e) (reads_in w (value here (around here k) e [])) }
+{}
+
+/// The same of the value of a variable or an output, which may be a for-expression.
+pub fn reads_of_values_are_of_what_is_mentioned()
+    ensures { (here : Here) (w : World) (k : ℕ) (v : ValueTree)
+        → Each (IsOfOne here w (all_led_to here.file k (value_mentions v)))
+        (reads_in w (value_of here (around here k) v [])) }
+{}
+
+/// What a value in a body reads in a run of the loop around it is of a symbol to which the value leads, or what the
+/// loop runs over.
+pub fn reads_in_runs_are_of_what_is_mentioned()
+    ensures { (here : Here) (w : World) (j k i : ℕ) (xs : SourceTree) (v : ValueTree)
+        → Each (IsOfOne here w (all_led_to here.file j (mentions xs) ++ all_led_to here.file k (value_mentions v)))
+        (reads_in w (value_of here (around here k) v (run_at (value here (around here j) xs []) i ∷ []))) }
 {}
 
 /// The id of a resource is that of its whole type and its full name.

@@ -81,6 +81,8 @@ pub const FUNCTIONS: &str = "param name string
 param location string = resourceGroup().location
 param storageName string
 param extra object = {}
+@secure()
+param accountKey string
 
 var workers = 2
 
@@ -96,12 +98,11 @@ resource insights 'Microsoft.Insights/components@2020-02-02' = {
   }
 }
 
-var key = listKeys(account.id, account.apiVersion).keys[0].value
 var connection = join([
   'DefaultEndpointsProtocol=https'
   'AccountName=${account.name}'
-  'AccountKey=${key}'
-  'EndpointSuffix=${environment().suffixes.storage}'
+  'AccountKey=${accountKey}'
+  'EndpointSuffix=core.windows.net'
 ], ';')
 
 var settings = [
@@ -137,19 +138,19 @@ resource app 'Microsoft.Web/sites@2022-09-01' = {
 }
 
 output host string = app.properties.defaultHostName
-output key string = az.listKeys('${app.id}/host/default', '2022-09-01').functionKeys.default
+output slots string = '${az.resourceId('Microsoft.Web/sites', name)}/slots'
 ";
 
 const FUNCTIONS_PARTS: &str = "\
 resource insights properties => { Application_Type: 'web', 'hidden-link': 'none' }
-var key => listKeys(account.id, account.apiVersion).keys[0].value
+param accountKey @ => @secure()
 var connection => join(['DefaultEndpointsProtocol=https', 'AccountName=${account.name}', \
-    'AccountKey=${key}', 'EndpointSuffix=${environment().suffixes.storage}'], ';')
+    'AccountKey=${accountKey}', 'EndpointSuffix=core.windows.net'], ';')
 var settings 3.value => string({{workers * 2} - 1})
 var more => [for pair in items(extra): { name: toUpper(pair.key), value: '${pair.value}' }]
 resource app properties.siteConfig.functionAppScaleLimit => {({extra.?limit ?? 10}) * workers}
 resource app slot => 'slots' = if ({contains(extra, 'slot') && {extra.slot != ''}}) {..}
-output key => string = az.listKeys('${app.id}/host/default', '2022-09-01').functionKeys.default
+output slots => string = '${az.resourceId('Microsoft.Web/sites', name)}/slots'
 ";
 
 /// A container app that pulls by an identity, with its secrets in a loop.
@@ -388,7 +389,7 @@ resource cluster properties.agentPoolProfiles.maxCount => {2 * ({pool.value + 1}
 resource quiet properties.timeInWeek => [{ day: 'Sunday', hourSlots: [1, 2, 3] }]
 ";
 
-/// A bus with queues and topics, whose children are four resources deep.
+/// A bus with queues and topics, whose children are three resources deep, and a rule of the first.
 pub const QUEUES: &str = "param namespaceName string
 param queues array = [
   { name: 'orders', sessions: true }
@@ -420,14 +421,6 @@ resource bus 'Microsoft.ServiceBus/namespaces@2022-10-01-preview' = {
     resource readers 'subscriptions' = [for (reader, i) in topics.events: if (i < 10) {
       name: '${reader}-${i}'
       properties: { maxDeliveryCount: 3 + i }
-
-      resource filter 'rules' = {
-        name: 'only'
-        properties: {
-          filterType: 'SqlFilter'
-          sqlFilter: { sqlExpression: 'kind = \\'${reader}\\' OR kind IS NULL' }
-        }
-      }
     }]
   }
 
@@ -437,9 +430,18 @@ resource bus 'Microsoft.ServiceBus/namespaces@2022-10-01-preview' = {
   }
 }
 
+resource filter 'Microsoft.ServiceBus/namespaces/topics/subscriptions/rules@2022-10-01-preview' = {
+  parent: bus::events::readers[0]
+  name: 'only'
+  properties: {
+    filterType: 'SqlFilter'
+    sqlFilter: { sqlExpression: 'kind = \\'${topics.events[0]}\\' OR kind IS NULL' }
+  }
+}
+
 output sender string = bus::senders.id
 output reader string = bus::events::readers[0].name
-output connection string = listKeys(bus::senders.id, bus.apiVersion).primaryConnectionString
+output endpoint string = bus.properties.serviceBusEndpoint
 ";
 
 const QUEUES_PARTS: &str = "\
@@ -447,10 +449,11 @@ param queues 1 => { name: 'mails' }
 resource bus lines.properties.requiresSession => {queue.?sessions ?? false}
 resource bus events.readers => 'subscriptions' = [for (reader, i) in topics.events: if ({i < 10}) \
     {..}]
-resource bus events.readers.filter.properties.sqlFilter => { sqlExpression: 'kind = \
-    \\'${reader}\\' OR kind IS NULL' }
+resource filter parent => bus::events::readers[0]
+resource filter properties.sqlFilter => { sqlExpression: 'kind = \\'${topics.events[0]}\\' OR kind IS \
+    NULL' }
 output reader => string = bus::events::readers[0].name
-output connection => string = listKeys(bus::senders.id, bus.apiVersion).primaryConnectionString
+output endpoint => string = bus.properties.serviceBusEndpoint
 ";
 
 /// The files, with what each declares and some of its parts.
@@ -463,9 +466,9 @@ pub const SAMPLES: [Sample; 6] = [
     ),
     (
         FUNCTIONS,
-        "14: param name, param location, param storageName, param extra, var workers, \
-         resource account, resource insights, var key, var connection, var settings, var more, \
-         resource app, output host, output key",
+        "14: param name, param location, param storageName, param extra, param accountKey, \
+         var workers, resource account, resource insights, var connection, var settings, var more, \
+         resource app, output host, output slots",
         FUNCTIONS_PARTS,
     ),
     (
@@ -488,8 +491,8 @@ pub const SAMPLES: [Sample; 6] = [
     ),
     (
         QUEUES,
-        "7: param namespaceName, param queues, param topics, resource bus, output sender, \
-         output reader, output connection",
+        "8: param namespaceName, param queues, param topics, resource bus, resource filter, \
+         output sender, output reader, output endpoint",
         QUEUES_PARTS,
     ),
 ];

@@ -67,7 +67,7 @@ const NETWORKS: [Miss; 7] = [
 
 const HOSTS: [Miss; 6] = [
     (SITE, "name: skuName, capacity:", "name: skuName ^capacity:"),
-    (FUNCTIONS, "az.listKeys('", "app.listKeys^('"),
+    (FUNCTIONS, "az.resourceId('", "app.resourceId^('"),
     (CONTAINERS, "scale: {", "scale ^= {"),
     (
         MACHINE,
@@ -79,17 +79,17 @@ const HOSTS: [Miss; 6] = [
         "hourSlots: [ 1, 2, 3 ] } ]",
         "hourSlots: [ 1, 2, 3 ^} ]",
     ),
-    (QUEUES, "bus::events::readers[0]", "bus::events::^[0]"),
+    (
+        QUEUES,
+        "bus::events::readers[0].name",
+        "bus::events::^[0].name",
+    ),
 ];
 
 const WHOLES: [Miss; 7] = [
     (MODULES, "'modules/network.bicep'", "^modules/network.bicep"),
     (MODULES, "@batchSize(3)\n", "@batchSize(3) ^"),
-    (
-        ROLES,
-        "roles['secrets'])\n  scope",
-        "roles['secrets'],^)\n  scope",
-    ),
+    (ROLES, "roles['secrets'])}'\n", "roles['secrets'],^)}'\n"),
     (GUARD, "metadata name = ", "metadata ^= "),
     (SETTINGS, ".?zones[?0]", ".?^[0]"),
     (SUMS, "count +\n  price", "count\n  ^+ price"),

@@ -2,7 +2,7 @@
 
 use crate::sample::Sample;
 
-/// A network whose subnets are a loop over objects, with loops and conditions inside.
+/// A network whose subnets are a loop over objects, with conditions inside.
 pub const NETWORK: &str = "metadata description = 'A network with a security group for each subnet.'
 
 param location string = 'westeurope'
@@ -12,7 +12,7 @@ param subnets array = [
   {
     name: 'web'
     prefix: '10.20.0.0/24'
-    endpoints: [ 'Microsoft.Storage', 'Microsoft.KeyVault' ]
+    endpoints: [ { service: 'Microsoft.Storage' }, { service: 'Microsoft.KeyVault' } ]
   }
   {
     name: 'data'
@@ -41,7 +41,7 @@ resource network 'Microsoft.Network/virtualNetworks@2023-04-01' = {
       properties: {
         addressPrefix: subnet.prefix
         networkSecurityGroup: { id: groups[i].id }
-        serviceEndpoints: [for endpoint in subnet.endpoints: { service: endpoint }]
+        serviceEndpoints: subnet.endpoints
         delegations: contains(subnet, 'delegation') ? [
           {
             name: 'delegation'
@@ -59,14 +59,13 @@ output subnetIds array = [for (subnet, i) in subnets: network.properties.subnets
 
 const NETWORK_PARTS: &str = "\
 metadata description => 'A network with a security group for each subnet.'
-param subnets 0 => { name: 'web', prefix: '10.20.0.0/24', endpoints: ['Microsoft.Storage', \
-    'Microsoft.KeyVault'] }
+param subnets 0 => { name: 'web', prefix: '10.20.0.0/24', endpoints: [{ service: \
+    'Microsoft.Storage' }, { service: 'Microsoft.KeyVault' }] }
 param subnets 1.endpoints => []
 resource groups => 'Microsoft.Network/networkSecurityGroups@2023-04-01' = [for subnet in subnets: \
     {..}]
 resource network properties.subnets.properties.networkSecurityGroup => { id: groups[i].id }
-resource network properties.subnets.properties.serviceEndpoints => [for endpoint in \
-    subnet.endpoints: { service: endpoint }]
+resource network properties.subnets.properties.serviceEndpoints => subnet.endpoints
 resource network properties.subnets.properties.delegations => {contains(subnet, 'delegation') ? [{ \
     name: 'delegation', properties: { serviceName: subnet.delegation } }] : []}
 output subnetIds => array = [for (subnet, i) in subnets: network.properties.subnets[i].id]
@@ -155,6 +154,7 @@ resource balancer properties.loadBalancingRules.properties.backendPort => {{port
 pub const ENDPOINTS: &str = "param subnetId string
 param location string = resourceGroup().location
 param groups array = [ 'blob', 'file' ]
+param suffix string = 'core.windows.net'
 
 resource account 'Microsoft.Storage/storageAccounts@2023-01-01' existing = {
   name: 'stshop'
@@ -165,17 +165,18 @@ resource network 'Microsoft.Network/virtualNetworks@2023-04-01' existing = {
 }
 
 resource zones 'Microsoft.Network/privateDnsZones@2020-06-01' = [for g in groups: {
-  name: 'privatelink.${g}.${environment().suffixes.storage}'
+  name: 'privatelink.${g}.${suffix}'
   location: 'global'
   tags: { group: g }
+}]
 
-  resource link 'virtualNetworkLinks' = {
-    name: 'to-${network.name}'
-    location: 'global'
-    properties: {
-      registrationEnabled: false
-      virtualNetwork: { id: network.id }
-    }
+resource links 'Microsoft.Network/privateDnsZones/virtualNetworkLinks@2020-06-01' = [for (g, i) in groups: {
+  parent: zones[i]
+  name: 'to-${network.name}'
+  location: 'global'
+  properties: {
+    registrationEnabled: false
+    virtualNetwork: { id: network.id }
   }
 }]
 
@@ -194,12 +195,13 @@ resource endpoints 'Microsoft.Network/privateEndpoints@2023-04-01' = [for (g, i)
       }
     ]
   }
+}]
 
-  resource names 'privateDnsZoneGroups' = {
-    name: 'default'
-    properties: {
-      privateDnsZoneConfigs: [ { name: g, properties: { privateDnsZoneId: zones[i].id } } ]
-    }
+resource names 'Microsoft.Network/privateEndpoints/privateDnsZoneGroups@2023-04-01' = [for (g, i) in groups: {
+  parent: endpoints[i]
+  name: 'default'
+  properties: {
+    privateDnsZoneConfigs: [ { name: g, properties: { privateDnsZoneId: zones[i].id } } ]
   }
 }]
 
@@ -208,12 +210,14 @@ output addresses array = [for (g, i) in groups: endpoints[i].properties.customDn
 
 const ENDPOINTS_PARTS: &str = "\
 resource network name => split(subnetId, '/')[8]
-resource zones name => 'privatelink.${g}.${environment().suffixes.storage}'
-resource zones link => 'virtualNetworkLinks' = {..}
-resource zones link.properties => { registrationEnabled: false, virtualNetwork: { id: network.id } }
+resource zones name => 'privatelink.${g}.${suffix}'
+resource links => 'Microsoft.Network/privateDnsZones/virtualNetworkLinks@2020-06-01' = [for (g, i) \
+    in groups: {..}]
+resource links parent => zones[i]
+resource links properties => { registrationEnabled: false, virtualNetwork: { id: network.id } }
 resource endpoints properties.privateLinkServiceConnections => [{ name: g, properties: { \
     privateLinkServiceId: account.id, groupIds: [g] } }]
-resource endpoints names.properties.privateDnsZoneConfigs.0 => { name: g, properties: { \
+resource names properties.privateDnsZoneConfigs.0 => { name: g, properties: { \
     privateDnsZoneId: zones[i].id } }
 output addresses => array = [for (g, i) in groups: \
     endpoints[i].properties.customDnsConfigs[0]!.fqdn]
@@ -320,7 +324,6 @@ resource hub 'Microsoft.Network/virtualNetworks@2023-04-01' existing = {
 
 module back './peering.bicep' = [for (spoke, i) in spokes: if (spoke.isPeered == true) {
   name: 'back-${i}'
-  scope: resourceGroup(spoke.?group ?? resourceGroup().name)
   params: {
     from: spoke.name
     to: hub.id
@@ -332,7 +335,7 @@ module back './peering.bicep' = [for (spoke, i) in spokes: if (spoke.isPeered ==
 }]
 
 output gateway string = useGateway ? hub::gateway.id : ''
-output states array = [for (spoke, i) in spokes: back[i].outputs.?state ?? 'unknown']
+output states array = [for (spoke, i) in spokes: back[i].outputs.state ?? 'unknown']
 ";
 
 const PEERINGS_PARTS: &str = "\
@@ -345,7 +348,7 @@ resource hub out.properties.remoteVirtualNetwork.id => resourceId({spoke.?group 
     resourceGroup().name}, 'Microsoft.Network/virtualNetworks', spoke.name)
 module back => './peering.bicep' = [for (spoke, i) in spokes: if ({spoke.isPeered == true}) {..}]
 module back params.useRemoteGateways => {useGateway && {!empty(hub::gateway.id)}}
-output states => array = [for (spoke, i) in spokes: {back[i].outputs.?state ?? 'unknown'}]
+output states => array = [for (spoke, i) in spokes: {back[i].outputs.state ?? 'unknown'}]
 ";
 
 /// The names of a domain, with further zones in a loop with a condition.
@@ -431,8 +434,9 @@ pub const SAMPLES: [Sample; 6] = [
     ),
     (
         ENDPOINTS,
-        "8: param subnetId, param location, param groups, resource account, resource network, \
-         resource zones, resource endpoints, output addresses",
+        "11: param subnetId, param location, param groups, param suffix, resource account, \
+         resource network, resource zones, resource links, resource endpoints, resource names, \
+         output addresses",
         ENDPOINTS_PARTS,
     ),
     (

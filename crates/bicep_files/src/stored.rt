@@ -315,9 +315,8 @@ resource pack 'Microsoft.OperationsManagement/solutions@2015-11-01-preview' = [f
   properties: { workspaceResourceId: workspace.id }
 }]
 
-resource diagnostics 'Microsoft.Insights/diagnosticSettings@2021-05-01-preview' = {
-  name: 'to-workspace'
-  scope: site
+resource diagnostics 'Microsoft.Web/sites/providers/diagnosticSettings@2021-05-01-preview' = {
+  name: '${site.name}/Microsoft.Insights/to-workspace'
   properties: {
     workspaceId: workspace.id
     logs: [for category in [ 'AppServiceHTTPLogs', 'AppServiceConsoleLogs' ]: {
@@ -341,6 +340,7 @@ const LOGS_PARTS: &str = "\
 resource site => 'Microsoft.Web/sites@2022-09-01' existing = {..}
 resource workspace properties.workspaceCapping.dailyQuotaGb => {{retention > 90} ? 5 : {-1}}
 resource pack plan.name => '${p}(${workspace.name})'
+resource diagnostics name => '${site.name}/Microsoft.Insights/to-workspace'
 resource diagnostics properties.logs => [for category in ['AppServiceHTTPLogs', \
     'AppServiceConsoleLogs']: { category: category, enabled: true }]
 resource diagnostics properties.metrics.0 => { category: 'AllMetrics', enabled: true, timeGrain: \
@@ -375,9 +375,8 @@ resource registry 'Microsoft.ContainerRegistry/registries@2023-07-01' = {
   }]
 }
 
-resource pulls 'Microsoft.Authorization/roleAssignments@2022-04-01' = [for p in pullers: {
-  name: guid(registry.id, p.id, pullRole)
-  scope: registry
+resource pulls 'Microsoft.ContainerRegistry/registries/providers/roleAssignments@2022-04-01' = [for p in pullers: {
+  name: '${registry.name}/Microsoft.Authorization/${guid(registry.id, p.id, pullRole)}'
   properties: {
     principalId: p.id
     principalType: p.?kind ?? 'ServicePrincipal'
@@ -396,6 +395,8 @@ resource registry properties.zoneRedundancy => {{isPremium && {length(replicas) 
 resource registry copies => 'replications' = [for r in replicas: if ({isPremium && {r != \
     'global'}}) {..}]
 resource registry copies.properties => {}
+resource pulls name => '${registry.name}/Microsoft.Authorization/${guid(registry.id, p.id, \
+    pullRole)}'
 resource pulls properties => { principalId: p.id, principalType: {p.?kind ?? 'ServicePrincipal'}, \
     roleDefinitionId: subscriptionResourceId('Microsoft.Authorization/roleDefinitions', pullRole) }
 ";

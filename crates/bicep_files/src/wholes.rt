@@ -171,9 +171,8 @@ resource readers 'Microsoft.Authorization/roleAssignments@2022-04-01' = [for p i
   }
 }]
 
-resource secrets 'Microsoft.Authorization/roleAssignments@2022-04-01' = if (isGiven) {
-  name: guid(vault.id, principals[0], roles['secrets'])
-  scope: vault
+resource secrets 'Microsoft.KeyVault/vaults/providers/roleAssignments@2022-04-01' = if (isGiven) {
+  name: '${vault.name}/Microsoft.Authorization/${guid(vault.id, principals[0], roles['secrets'])}'
   properties: {
     principalId: principals[0]
     principalType: principalType
@@ -182,9 +181,8 @@ resource secrets 'Microsoft.Authorization/roleAssignments@2022-04-01' = if (isGi
   }
 }
 
-resource lock 'Microsoft.Authorization/locks@2020-05-01' = {
-  name: 'keep-${vaultName}'
-  scope: vault
+resource lock 'Microsoft.KeyVault/vaults/providers/locks@2020-05-01' = {
+  name: '${vault.name}/Microsoft.Authorization/keep-${vaultName}'
   properties: {
     level: 'CanNotDelete'
     notes: 'Secrets are kept.'
@@ -199,15 +197,17 @@ var isGiven => {{length(principals) > 0} && {principals[0] != ''}}
 resource readers name => guid(resourceGroup().id, p, roles.reader)
 resource readers properties.roleDefinitionId => \
     subscriptionResourceId('Microsoft.Authorization/roleDefinitions', roles.reader)
-resource secrets => 'Microsoft.Authorization/roleAssignments@2022-04-01' = if (isGiven) {..}
-resource secrets name => guid(vault.id, principals[0], roles['secrets'])
+resource secrets => 'Microsoft.KeyVault/vaults/providers/roleAssignments@2022-04-01' = if (isGiven) \
+    {..}
+resource secrets name => '${vault.name}/Microsoft.Authorization/${guid(vault.id, principals[0], \
+    roles['secrets'])}'
 resource secrets properties.description => 'Given to ${principals[0]} on ${vault.name}, by \
     ${deployment().name}.'
 output assignments => array = [for (p, i) in principals: { principal: p, id: readers[i].id }]
 ";
 
 /// Rules for tags and a budget, with metadata and members that are called as words of the language.
-pub const GUARD: &str = "targetScope = 'subscription'
+pub const GUARD: &str = "targetScope = 'resourceGroup'
 
 metadata name = 'Guard rails'
 metadata summary = {

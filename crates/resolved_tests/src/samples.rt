@@ -6,8 +6,7 @@ use bicep_files::{hosts, networks, plain, stored, wholes};
 use std::alloc::{AllocError, Global};
 use std::test::Fail;
 
-// For each of the files a table, with an empty line between two. Where a file has an unknown name, the table is the
-// beginning of the first: a function that is not known, or the item of a loop around a nested resource.
+// For each of the files a table, with an empty line between two.
 const STORED: &str = "accountName 0.0 => parameter prefix
 account name => variable accountName
 account sku.name => parameter sku
@@ -47,17 +46,17 @@ workspace properties.retentionInDays.0 => parameter retention
 pack name.0 => item 0
 pack name.1 => name of resource workspace
 pack location => state of resource workspace
-diagnostics scope => resource site
+diagnostics name.0 => name of resource site
 diagnostics properties.logs.category => item 0
 diagnostics properties.workspaceId => id of resource workspace
 
 isPremium 0.0 => parameter replicas
 copies if.0 => parameter isPremium
 copies if.1.0 => item 0
-pulls scope => resource registry
-pulls name.0 => id of resource registry
-pulls name.1.0 => item 0
-pulls name.2 => variable pullRole
+pulls name.0 => name of resource registry
+pulls name.1.0 => id of resource registry
+pulls name.1.1.0 => item 0
+pulls name.1.2 => variable pullRole
 output principal 0 => state of resource registry
 ";
 
@@ -66,8 +65,7 @@ groups name.0.0 => item 0
 network properties.subnets/over => parameter subnets
 network properties.subnets.properties.networkSecurityGroup.id => id of one of resources groups
 network properties.subnets.properties.networkSecurityGroup.id.1 => index 0
-network properties.subnets.properties.serviceEndpoints/over.0 => item 0
-network properties.subnets.properties.serviceEndpoints.service => item 0
+network properties.subnets.properties.serviceEndpoints.0 => item 0
 network properties.subnets.properties.delegations.1.0.properties.serviceName.0 => item 0
 output subnetIds 0.0.0 => properties of resource network
 output subnetIds 0.1 => index 0
@@ -80,7 +78,19 @@ balancer properties.probes.0.properties.port.0 => parameter ports
 balancer properties.loadBalancingRules.name.0 => item 0
 balancer properties.loadBalancingRules.properties.probe.id.0.1 => parameter name
 
-unknown enviro
+network name.0.0 => parameter subnetId
+zones name.0 => item 0
+zones name.1 => parameter suffix
+links parent => one of resources zones
+links parent.1 => index 0
+links name.0 => name of resource network
+links properties.virtualNetwork.id => id of resource network
+endpoints properties.privateLinkServiceConnections.0.name => item 0
+endpoints properties.privateLinkServiceConnections.0.properties.privateLinkServiceId => id of resource account
+names parent => one of resources endpoints
+names properties.privateDnsZoneConfigs.0.properties.privateDnsZoneId => id of one of resources zones
+names properties.privateDnsZoneConfigs.0.properties.privateDnsZoneId.1 => index 0
+output addresses 0.0.0 => properties of one of resources endpoints
 
 group properties.securityRules/over.0 => variable inbound
 group properties.securityRules/over.1 => parameter allowed
@@ -99,7 +109,7 @@ back params.useRemoteGateways.1.0.0 => id of resource gateway
 back dependsOn.0 => one of resources out
 back dependsOn.0.1 => index 0
 output gateway 1 => id of resource gateway
-output states 0.0 => outputs of one of modules back
+output states 0 => state of one of modules back
 
 children over => parameter zones
 children name.0 => item 0
@@ -119,7 +129,16 @@ appSettings properties.1 => parameter settings
 logs dependsOn.0 => resource appSettings
 output principalId 0 => state of resource site
 
-unknown listKe
+connection 0.1.0 => name of resource account
+connection 0.2.0 => parameter accountKey
+settings 0.value => variable connection
+settings 3.value.0.0.0 => variable workers
+settings 4.value.0 => properties of resource insights
+more name.0.0 => item 0
+app properties.siteConfig.appSettings.1 => variable more
+app properties.siteConfig.functionAppScaleLimit.1 => variable workers
+slot if.1.0.0 => parameter extra
+output slots 0.1 => parameter name
 
 registry 0.0 => parameter image
 orders properties.configuration.secrets/over => parameter secrets
@@ -143,7 +162,16 @@ cluster properties.kubernetesVersion.0.0 => parameter version
 quiet parent => resource cluster
 output issuer 0.0.0 => properties of resource cluster
 
-unknown reader
+lines over => parameter queues
+lines properties.requiresSession.0.0 => item 0
+readers over.0 => parameter topics
+readers if.0 => index 0
+readers name.1 => index 0
+filter parent => one of resources readers
+filter properties.sqlFilter.sqlExpression.0.0.0 => parameter topics
+output sender => id of resource senders
+output reader => name of one of resources readers
+output endpoint 0 => properties of resource bus
 ";
 
 const WHOLES: &str = "suffix 0 => parameter stage
@@ -177,7 +205,10 @@ vault name => parameter vaultName
 readers properties.principalId => item 0
 readers name.2.0 => variable roles
 secrets if => variable isGiven
-secrets scope => resource vault
+secrets name.0 => name of resource vault
+secrets name.1.0 => id of resource vault
+secrets name.1.2.0 => variable roles
+lock name.1 => parameter vaultName
 secrets properties.description.1 => name of resource vault
 output assignments id => id of one of resources readers
 output assignments id.1 => index 0
@@ -214,6 +245,40 @@ picked 0.0 => variable isLarge
 last 1.0.0.0.0.0 => parameter names
 output picked => variable picked
 ";
+
+// Files with an unknown name, and the beginning of the first: a function that is not known, or the item of a loop around
+// a nested resource.
+const UNKNOWN: [(&str, &str); 3] = [
+    (
+        "output suffix string = environment().suffixes.storage\n",
+        "unknown enviro\n",
+    ),
+    (
+        "param id string\noutput key string = listKeys(id, '2022-09-01').key\n",
+        "unknown listKe\n",
+    ),
+    (
+        "resource topics 'Microsoft.ServiceBus/namespaces/topics@2021-11-01' = [for topic in [ 'a' ]: {
+  name: 'bus/${topic}'
+
+  resource readers 'subscriptions' = {
+    name: topic
+  }
+}]
+",
+        "unknown topic\n\n",
+    ),
+];
+
+#[test]
+fn the_first_name_that_means_nothing(rt: HostRuntime) -> Result<(), Fail> {
+    for (text, wanted) in UNKNOWN {
+        let mut out = String::new(rt.alloc());
+        write_found(rt.alloc(), &mut out, text, "")?;
+        assert_eq!(rt; out.as_str(), wanted);
+    }
+    Ok(())
+}
 
 // What is found for the files, with an empty line between two.
 fn found(alloc: Global, samples: &[Sample], tables: &str) -> Result<String, AllocError> {

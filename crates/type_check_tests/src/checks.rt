@@ -296,20 +296,6 @@ fn modules_are_checked_too(rt: HostRuntime) -> Result<(), Fail> {
     Ok(())
 }
 
-// Of the files of `bicep_files` those that are refused, by their numbers in their groups: for a field `scope`, for a
-// loop in a loop, for the functions `environment` and `listKeys`, for the item of a loop in a nested resource, and for
-// another scope than a resource group.
-const REFUSED: &str = "stored 4: BadForPlace in 0 at 982
-stored 5: BadForPlace in 0 at 933
-networks 0: BadForPlace in 0 at 1016
-networks 2: UnknownName in 0 at 433
-networks 4: BadForPlace in 0 at 807
-hosts 1: UnknownName in 0 at 446
-hosts 5: UnknownName in 0 at 1023
-wholes 2: BadForPlace in 0 at 991
-wholes 3: BadForPlace in 0 at 14
-";
-
 // The answers to files that are not checked, with the numbers of these files.
 fn add_answers(
     alloc: Global,
@@ -336,6 +322,6 @@ fn files_that_are_deployed_are_checked(rt: HostRuntime) -> Result<(), Fail> {
     add_answers(alloc, &mut out, "hosts", &hosts::SAMPLES)?;
     add_answers(alloc, &mut out, "wholes", &wholes::SAMPLES)?;
     add_answers(alloc, &mut out, "plain", &plain::SAMPLES)?;
-    assert_eq!(rt; out.as_str(), REFUSED);
+    assert_eq!(rt; out.as_str(), "");
     Ok(())
 }

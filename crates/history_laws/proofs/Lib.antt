@@ -1,0 +1,9 @@
+pub mod Steps
+pub mod Keeping
+pub mod Puts
+pub mod Included
+pub mod Way
+pub mod ReadingOnly
+pub mod OneWorld
+pub mod Belonging
+pub mod Alone

@@ -1,0 +1,2 @@
+mod HeaderNames
+mod TreeNames

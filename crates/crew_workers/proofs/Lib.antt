@@ -1,3 +1,4 @@
 pub mod SeatedLemmas
+pub mod ReceivedLemmas
 pub mod PostLemmas
 pub mod MarkLemmas

@@ -1,11 +1,12 @@
 -- Seats that are started and come back.
-use Rattle.std.proofs.Common.{◌≡◌, sym, ap, ◌∙◌, subst, List}
+use Rattle.std.proofs.Common.{◌≡◌, refl, sym, ap, ◌∙◌, subst, List}
 use Rattle.crossbeam_channel.specs.Claims.{Pass, view, IsSeatAt}
 use Rattle.crossbeam_channel.specs.Ends.{sends_on, receives_on}
 use Rattle.crew_channels.specs.Rings.{OrderRing, DoneRing}
 use Rattle.crew_channels.specs.declared.order.Order.{Order}
 use Rattle.crew_channels.specs.declared.orders.Orders.{Orders}
-use Rattle.crew_workers.specs.Posts.{IsPlaced, IsPosted, IsStationed, GaveWorker, Gave, number_of, before_of}
+use Rattle.crew_workers.specs.Posts.{IsDismissed, IsPlaced, IsPosted, IsStationed, GaveWorker, Gave, number_of}
+use Rattle.crew_workers.specs.Posts.{before_of, sent_last}
 use Rattle.crew_workers.specs.Seated.{IsSeated}
 use Rattle.crew_workers.specs.declared.channel.SeatChannel.{SeatChannel}
 use Rattle.crew_workers.specs.declared.post.Place.{Place}
@@ -14,6 +15,19 @@ use Rattle.crew_workers.specs.declared.post.Post.{Post}
 use Rattle.crew_workers.specs.declared.post.Station.{Station}
 use Rattle.crew_workers.specs.declared.worker.Worker.{Worker}
 use Rattle.seat_calls.specs.declared.done.Done.{Done}
+
+module _ {P : Type 0} where
+  is_last : (place : Place P) (sent : List Order) → IsDismissed place (sent_last place sent)
+  is_last (Away h) sent = (sent, refl)
+  is_last (Here there) sent = tt
+
+  -- a seat to which Stop was sent is dismissed
+  pub dismissed : (old new : Post P) → new.place ≡ old.place
+      → (view new.orders).sent ≡ sent_last old.place (view old.orders).sent
+      → IsDismissed new.place (view new.orders).sent
+  dismissed old new same last =
+      subst (λ (y : Place P × List Order). IsDismissed y.0 y.1) (λ i. (sym same i, sym last i))
+      (is_last old.place (view old.orders).sent)
 
 module _ {P : Type 0} (made : P → P → List Done → Type 0) where
   seated_back : (from : OrderRing) (to : DoneRing) (place : Place P) (worker : Worker P) → IsPlaced made from to place

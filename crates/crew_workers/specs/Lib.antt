@@ -1,3 +1,4 @@
 pub mod Seated
+pub mod Received
 pub mod Posts
 pub mod Threads

@@ -1,9 +1,12 @@
 -- What a driver knows of its seats.
-use Rattle.std.specs.Prelude.{◌≡◌, ◌<◌, ℕ, true, List, [], ◌∷◌, Option, None, Some, length, slice_index_or}
+use Rattle.std.specs.Prelude.{◌≡◌, ◌<◌, ℕ, Bool, true, List, [], ◌∷◌, ◌++◌, Option, None, Some, length, slice_index_or}
 use Rattle.crossbeam_channel.specs.Claims.{view, IsSeatAt}
 use Rattle.crossbeam_channel.specs.Ends.{sends_on, receives_on}
 use Rattle.crew_channels.specs.Orders.{jobs_in}
 use Rattle.crew_channels.specs.Rings.{OrderRing, DoneRing}
+use Rattle.crew_channels.specs.declared.order.Order.{Order}
+use Rattle.crew_channels.specs.declared.order.Order.TheVariants.{Stop}
+use Rattle.crew_workers.specs.Received.{HasReceived, HasStopped}
 use Rattle.crew_workers.specs.Seated.{IsSeated, IsSameSeat}
 use Rattle.crew_workers.specs.declared.channel.SeatChannel.{SeatChannel}
 use Rattle.crew_workers.specs.declared.post.Place.{Place}
@@ -28,6 +31,32 @@ before_of (Here worker) = worker.before.value
 abbrev pub promise_of : {P : Type 0} → Place P → Option (SeatPromise P)
 promise_of (Away promise) = Some promise
 promise_of (Here worker) = None
+
+-- what was sent to a seat, with Stop at its end where the seat is in a thread
+abbrev pub sent_last : {P : Type 0} → Place P → List Order → List Order
+sent_last (Away promise) sent = sent ++ Stop ∷ []
+sent_last (Here worker) sent = sent
+
+-- what was sent to a seat that was started: Stop where it is with the driver, and nothing to one in a thread
+abbrev pub sent_first : {P : Type 0} → Place P → List Order → List Order
+sent_first (Away promise) sent = sent
+sent_first (Here worker) sent = sent ++ Stop ∷ []
+
+-- a worker that is with the driver has received one order more
+abbrev pub HasObeyed : {P : Type 0} → Place P → Place P → Type 0
+HasObeyed (Away promise) new = Unit {0}
+HasObeyed (Here old) (Away promise) = ⊥
+HasObeyed (Here old) (Here new) = (job : Bool) × HasReceived old new job
+
+-- Stop was sent to a seat in a thread, and nothing after it
+abbrev pub IsDismissed : {P : Type 0} → Place P → List Order → Type 0
+IsDismissed (Away promise) sent = (before : List Order) × (sent ≡ before ++ Stop ∷ [])
+IsDismissed (Here worker) sent = Unit {0}
+
+-- Stop was sent to each seat in a thread, and nothing after it
+pub record AreDismissed {P : Type 0} (posts : List (Post P)) : Type 0 where
+  pub each : (k : ℕ) (d : Post P) → k < length posts
+      → IsDismissed (slice_index_or posts k d).place (view (slice_index_or posts k d).orders).sent
 
 -- two places are of one seat, which began with one provider and is in the same thread or in none
 abbrev pub IsSamePlace : {P : Type 0} → Place P → Place P → Type 0
@@ -78,7 +107,7 @@ module _ {P : Type 0} (made : P → P → List Done → Type 0) where
   -- a worker that was in a thread has kept its promise, and one that was with the driver is that one
   abbrev pub GaveWorker : Place P → Worker P → Type 0
   GaveWorker (Away promise) worker = IsSeated made (receives_on promise.from.value) (sends_on promise.to.value) worker
-      × IsSameSeat promise.worker.value worker
+      × IsSameSeat promise.worker.value worker × HasStopped promise.worker.value worker
   GaveWorker (Here there) worker = worker ≡ there
 
   -- a seat has come back

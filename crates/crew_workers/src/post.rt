@@ -4,7 +4,7 @@ ghost use Rattle.std.specs.Prelude.{◌≡◌, ◌++◌, ◌∷◌, []};
 ghost use Rattle.crossbeam_channel.specs.Claims.{view};
 ghost use Rattle.crossbeam_channel.specs.Ends.{sends_on, receives_on};
 ghost use Rattle.crew_channels.specs.Orders.{jobs_in};
-ghost use Rattle.crew_workers.specs.Posts.{IsPlaced, IsPosted, IsSamePlace};
+ghost use Rattle.crew_workers.specs.Posts.{HasObeyed, IsPlaced, IsPosted, IsSamePlace, sent_last};
 ghost use Rattle.seat_calls.specs.Dones.{Made};
 
 use crate::channel::SeatChannel;
@@ -56,6 +56,7 @@ pub fn command<R: Wait, P: Serves>(
     ensures posted { IsPosted (Made P.may P.tells P.calls P.faults) channel.now (sends_on to.now)
         post.new }
     ensures same { IsSamePlace post.old.place post.new.place }
+    ensures obeyed { HasObeyed post.old.place post.new.place }
     ensures sent { (view post.new.orders).sent ≡ (view post.old.orders).sent ++ order ∷ [] }
 {
     send_order(rt, &channel.sender, &mut post.orders, order);
@@ -75,6 +76,7 @@ fn obey<R: Wait, P: Serves>(
     ensures placed { IsPlaced (Made P.may P.tells P.calls P.faults)
         (receives_on channel.now.receiver) (sends_on to.now) place.new }
     ensures same { IsSamePlace place.old place.new }
+    ensures obeyed { HasObeyed place.old place.new }
 {
     if let Place::Here(worker) = place {
         do_order(rt, alloc, &channel.receiver, to, worker);
@@ -94,6 +96,8 @@ pub fn dismiss<R: Wait, P: Serves>(
         post.new }
     ensures same { post.new.place ≡ post.old.place }
     ensures sent { jobs_in (view post.new.orders).sent ≡ jobs_in (view post.old.orders).sent }
+    ensures last { (view post.new.orders).sent
+        ≡ sent_last post.old.place (view post.old.orders).sent }
 {
     if let Place::Away(_) = &post.place {
         send_order(rt, &channel.sender, &mut post.orders, Order::Stop);

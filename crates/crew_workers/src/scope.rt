@@ -26,7 +26,7 @@ use std::thread::Threads;
 /// through a borrow is kept.
 pub trait Task<P: Drop> {
     ghost use Rattle.std.specs.Prelude.{◌≡◌, List, vec_len, vec_items};
-    ghost use Rattle.crew_workers.specs.Posts.{marks};
+    ghost use Rattle.crew_workers.specs.Posts.{AreDismissed, marks};
     ghost use Rattle.crew_workers.specs.declared.post.Post.{Post};
 
     /// What the driver hands back.
@@ -38,11 +38,13 @@ pub trait Task<P: Drop> {
     /// What it hands back, and what became of the posts.
     ghost run_gives: { Self → List (Post P) → Self.Output → List (Post P) → Type 0 };
 
-    /// Runs with the seats of these posts, and hands the posts back. No worker moves.
+    /// Runs with the seats of these posts, and hands the posts back. No worker moves. The last order
+    /// that it sends to each worker in a thread is `Stop`.
     fn run<R: Wait>(self, rt: &R, posts: Vec<Post<P>>) -> (Self::Output, Vec<Post<P>>)
         requires { can_run self (vec_items posts) }
         ensures len { vec_len result.1 ≡ vec_len posts }
         ensures kept { marks (vec_items result.1) ≡ marks (vec_items posts) }
+        ensures dismissed { AreDismissed (vec_items result.1) }
         ensures gives { run_gives self (vec_items posts) result.0 (vec_items result.1) };
 }
 

@@ -1,10 +1,12 @@
 // The threads of workers.
 
 ghost use Rattle.std.specs.Prelude.{◌≡◌, Some};
+ghost use Rattle.crossbeam_channel.specs.Claims.{view};
 ghost use Rattle.crossbeam_channel.specs.Ends.{sends_on, receives_on};
 ghost use Rattle.crew_workers.specs.Posts.{IsPosted, IsStationed, IsStartOf, Gave, GaveWorker};
-ghost use Rattle.crew_workers.specs.Posts.{promise_of};
+ghost use Rattle.crew_workers.specs.Posts.{promise_of, sent_first};
 ghost use Rattle.crew_workers.specs.declared.post.Place.TheVariants.{Away};
+ghost use Rattle.crew_workers.specs.Received.{HasStopped};
 ghost use Rattle.crew_workers.specs.Seated.{IsSeated, IsSameSeat};
 ghost use Rattle.crew_workers.specs.Threads.{HasThread};
 ghost use Rattle.seat_calls.specs.Dones.{Made};
@@ -53,6 +55,8 @@ pub(crate) fn start<'s, E, R: Threads + Wait + Sync, P: Serves + Send + 's>(
     ensures posted { IsPosted (Made P.may P.tells P.calls P.faults) channel.now (sends_on to.now)
         result.post }
     ensures start { IsStartOf station result.post }
+    ensures sent { (view result.post.orders).sent
+        ≡ sent_first result.post.place (view station.orders).sent }
     ensures thread { HasThread (promise_of result.post.place) result.thread }
 {
     let Station { orders, worker } = station;
@@ -65,7 +69,7 @@ pub(crate) fn start<'s, E, R: Threads + Wait + Sync, P: Serves + Send + 's>(
             requires { IsSeated (Made P.may P.tells P.calls P.faults) (receives_on from.now)
                 (sends_on to.now) worker }
             ensures { IsSeated (Made P.may P.tells P.calls P.faults) (receives_on from.entry.now)
-                (sends_on to.entry.now) result × IsSameSeat worker result }
+                (sends_on to.entry.now) result × IsSameSeat worker result × HasStopped worker result }
         { work(rt, alloc, from, to, worker) },
     ) {
         Ok(handle) => Started {

@@ -1,6 +1,7 @@
 // A worker does the orders that it receives, and sends what its provider's calls returned.
 
 ghost use Rattle.crossbeam_channel.specs.Ends.{sends_on, receives_on};
+ghost use Rattle.crew_workers.specs.Received.{HasReceived, HasStopped};
 ghost use Rattle.crew_workers.specs.Seated.{IsSeated, IsSameSeat};
 ghost use Rattle.seat_calls.specs.Dones.{Made};
 
@@ -41,6 +42,7 @@ pub fn do_order<R: Wait, P: Serves>(
     ensures seated { IsSeated (Made P.may P.tells P.calls P.faults) (receives_on from.now)
         (sends_on to.now) worker.new }
     ensures same { IsSameSeat worker.old worker.new }
+    ensures received { HasReceived worker.old worker.new result }
 {
     match receive_order(rt, from, &mut worker.orders) {
         Order::Run(job) => {
@@ -52,7 +54,7 @@ pub fn do_order<R: Wait, P: Serves>(
     }
 }
 
-/// Does orders until there are no further ones.
+/// Does orders, one after another, up to the first that is no job.
 pub fn work<R: Wait, P: Serves>(
     rt: &R,
     alloc: Global,
@@ -65,12 +67,13 @@ pub fn work<R: Wait, P: Serves>(
     ensures seated { IsSeated (Made P.may P.tells P.calls P.faults) (receives_on from.now)
         (sends_on to.now) result }
     ensures same { IsSameSeat worker result }
+    ensures stopped { HasStopped worker result }
 {
     let mut working = worker;
     for _ in rt.forever() {
         if !do_order(rt, alloc, from, to, &mut working) {
-            break;
+            return working;
         }
     }
-    working
+    unreachable!()
 }

@@ -2,7 +2,7 @@
 
 ghost use Rattle.std.specs.Prelude.{◌≡◌, ℕ, vec_len, vec_items};
 ghost use Rattle.crossbeam_channel.specs.Claims.{view};
-ghost use Rattle.crew_workers.specs.Posts.{marks};
+ghost use Rattle.crew_workers.specs.Posts.{AreDismissed, marks};
 ghost use Rattle.seat_calls.specs.Dones.{Made};
 ghost use Rattle.worker_crew.specs.Rigs.{IsRigged, sent_at};
 
@@ -80,6 +80,7 @@ pub(crate) fn dismiss_all<R: Wait, P: Serves>(
         pass.now }
     ensures marks { marks (vec_items result) ≡ marks (vec_items posts) }
     ensures sent { (k : ℕ) → sent_at (vec_items result) k ≡ sent_at (vec_items posts) k }
+    ensures dismissed { AreDismissed (vec_items result) }
 {
     let mut posts_left = posts;
     for at in 0..posts_left.len() {

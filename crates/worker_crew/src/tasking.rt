@@ -35,7 +35,7 @@ impl<'a, 'b, 'c, G: Dealer, B: Book, P: Serves> Task<P> for Driving<'a, 'b, 'c, 
     ghost use Rattle.driver_loop.specs.Moments.{moment, pages};
     ghost use Rattle.driver_loop.specs.Runs.{Tied};
     ghost use Rattle.seat_calls.specs.Dones.{Made};
-    ghost use Rattle.crew_workers.specs.Posts.{marks};
+    ghost use Rattle.crew_workers.specs.Posts.{AreDismissed, marks};
     ghost use Rattle.worker_crew.specs.Rigs.{IsRigged, sent_at};
     ghost use Rattle.worker_crew.specs.Tasks.{HasRunLoop};
 
@@ -65,6 +65,7 @@ impl<'a, 'b, 'c, G: Dealer, B: Book, P: Serves> Task<P> for Driving<'a, 'b, 'c, 
             × Tied (G.steps self.board.now) (vec_items self.opens) }
         ensures len { vec_len result.1 ≡ vec_len posts }
         ensures kept { marks (vec_items result.1) ≡ marks (vec_items posts) }
+        ensures dismissed { AreDismissed (vec_items result.1) }
         ensures gives { (result.0.0.ghost_name ≡ self.entry.board.ghost_name)
             × (result.0.1.ghost_name ≡ self.entry.book.ghost_name)
             × IsRigged (Made P.may P.tells P.calls P.faults) self.entry.ends.now

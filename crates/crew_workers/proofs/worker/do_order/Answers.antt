@@ -4,6 +4,7 @@ use Rattle.crew_channels.specs.declared.orders.Orders.{Orders}
 use Rattle.crew_channels.specs.declared.results.Results.{Results}
 use Rattle.crew_workers.proofs.SeatedLemmas.{seated_run, seated_stop}
 use Rattle.crew_workers.proofs.worker.do_order.Goals as goal
+use Rattle.crew_workers.specs.Received.{is_job}
 use Rattle.seat_calls.specs.Dones.{Made}
 use Rattle.seat_calls.proofs.DoneLemmas.{made_more}
 
@@ -39,3 +40,17 @@ returns-in-Stop-clause-seated g c =
     let made = Made g.P.Serves.may g.P.Serves.tells g.P.Serves.calls g.P.Serves.faults in
     seated_stop made _ _ c.args.worker.now _ c.requires c.receive_order.result c.in-Stop.is refl refl refl refl
     c.receive_order.ensures.seat c.receive_order.ensures.got
+
+pub returns-in-Run-clause-received : goal.returns-in-Run-clause-received
+returns-in-Run-clause-received g c = (
+  c.receive_order.result,
+  ap (λ (x : Orders). x.got) c.receive_order.ensures.got,
+  sym (ap is_job c.in-Run.is),
+)
+
+pub returns-in-Stop-clause-received : goal.returns-in-Stop-clause-received
+returns-in-Stop-clause-received g c = (
+  c.receive_order.result,
+  ap (λ (x : Orders). x.got) c.receive_order.ensures.got,
+  sym (ap is_job c.in-Stop.is),
+)

@@ -1,9 +1,12 @@
-use Rattle.std.proofs.Common.{rules, vec_items, ◌<◌, length, ◌∙◌, ap}
-use Rattle.crew_workers.specs.Posts.{number_of, before_of, promise_of}
+use Rattle.std.proofs.Common.{rules, arith, vec_items, ◌<◌, length, set, get_or, below_more, ◌∙◌, ap, sym, subst}
+use Rattle.crossbeam_channel.specs.Claims.{view}
+use Rattle.crew_workers.specs.Posts.{IsDismissed, number_of, before_of, promise_of}
 use Rattle.crew_workers.specs.declared.post.Place.{Place}
 use Rattle.crew_workers.specs.declared.post.Post.{Post}
 use Rattle.seat_calls.specs.Dones.{Made}
 use Rattle.crew_workers.proofs.MarkLemmas.{marks_set}
+use Rattle.crew_workers.proofs.PostLemmas.{dismissed}
+use Rattle.driver_loop.proofs.TieLemmas.{here_set, else_set}
 use Rattle.worker_crew.proofs.RigLemmas.{rigged_at, rigged_set, sent_same}
 use Rattle.worker_crew.proofs.rig.dismiss_all.Goals as goal
 
@@ -30,5 +33,18 @@ loop-at-preserved g c =
           (ap (λ (x : Place g.row.P.Denot). before_of x) (d.same ∙ ap (λ (x : Post g.row.P.Denot). x.place) value))
           (ap (λ (x : Place g.row.P.Denot). promise_of x) (d.same ∙ ap (λ (x : Post g.row.P.Denot). x.place) value))
           ∙ was.2,
-      λ k. sent_same posts c.loop-at.at c.index_mut.result.now c.dismiss.new.post low value d.sent k ∙ was.3 k,
+      (λ k. sent_same posts c.loop-at.at c.index_mut.result.now c.dismiss.new.post low value d.sent k ∙ was.3 k),
+      λ k x below.
+          let Told : Post g.row.P.Denot → Type 0 = λ p. IsDismissed p.place (view p.orders).sent in
+          below_more (λ j. Told (get_or (set posts c.loop-at.at c.dismiss.new.post) j x)) c.loop-at.at
+          (λ j before.
+          subst Told (sym (else_set posts c.loop-at.at j c.dismiss.new.post x (λ e. omega arith))) (was.4 j x before))
+          (subst Told (sym (here_set posts c.loop-at.at c.dismiss.new.post x low))
+          (dismissed c.index_mut.result.now c.dismiss.new.post d.same d.last))
+          k (omega arith),
     )
+
+pub returns-clause-dismissed : goal.returns-clause-dismissed
+returns-clause-dismissed g c = record {
+  each = λ k x low. c.loop-at.invariant.4 k x (grind rules);
+}

@@ -1,14 +1,14 @@
 // What the crates answer, as a text.
 
-use crate::groupings::grouping;
-use crate::listing::resources_text;
-use crate::shapes::{first_and_last, last_of, shapes};
-use crate::stating::{in_template, stated, stated_by_these, written};
-use bicep_lexer::tokens;
+use crate::groupings::say_grouping;
+use crate::listing::{say_count, say_resources};
+use crate::rows::letting_go;
+use crate::shapes::{say_first_and_last, say_last, say_shapes};
+use crate::stating::{say_in_template, say_stated, say_stated_by_these, say_written};
+use bicep_lexer::{LexFault, Token, tokens};
 use bicep_literal::resources;
-use bicep_parser::parse;
-use std::alloc::Global;
-use std::test::Fail;
+use bicep_parser::{File, ParseFault, parse};
+use std::alloc::{AllocError, Global};
 
 /// What is asked of a text.
 #[derive(Clone, Copy)]
@@ -35,52 +35,100 @@ pub enum Question {
     Declared,
     /// The resource of a source, of which all is given that follows its name.
     Body,
+    /// How many resources a source with so many declares.
+    Count,
 }
 
-// The number of statements, or why there are none.
-fn statements(alloc: Global, source: &str) -> Result<String, Fail> {
-    let found = match tokens(alloc, source) {
-        Ok(found) => found,
-        Err(fault) => return Ok(format!(in alloc; "{fault}")?),
-    };
-    match parse(alloc, found.as_slice()) {
-        Ok(file) => {
-            let count = file.len();
-            Ok(format!(in alloc; "{count}")?)
-        }
-        Err(fault) => Ok(format!(in alloc; "{fault}")?),
+// Adds the number of statements or how an operator binds, or why there is no file.
+fn say_parsed(
+    out: &mut String,
+    question: Question,
+    file: &Result<File, ParseFault>,
+) -> Result<(), AllocError> {
+    match file {
+        Ok(file) => match question {
+            Question::Grouping => say_grouping(out, file),
+            _ => write!(out, "{}", file.len()),
+        },
+        Err(fault) => write!(out, "{fault}"),
     }
 }
 
-/// The resources of a source, or why it has none.
-pub fn declared(alloc: Global, source: &str) -> Result<String, Fail> {
+fn say_file(
+    out: &mut String,
+    alloc: Global,
+    question: Question,
+    tokens: &[Token],
+) -> Result<(), AllocError> {
+    let file = parse(alloc, tokens);
+    letting_go(say_parsed(out, question, &file), file)
+}
+
+// Adds what is answered of the tokens, or why there are none.
+fn say_lexed(
+    out: &mut String,
+    alloc: Global,
+    question: Question,
+    found: &Result<Vec<Token<'_>>, LexFault>,
+) -> Result<(), AllocError> {
+    match found {
+        Ok(found) => match question {
+            Question::Shapes => say_shapes(out, found.as_slice()),
+            Question::Last => say_last(out, found.as_slice()),
+            Question::Values => say_first_and_last(out, alloc, found.as_slice()),
+            _ => say_file(out, alloc, question, found.as_slice()),
+        },
+        Err(fault) => write!(out, "{fault}"),
+    }
+}
+
+fn say_source(
+    out: &mut String,
+    alloc: Global,
+    question: Question,
+    source: &str,
+) -> Result<(), AllocError> {
+    let found = tokens(alloc, source);
+    letting_go(say_lexed(out, alloc, question, &found), found)
+}
+
+fn say_operators(out: &mut String, alloc: Global, expression: &str) -> Result<(), AllocError> {
+    let source = format!(in alloc; "var a = {expression}\n")?;
+    say_source(out, alloc, Question::Grouping, source.as_str())
+}
+
+// Adds the resources of a source, or why it has none.
+fn say_declared(out: &mut String, alloc: Global, source: &str) -> Result<(), AllocError> {
     match resources(alloc, source) {
-        Ok(found) => resources_text(alloc, found),
-        Err(fault) => Ok(format!(in alloc; "{fault}")?),
+        Ok(found) => say_resources(out, alloc, found),
+        Err(fault) => write!(out, "{fault}"),
     }
 }
 
-// The resources of a source with one, whose members these are after its name.
-fn with_body(alloc: Global, body: &str) -> Result<String, Fail> {
+// Adds the resources of a source with one, whose members these are after its name.
+fn say_body(out: &mut String, alloc: Global, body: &str) -> Result<(), AllocError> {
     let source = format!(in alloc;
         "resource a 'Demo.Lab/things@2024-01-01' = {{ name: 'a'{body}}}"
     )?;
-    declared(alloc, source.as_str())
+    say_declared(out, alloc, source.as_str())
 }
 
-/// The answer to the question.
-pub fn answer(alloc: Global, question: Question, text: &str) -> Result<String, Fail> {
+/// Adds the answer to the question.
+pub fn say(
+    out: &mut String,
+    alloc: Global,
+    question: Question,
+    text: &str,
+) -> Result<(), AllocError> {
     match question {
-        Question::Shapes => shapes(alloc, text),
-        Question::Last => last_of(alloc, text),
-        Question::Values => first_and_last(alloc, text),
-        Question::Statements => statements(alloc, text),
-        Question::Grouping => grouping(alloc, text),
-        Question::Written => written(alloc, text),
-        Question::InTemplate => in_template(alloc, text),
-        Question::Stated => stated(alloc, text),
-        Question::StatedByThese => stated_by_these(alloc, text),
-        Question::Declared => declared(alloc, text),
-        Question::Body => with_body(alloc, text),
+        Question::Grouping => say_operators(out, alloc, text),
+        Question::Written => say_written(out, alloc, text),
+        Question::InTemplate => say_in_template(out, alloc, text),
+        Question::Stated => say_stated(out, alloc, text),
+        Question::StatedByThese => say_stated_by_these(out, alloc, text),
+        Question::Declared => say_declared(out, alloc, text),
+        Question::Body => say_body(out, alloc, text),
+        Question::Count => say_count(out, alloc, text),
+        _ => say_source(out, alloc, question, text),
     }
 }

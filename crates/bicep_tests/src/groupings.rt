@@ -1,10 +1,8 @@
 // How the operators of an expression bind.
 
-use bicep_lexer::tokens;
-use bicep_parser::parse;
+use bicep_parser::File;
 use bicep_tree::{Declaration, Expr, Literal, Operator, Value};
-use std::alloc::{AllocError, Global};
-use std::test::Fail;
+use std::alloc::AllocError;
 
 fn sign(operator: Operator) -> &'static str {
     match operator {
@@ -78,16 +76,13 @@ fn show(out: &mut String, e: &Expr) -> Result<(), AllocError> {
     Ok(())
 }
 
-/// An expression with a pair of braces round each operator and what it binds.
-pub fn grouping(alloc: Global, expression: &str) -> Result<String, Fail> {
-    let source = format!(in alloc; "var a = {expression}\n")?;
-    let found = tokens(alloc, source.as_str())?;
-    let file = parse(alloc, found.as_slice())?;
-    let mut out = String::new(alloc);
-    if let Some(statement) = file.first() {
-        if let Declaration::Var(_, _, Value::Plain(e)) = &statement.declaration {
-            show(&mut out, e)?;
-        }
+/// Adds the expression of a file of one variable, with a pair of braces round each operator and what it binds.
+pub fn say_grouping(out: &mut String, file: &File) -> Result<(), AllocError> {
+    match file.first() {
+        Some(statement) => match &statement.declaration {
+            Declaration::Var(_, _, Value::Plain(e)) => show(out, e),
+            _ => out.push_str("no variable"),
+        },
+        None => out.push_str("no statement"),
     }
-    Ok(out)
 }

@@ -42,7 +42,7 @@ const NESTS: &str = "\
 
 #[test]
 fn expressions_nest_at_most_64_deep(rt: HostRuntime) -> Result<(), Fail> {
-    compare(&rt, rt.alloc(), Question::Statements, NESTS, 16)
+    compare(rt.alloc(), Question::Statements, NESTS, 16)
 }
 
 // Parts that nest too deep, and the token that closes them.
@@ -69,7 +69,7 @@ var b = => not a file at 277
 
 #[test]
 fn a_deep_part_is_told_where_it_is_closed(rt: HostRuntime) -> Result<(), Fail> {
-    compare(&rt, rt.alloc(), Question::Statements, CLOSED, 10)
+    compare(rt.alloc(), Question::Statements, CLOSED, 10)
 }
 
 // Each test below reads about 4 MB that open again and again.
@@ -77,35 +77,35 @@ fn a_deep_part_is_told_where_it_is_closed(rt: HostRuntime) -> Result<(), Fail> {
 #[test]
 fn four_million_parentheses_are_refused(rt: HostRuntime) -> Result<(), Fail> {
     let row = "§var a = «4000000:(» => not a file at 4000008\n";
-    compare(&rt, rt.alloc(), Question::Statements, row, 1)
+    compare(rt.alloc(), Question::Statements, row, 1)
 }
 
 #[test]
 fn four_million_brackets_are_refused(rt: HostRuntime) -> Result<(), Fail> {
     let row = "§var a = «4000000:[» => not a file at 4000008\n";
-    compare(&rt, rt.alloc(), Question::Statements, row, 1)
+    compare(rt.alloc(), Question::Statements, row, 1)
 }
 
 #[test]
 fn four_million_prefixes_are_refused(rt: HostRuntime) -> Result<(), Fail> {
     let row = "§var a = «4000000:!» => not a file at 4000008\n";
-    compare(&rt, rt.alloc(), Question::Statements, row, 1)
+    compare(rt.alloc(), Question::Statements, row, 1)
 }
 
 #[test]
 fn a_million_operators_are_too_deep(rt: HostRuntime) -> Result<(), Fail> {
     let row = "§var a = 1«1000000:+1» => too deep at 139\n";
-    compare(&rt, rt.alloc(), Question::Statements, row, 1)
+    compare(rt.alloc(), Question::Statements, row, 1)
 }
 
 #[test]
 fn four_megabytes_of_objects_are_refused(rt: HostRuntime) -> Result<(), Fail> {
     let row = "§var a = «1300000:{a:» => not a file at 3900008\n";
-    compare(&rt, rt.alloc(), Question::Statements, row, 1)
+    compare(rt.alloc(), Question::Statements, row, 1)
 }
 
 #[test]
 fn four_megabytes_of_resources_are_refused(rt: HostRuntime) -> Result<(), Fail> {
     let row = "§resource a 'b' = «250000:{resource a 'b'=» => not a file at 4000017\n";
-    compare(&rt, rt.alloc(), Question::Statements, row, 1)
+    compare(rt.alloc(), Question::Statements, row, 1)
 }

@@ -7,12 +7,12 @@ use std::test::Fail;
 
 #[test]
 fn deployed_hosts_are_read(rt: HostRuntime) -> Result<(), Fail> {
-    compare(&rt, rt.alloc(), Question::Statements, HOSTS, 7)
+    compare(rt.alloc(), Question::Statements, HOSTS, 7)
 }
 
 #[test]
 fn deployed_statements_are_read(rt: HostRuntime) -> Result<(), Fail> {
-    compare(&rt, rt.alloc(), Question::Statements, STATEMENTS, 7)
+    compare(rt.alloc(), Question::Statements, STATEMENTS, 7)
 }
 
 // Sources, and the number of their statements.
@@ -117,7 +117,7 @@ var sys = 4 => 4
 
 #[test]
 fn files_are_read(rt: HostRuntime) -> Result<(), Fail> {
-    compare(&rt, rt.alloc(), Question::Statements, FILES, 34)
+    compare(rt.alloc(), Question::Statements, FILES, 34)
 }
 
 // Near misses, and the offset from which no file continues.
@@ -161,7 +161,7 @@ var c = d ? => not a file at 21
 
 #[test]
 fn near_misses_in_expressions_are_refused(rt: HostRuntime) -> Result<(), Fail> {
-    compare(&rt, rt.alloc(), Question::Statements, EXPRESSION_MISSES, 30)
+    compare(rt.alloc(), Question::Statements, EXPRESSION_MISSES, 30)
 }
 
 // Near misses in statements.
@@ -190,7 +190,7 @@ param p string => not a file at 3
 
 #[test]
 fn near_misses_in_statements_are_refused(rt: HostRuntime) -> Result<(), Fail> {
-    compare(&rt, rt.alloc(), Question::Statements, STATEMENT_MISSES, 14)
+    compare(rt.alloc(), Question::Statements, STATEMENT_MISSES, 14)
 }
 
 // Expressions, with braces round each operator and what it binds.
@@ -223,5 +223,5 @@ const SHAPES: &str = "\
 
 #[test]
 fn operators_bind_by_their_levels(rt: HostRuntime) -> Result<(), Fail> {
-    compare(&rt, rt.alloc(), Question::Grouping, SHAPES, 24)
+    compare(rt.alloc(), Question::Grouping, SHAPES, 24)
 }

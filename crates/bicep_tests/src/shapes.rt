@@ -1,8 +1,7 @@
 // What the lexer answers, as a text.
 
-use bicep_lexer::{Token, TokenKind, tokens};
+use bicep_lexer::{Token, TokenKind};
 use std::alloc::{AllocError, Global};
-use std::test::Fail;
 
 // The shape of a kind, as the tables write it.
 fn shape(kind: TokenKind) -> &'static str {
@@ -50,47 +49,38 @@ fn shape(kind: TokenKind) -> &'static str {
     }
 }
 
-// The shapes of the tokens.
-fn all_shapes(alloc: Global, found: &[Token]) -> Result<String, AllocError> {
-    let mut all = String::new(alloc);
-    for token in found {
-        all.push_str(shape(token.kind))?;
+/// Adds the shapes of the tokens.
+pub fn say_shapes(out: &mut String, tokens: &[Token]) -> Result<(), AllocError> {
+    for token in tokens {
+        out.push_str(shape(token.kind))?;
     }
-    Ok(all)
+    Ok(())
 }
 
-/// The shapes of a source's tokens, or why it has none.
-pub fn shapes(alloc: Global, source: &str) -> Result<String, Fail> {
-    match tokens(alloc, source) {
-        Ok(found) => Ok(all_shapes(alloc, found.as_slice())?),
-        Err(fault) => Ok(format!(in alloc; "{fault}")?),
+/// Adds the shapes of the tokens, and the offset and the text of the last one.
+pub fn say_last(out: &mut String, tokens: &[Token]) -> Result<(), AllocError> {
+    say_shapes(out, tokens)?;
+    match tokens.last() {
+        Some(last) => write!(out, " {} {}", last.at, last.text),
+        None => out.push_str(", no token"),
     }
 }
 
-/// The shapes of a source's tokens, and the offset and the text of the last one.
-pub fn last_of(alloc: Global, source: &str) -> Result<String, Fail> {
-    let found = tokens(alloc, source)?;
-    let shapes = all_shapes(alloc, found.as_slice())?;
-    let shapes = shapes.as_str();
-    let Some(last) = found.as_slice().last() else {
-        return Err(Fail::from("no token"));
-    };
-    let at = last.at;
-    let text = last.text;
-    Ok(format!(in alloc; "{shapes} {at} {text}")?)
+// Adds what the token means.
+fn say_meaning(out: &mut String, alloc: Global, token: Option<&Token>) -> Result<(), AllocError> {
+    match token {
+        Some(token) => out.push_str(token.value(alloc)?.as_str()),
+        None => out.push_str("no token"),
+    }
 }
 
-/// What the first and the last token of a source mean.
-pub fn first_and_last(alloc: Global, source: &str) -> Result<String, Fail> {
-    let found = tokens(alloc, source)?;
-    let Some(first) = found.as_slice().first() else {
-        return Err(Fail::from("no token"));
-    };
-    let Some(last) = found.as_slice().last() else {
-        return Err(Fail::from("no token"));
-    };
-    let mut both = first.value(alloc)?.into_string();
-    both.push('|')?;
-    both.push_str(last.value(alloc)?.as_str())?;
-    Ok(both)
+/// Adds what the first and the last token mean.
+pub fn say_first_and_last(
+    out: &mut String,
+    alloc: Global,
+    tokens: &[Token],
+) -> Result<(), AllocError> {
+    say_meaning(out, alloc, tokens.first())?;
+    out.push_str("|")?;
+    say_meaning(out, alloc, tokens.last())
 }

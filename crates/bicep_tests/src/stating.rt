@@ -1,20 +1,20 @@
 // How resources are written in templates, and what templates state, as texts.
 
-use crate::listing::resources_text;
+use crate::listing::{say_resources, text_of};
 use arm_value::{Fields, Text, Value};
 use literal_template::{Resource, are_literal, read, write};
-use std::alloc::Global;
-use std::test::Fail;
+use std::alloc::{AllocError, Global};
 
-fn members_of(alloc: Global, body: &str) -> Result<Fields, Fail> {
-    match Value::from_json(alloc, body.as_bytes())? {
-        Value::Object(members) => Ok(members),
-        _ => Ok(Fields::new()),
+// The members of an object of JSON; none where it is no object.
+fn members_of(alloc: Global, body: &str) -> Fields {
+    match Value::from_json(alloc, body.as_bytes()) {
+        Ok(Value::Object(members)) => members,
+        _ => Fields::new(),
     }
 }
 
 // The resource of a line: type, version, name and body, with `|` between each two.
-fn resource_of(alloc: Global, line: &str) -> Result<Resource, Fail> {
+fn resource_of(alloc: Global, line: &str) -> Result<Resource, AllocError> {
     let (kind, rest) = line.split_once('|').unwrap_or((line, ""));
     let (api, rest) = rest.split_once('|').unwrap_or((rest, ""));
     let (name, body) = rest.split_once('|').unwrap_or((rest, ""));
@@ -22,42 +22,46 @@ fn resource_of(alloc: Global, line: &str) -> Result<Resource, Fail> {
         kind: Text::of(alloc, kind)?,
         api: Text::of(alloc, api)?,
         name: Text::of(alloc, name)?,
-        body: members_of(alloc, body)?,
+        body: members_of(alloc, body),
     })
 }
 
-// The template of the resources, or that there is none.
-fn template(alloc: Global, resources: &[Resource]) -> Result<String, Fail> {
+// Adds the template of the resources, or that there is none.
+fn say_template(out: &mut String, alloc: Global, resources: &[Resource]) -> Result<(), AllocError> {
     if !are_literal(resources) {
-        return Ok(String::from_str(alloc, "no literals")?);
+        return out.push_str("no literals");
     }
     let bytes = write(alloc, resources)?;
-    Ok(String::from_utf8(bytes.into_vec())?)
+    out.push_str(text_of(bytes.as_slice()))
 }
 
-/// The template of the resource of a line, or of none where the line is empty.
-pub fn written(alloc: Global, line: &str) -> Result<String, Fail> {
-    let mut resources = Vec::new(alloc);
-    if !line.is_empty() {
-        resources.push(resource_of(alloc, line)?)?;
+/// Adds the template of the resource of a line, or of none where the line is empty.
+pub fn say_written(out: &mut String, alloc: Global, line: &str) -> Result<(), AllocError> {
+    if line.is_empty() {
+        return say_template(out, alloc, &[]);
     }
-    template(alloc, resources.as_slice())
+    let resource = resource_of(alloc, line)?;
+    say_template(out, alloc, [resource].as_slice())
 }
 
-/// The resources that a template states, or why it states none.
-pub fn stated(alloc: Global, template: &str) -> Result<String, Fail> {
+/// Adds the resources that a template states, or why it states none.
+pub fn say_stated(out: &mut String, alloc: Global, template: &str) -> Result<(), AllocError> {
     match read(alloc, template.as_bytes()) {
-        Ok(found) => resources_text(alloc, found),
-        Err(fault) => Ok(format!(in alloc; "{fault}")?),
+        Ok(found) => say_resources(out, alloc, found),
+        Err(fault) => write!(out, "{fault}"),
     }
 }
 
-/// What a template with these resources states.
-pub fn stated_by_these(alloc: Global, resources: &str) -> Result<String, Fail> {
+/// Adds what a template with these resources states.
+pub fn say_stated_by_these(
+    out: &mut String,
+    alloc: Global,
+    resources: &str,
+) -> Result<(), AllocError> {
     let text = format!(in alloc;
         "{{\"$schema\":\"https://x/deploymentTemplate.json\",\"contentVersion\":\"1\",\"resources\":[{resources}]}}"
     )?;
-    stated(alloc, text.as_str())
+    say_stated(out, alloc, text.as_str())
 }
 
 // How the name of its resource is written in a template.
@@ -67,15 +71,24 @@ fn name_in(template: &str) -> &str {
     name
 }
 
-/// How a name is written in the template of a resource in whose body it is a text three times, and
-/// what that template states.
-pub fn in_template(alloc: Global, name: &str) -> Result<String, Fail> {
+// Adds how the name of its resource is written in a template, and what the template states.
+fn say_both(out: &mut String, alloc: Global, template: &str) -> Result<(), AllocError> {
+    write!(out, "{} ", name_in(template))?;
+    say_stated(out, alloc, template)
+}
+
+// Adds the template of a resource of this name in whose body the name is a text three times.
+fn say_named(out: &mut String, alloc: Global, name: &str) -> Result<(), AllocError> {
     let line = format!(in alloc;
         "t|1|{name}|{{\"a\":\"{name}\",\"b\":[\"{name}\",{{\"c\":\"{name}\"}}]}}"
     )?;
-    let template = written(alloc, line.as_str())?;
-    let found = stated(alloc, template.as_str())?;
-    let spelled = name_in(template.as_str());
-    let stated = found.as_str();
-    Ok(format!(in alloc; "{spelled} {stated}")?)
+    say_written(out, alloc, line.as_str())
+}
+
+/// Adds how a name is written in the template of a resource in whose body it is a text three times, and what that
+/// template states.
+pub fn say_in_template(out: &mut String, alloc: Global, name: &str) -> Result<(), AllocError> {
+    let mut template = String::new(alloc);
+    say_named(&mut template, alloc, name)?;
+    say_both(out, alloc, template.as_str())
 }

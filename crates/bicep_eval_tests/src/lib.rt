@@ -7,6 +7,8 @@
 #[cfg(test)]
 mod accesses;
 #[cfg(test)]
+mod fields;
+#[cfg(test)]
 mod functions;
 #[cfg(test)]
 mod loops;

@@ -1,7 +1,7 @@
 // Rows of tables.
 
 use crate::sample::{Sample, Slot};
-use arm_ids::Place;
+use arm_ids::{Place, ResourceId};
 use arm_value::{Text, Value};
 use bicep_declared::{Declared, declare_file};
 use bicep_eval::{Stop, evaluate_value};
@@ -66,10 +66,32 @@ fn place(alloc: Global) -> Result<Place, Fail> {
     })
 }
 
+// The id and the state of the resources.
+const ID: &str = "/subscriptions/s/resourceGroups/g/providers/T.N/a/x";
+
+const STATE: &str =
+    "{\"properties\":{\"p\":1,\"q\":{\"s\":[2]}},\"sku\":{\"name\":\"S1\"},\"kind\":null}";
+
+fn parts(alloc: Global) -> Result<(Place, ResourceId, Value), Fail> {
+    let id = ResourceId::read(alloc, ID)?;
+    match Value::from_json(alloc, STATE.as_bytes()) {
+        Ok(state) => match place(alloc) {
+            Ok(place) => Ok((place, id, state)),
+            Err(fault) => letting_go(Err(fault), (id, state)),
+        },
+        Err(fault) => letting_go(Err(fault.into()), id),
+    }
+}
+
 fn sample(alloc: Global) -> Result<Sample, Fail> {
     match slots(alloc) {
-        Ok(slots) => match place(alloc) {
-            Ok(place) => Ok(Sample { place, slots }),
+        Ok(slots) => match parts(alloc) {
+            Ok((place, id, state)) => Ok(Sample {
+                place,
+                slots,
+                id,
+                state,
+            }),
             Err(fault) => letting_go(Err(fault), slots),
         },
         Err(fault) => Err(fault),
@@ -80,7 +102,8 @@ fn sample(alloc: Global) -> Result<Sample, Fail> {
 fn source_of(alloc: Global, expression: &str) -> Result<String, AllocError> {
     format!(in alloc;
         "var o = 0\nvar a = 0\nvar t = 0\nvar yes = 0\nvar no = 0\nvar late = 0\nvar never = 0\n\
-        var deep = 0\nvar w = {expression}"
+        var deep = 0\nresource r 'T.N/a@1' = {{ name: 'x' }}\nresource rs 'T.N/b@1' = [for x in a: {{ name: x }}]\n\
+        var w = {expression}"
     )
 }
 

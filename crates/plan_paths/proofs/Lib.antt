@@ -1,0 +1,3 @@
+mod TreeLemmas
+mod TextLemmas
+pub mod NamedLemmas

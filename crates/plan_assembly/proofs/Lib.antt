@@ -1,0 +1,3 @@
+mod KeyLemmas
+mod ListLemmas
+pub mod WorkLemmas

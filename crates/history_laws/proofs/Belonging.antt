@@ -19,7 +19,8 @@ use Rattle.deploy_histories.specs.Events.{is_done, Progress, after, after_all, a
 use Rattle.deploy_histories.specs.Answers.{Noted, noted, answers_from, answers_of}
 use Rattle.deploy_histories.specs.Outcome.{BelongsTo}
 use Rattle.history_laws.proofs.Steps.{IsChanged, at_changed}
-use Rattle.history_laws.proofs.Way.{StoredIsSo, stored_by, key_of_state, some_key, key_at_start, stored_same}
+use Rattle.history_laws.proofs.Included.{start_so, key_at_start}
+use Rattle.history_laws.proofs.Way.{StoredIsSo, stored_by, key_of_state, some_key, stored_same}
 use Rattle.history_laws.proofs.Way.{change_less, not_none, not_waiting, not_begun, closed_less, done_same, some_task}
 
 -- an answer that stores the state for the task
@@ -116,6 +117,7 @@ module _ (x : Planned) (planned : IsPlanned x) (w : World) (sat : Satisfies x.de
       let l = key_of_state (key_in x.deployment (start_world x.known) i.0 i.1.0) k at in
       let here : key_at x.deployment.place q.kind.type q.title ≡ k
       = some_key (key_at x.deployment.place q.kind.type q.title) l.0
-      (sym (key_at_start x planned w sat i.0 i.1.0 q.kind q.title q.is_put) ∙ l.1.0) ∙ l.1.1 in
+      (sym (key_at_start x planned w (start_so x planned w sat.is_world) i.0 i.1.0 q.kind q.title q.is_put)
+      ∙ l.1.0) ∙ l.1.1 in
       let same : a.stored ≡ j = stored_same a.stored j (sym a.is_stored ∙ n.stores) in
       subst (λ (z : ResourceId). w (state z) ≡ Some j) here (q.has_state ∙ ap Some same)

@@ -4,31 +4,37 @@ use Rattle.std.proofs.Common.{Option, Some, None, refl, sym, ap, subst, ◌∙�
 use Rattle.std.specs.Prelude.{option_map, option_and_then, is_some}
 use Rattle.std.specs.List.{list_any}
 use Rattle.arm_value.specs.Json.{Json, null, bool, int, text, array, object}
+use Rattle.arm_ids.specs.Id.{text_of}
 use Rattle.arm_ids.specs.declared.id.Place.{Place}
 use Rattle.arm_ids.specs.declared.id.ResourceId.{ResourceId}
 use Rattle.reading.specs.Reading.{pure, continued}
 use Rattle.reading.specs.World.{value_in}
 use Rattle.reading.specs.Knowledge.{Known, known, Holds, Completes, known_value, told}
 use Rattle.reading.proofs.Parts.{value_in-continued}
+use Rattle.provider_trait.specs.declared.act.Act.TheVariants.{Put}
 use Rattle.deploy_cells.specs.Cells.{Step, Position, Cell, parameter, variable, offered, output, count, included, name}
 use Rattle.deploy_cells.specs.Cells.{deployments, state, World}
-use Rattle.deploy_cells.specs.Puts.{Kind, IsPut, IsPutAt, key_at}
+use Rattle.deploy_cells.specs.Guarded.{Reads, there_if, IsWorld}
+use Rattle.deploy_cells.specs.Puts.{Kind, IsPut, IsPutAt, body_in, id_at, key_at}
 use Rattle.deploy_cells.specs.Same.{same_id}
 use Rattle.plan_cells.specs.Resources.{Listed, nested_in}
 use Rattle.plan_cells.specs.Scopes.{resource_of}
 use Rattle.plan_cells.specs.Meaning.{Deployment, meaning}
-use Rattle.plan_cells.specs.Desired.{kind_of, kinds, Satisfies}
+use Rattle.plan_cells.specs.Desired.{kind_of, kinds}
 use Rattle.plan_cells.specs.Known.{Access, by_others, entry_of, entry_by, entry_told}
 use Rattle.plan_cells.specs.Start as start
-use Rattle.plan_cells.specs.Start.{start_world}
+use Rattle.plan_cells.specs.Start.{start_world, IsSo}
 use Rattle.plan_cells.specs.Children.{Has}
+use Rattle.plan_cells.specs.Reads.{key_in}
+use Rattle.plan_cells.specs.Tasks as task
 use Rattle.plan_cells.specs.Tasks.{Task, put, delete, template_tasks, key_by, put_keys, deletes_in, work_of, Work, work}
 use Rattle.plan_cells.specs.TaskOf.{IsResource, AreTasks}
-use Rattle.plan_cells.proofs.KnownLemmas.{completes}
-use Rattle.plan_cells.proofs.PlanLemmas.{true_at_start, same_work}
+use Rattle.plan_cells.proofs.KnownLemmas.{completes, told_so}
+use Rattle.plan_cells.proofs.PlanLemmas.{true_at_start}
 use Rattle.plan_cells.proofs.TaskLemmas.{all_tasks}
 use Rattle.plan_cells.proofs.ListLemmas.{has_joined, has_left}
 use Rattle.deploy_histories.specs.Planned.{Planned, IsPlanned, is_asked_first}
+use Rattle.deploy_histories.specs.Outcome.{put_target, target}
 use Rattle.history_laws.proofs.Puts.{deletes_alone, HasKeyAt, key_listed, has_any}
 
 -- the tasks and the keys of a plan in a world
@@ -104,13 +110,17 @@ pub record IsPutOf (x : Planned) (w : World) (p : Position) (s : Step) : Type 0 
   pub is_put : IsPut (kinds x.deployment) w p s kind title
   pub listed : list_any (same_id (key_at x.deployment.place kind.type title)) x.keys ≡ true
 
-module _ (x : Planned) (planned : IsPlanned x) (w : World) (sat : Satisfies x.deployment x.held w) where
+module _ (x : Planned) (planned : IsPlanned x) (w : World) (world : IsWorld (meaning x.deployment) w) where
+  -- what is known at the start is so
+  pub start_so : Completes x.known w
+  start_so = completes (meaning x.deployment) start.start w world (true_at_start w) x.known planned.is_start
+
   pub the_works : HasWork x w
   the_works =
-      let a = all_tasks x.deployment w sat.is_world in
+      let a = all_tasks x.deployment w world in
       work_in x w a.0 a.1
-      (same_work x.deployment x.held x.known planned.is_start w sat x.mode
-      (record { tasks = x.tasks; keys = x.keys }) planned.has_tasks)
+      (subst (IsSo w (work x.deployment x.mode x.held)) planned.has_tasks
+      (told_so Work w x.known start_so (work x.deployment x.mode x.held)))
 
   not_deleted : (p : Position) (s : Step) (t : Task) → t ≡ put p s → (k : ResourceId) → t ≡ delete k → ⊥
   not_deleted p s t e k f = let g : put p s ≡ delete k = sym e ∙ f in cc
@@ -200,11 +210,6 @@ module _ (x : Planned) (planned : IsPlanned x) (w : World) (sat : Satisfies x.de
       (subst (λ (n : List ℕ). list_any (same_id (key_at x.deployment.place i.kind.type n)) x.keys ≡ true) e.1
       (subst (λ (c : Kind). list_any (same_id (key_at x.deployment.place c.type q.title)) x.keys ≡ true) e.0 q.listed))
 
-  -- ---- what is known at the start
-
-  pub start_so : Completes x.known w
-  start_so = completes (meaning x.deployment) start.start w sat.is_world (true_at_start w) x.known planned.is_start
-
 asked_by_others : (c : Cell) → is_asked_first c ≡ true → start.start c ≡ by_others
 asked_by_others (count p r) e = refl
 asked_by_others (included p s) e = refl
@@ -242,3 +247,33 @@ module _ (x : Planned) (planned : IsPlanned x) where
       let a = first_entry c e in
       ap known_value a.1 ∙ (value_of_entry a.0
       ∙ sym (holds_entry (w c) a.0 (subst (λ (k : Known Json). Holds (w c) k) a.1 (all c))))
+
+module _ (x : Planned) (planned : IsPlanned x) (w : World) (all : Completes x.known w) where
+  -- a name of a put is known at the start
+  title_at_start : (p : Position) (s : Step) (n : List ℕ) → w (name p s) ≡ Some (text n)
+      → start_world x.known (name p s) ≡ Some (text n)
+  title_at_start p s n e = start_is x planned w all (name p s) refl ∙ e
+
+  pub key_at_start : (p : Position) (s : Step) (k : Kind) (n : List ℕ) → IsPut (kinds x.deployment) w p s k n
+      → key_in x.deployment (start_world x.known) p s ≡ Some (key_at x.deployment.place k.type n)
+  key_at_start p s k n i =
+      ap (option_and_then (task.key_by x.deployment.place (kinds x.deployment p s.resource)))
+      (title_at_start p s n i.is_included.has_name)
+      ∙ ap (λ (o : Option Kind). task.key_by x.deployment.place o (text n)) i.is_included.is_declared
+
+  pub target_at_start : (p : Position) (s : Step) (k : Kind) (n : List ℕ) → IsPut (kinds x.deployment) w p s k n
+      → target x (task.put p s)
+      ≡ Some (record { act = Put; id = text_of (id_at x.deployment.place k.type n); api = k.api })
+  target_at_start p s k n i =
+      ap (put_target x.deployment.place (kinds x.deployment p s.resource))
+      (title_at_start p s n i.is_included.has_name)
+      ∙ ap (λ (o : Option Kind). put_target x.deployment.place o (Some (text n))) i.is_included.is_declared
+
+-- the body of a put in a world
+pub body_there : (w : World) (o : Option (Reads Json)) (b : Json) → body_in w o ≡ Some b
+    → value_in w (there_if o) ≡ Some (Some b)
+unfolding value_in
+body_there w None b e = let f : None ≡ Some b = e in absurd (cc)
+body_there w (Some r) b e =
+    value_in-continued Cell Json Json (Option Json) w r (λ v. pure (Some v))
+    ∙ ap (option_and_then (λ v. value_in w (pure (Some v)))) e

@@ -60,7 +60,7 @@ no_value_twice a b e = cc
 
 -- ---- what is declared
 
-first_has : {A : Type 0} (test : A → Bool) (xs : List A) (a : A) → first_with test xs ≡ Some a
+pub first_has : {A : Type 0} (test : A → Bool) (xs : List A) (a : A) → first_with test xs ≡ Some a
     → Has a xs × (test a ≡ true)
 first_has test [] a e = let f : None ≡ Some a = e in absurd (cc)
 first_has test (x ∷ xs) a e = by_test (test x) refl e (λ f. first_has test xs a f)
@@ -70,21 +70,21 @@ first_has test (x ∷ xs) a e = by_test (test x) refl e (λ f. first_has test xs
     by_test true t f more = let g = no_value_twice x a f in (inl g, ap test (sym g) ∙ t)
     by_test false t f more = let h = more f in (inr h.0, h.1)
 
-named_parameter : (t : TemplateTree) (x : List ℕ) (q : Parameter) → parameter_named x t ≡ Some q
+pub named_parameter : (t : TemplateTree) (x : List ℕ) (q : Parameter) → parameter_named x t ≡ Some q
     → Has x (parameter_names t)
 named_parameter t x q e =
     let h = first_has (λ p. bytes_eq x (fold p.name)) (header_in t).parameters q e in
     subst (λ (n : List ℕ). Has n (parameter_names t)) (sym (eq_word x (fold q.name) h.1))
     (has_map (λ (p : Parameter). fold p.name) q (header_in t).parameters h.0)
 
-named_variable : (t : TemplateTree) (x : List ℕ) (q : Variable) → variable_named x t ≡ Some q
+pub named_variable : (t : TemplateTree) (x : List ℕ) (q : Variable) → variable_named x t ≡ Some q
     → Has x (variable_names t)
 named_variable t x q e =
     let h = first_has (λ p. bytes_eq x (fold p.name)) (header_in t).variables q e in
     subst (λ (n : List ℕ). Has n (variable_names t)) (sym (eq_word x (fold q.name) h.1))
     (has_map (λ (p : Variable). fold p.name) q (header_in t).variables h.0)
 
-named_output : (t : TemplateTree) (x : List ℕ) (q : Output) → output_named x t ≡ Some q → Has x (output_names t)
+pub named_output : (t : TemplateTree) (x : List ℕ) (q : Output) → output_named x t ≡ Some q → Has x (output_names t)
 named_output t x q e =
     let h = first_has (λ p. bytes_eq x (fold p.name)) (header_in t).outputs q e in
     subst (λ (n : List ℕ). Has n (output_names t)) (sym (eq_word x (fold q.name) h.1))
@@ -92,7 +92,7 @@ named_output t x q e =
 
 -- ---- what was told of the values of a task
 
-told_demanded : (t : Table) (r : Reads (Option Json)) (o : Option Json) → told t (demanded r) ≡ value o
+pub told_demanded : (t : Table) (r : Reads (Option Json)) (o : Option Json) → told t (demanded r) ≡ value o
     → (v : Option Json) × (told t r ≡ value v)
 told_demanded t r o e =
     by_told (told t r) refl (sym (told-continued Cell Json (Option Json) (Option Json) t r
@@ -110,7 +110,7 @@ pub record ToldOutput (t : Table) (c r : Reads (Option Json)) (o : Option Json) 
   pub is_told : told t c ≡ value condition
   pub rest : told t (where_offered (is_true condition) r) ≡ value o
 
-told_output : (t : Table) (c r : Reads (Option Json)) (o : Option Json)
+pub told_output : (t : Table) (c r : Reads (Option Json)) (o : Option Json)
     → told t (continued c (λ v. where_offered (is_true v) r)) ≡ value o → ToldOutput t c r o
 told_output t c r o e =
     by_told (told t c) refl (sym (told-continued Cell Json (Option Json) (Option Json) t c
@@ -122,7 +122,7 @@ told_output t c r o e =
     by_told no_value h f = cc
     by_told (waits d) h f = cc
 
-has_number : (ts : List Task) (t : Task) → Has t ts → (u : ℕ) × (slice_get ts u ≡ Some t)
+pub has_number : (ts : List Task) (t : Task) → Has t ts → (u : ℕ) × (slice_get ts u ≡ Some t)
 has_number [] t h = absurd h
 has_number (s ∷ ts) t h = elim h [
   | inl e ↦ (zero, ap Some e)
@@ -138,7 +138,7 @@ true_is (text t) e = absurd (true≢false (sym e))
 true_is (array js) e = absurd (true≢false (sym e))
 true_is (object ms) e = absurd (true≢false (sym e))
 
-some_true : (o : Option Json) → is_true o ≡ true → o ≡ Some (bool true)
+pub some_true : (o : Option Json) → is_true o ≡ true → o ≡ Some (bool true)
 some_true None e = absurd (true≢false (sym e))
 some_true (Some j) e = ap Some (true_is j e)
 
@@ -152,7 +152,8 @@ module _ (may : MayAnswer) (x : Planned) (planned : IsPlanned x) (p : Progress) 
 
   first_same : (c : Cell) → is_asked_first c ≡ true → w c ≡ v c
   first_same c e =
-      sym (start_is x planned w (start_so x planned w sat) c e) ∙ start_is x planned v (start_so x planned v vat) c e
+      sym (start_is x planned w (start_so x planned w sat.is_world) c e)
+      ∙ start_is x planned v (start_so x planned v vat.is_world) c e
 
   -- where the parents are the same, both admit the cell or neither does
   by_parent : (c : Cell) (o : Option Cell) → ((e : Cell) → o ≡ Some e → w e ≡ v e) → admitted w c o ≡ admitted v c o
@@ -230,7 +231,7 @@ module _ (may : MayAnswer) (x : Planned) (planned : IsPlanned x) (p : Progress) 
 
   scope_task : (t : Task) → IsTask d w t → Has t x.tasks
   scope_task t i =
-      let works = the_works x planned w sat in
+      let works = the_works x planned w sat.is_world in
       subst (λ (ts : List Task). Has t ts) (sym works.joined)
       (has_left t works.scopes (deletes_in x.mode d.place x.keys x.held) (works.are_tasks.all t i))
 
@@ -443,15 +444,15 @@ module _ (may : MayAnswer) (x : Planned) (planned : IsPlanned x) (p : Progress) 
 
   not_put : (k : ResourceId) → list_any (same_id k) x.keys ≡ false → (u : World) → Satisfies d x.held u
       → IsPutAt d.place (kinds d) u k → ⊥
-  not_put k e u s i = true≢false (sym (keys_listed x planned u s k i) ∙ e)
+  not_put k e u s i = true≢false (sym (keys_listed x planned u s.is_world k i) ∙ e)
 
   -- the task that puts at a key of the plan has stored a state there
   a_putter : (k : ResourceId) → Has k x.keys → (t : Task) × (Has t x.tasks × (puts_at x k t ≡ true))
   a_putter k h =
-      let works = the_works x planned w sat in
+      let works = the_works x planned w sat.is_world in
       let i = key_has_put d w k works.scopes x.keys works.has_keys h in
       let n : start_world x.known (name i.at i.instance) ≡ Some i.title
-      = start_is x planned w (start_so x planned w sat) (name i.at i.instance) refl ∙ i.has_name in
+      = start_is x planned w (start_so x planned w sat.is_world) (name i.at i.instance) refl ∙ i.has_name in
       let key : key_in d (start_world x.known) i.at i.instance ≡ Some k
       = ap (option_and_then (key_by d.place (kinds d i.at i.instance.resource))) n ∙ i.is_key in (
         put i.at i.instance,

@@ -2,19 +2,17 @@
 use Rattle.std.proofs.Common.{◌≡◌, inl, inr, ℕ, true, true≢false, List, [], ◌∷◌}
 use Rattle.std.proofs.Common.{Option, Some, None, refl, sym, ap, subst, ◌∙◌}
 use Rattle.std.specs.Prelude.{slice_get, option_and_then}
-use Rattle.arm_value.specs.Json.{Json, text}
+use Rattle.arm_value.specs.Json.{Json}
 use Rattle.arm_ids.specs.Id.{text_of}
 use Rattle.arm_ids.specs.declared.id.ResourceId.{ResourceId}
-use Rattle.reading.specs.Reading.{pure}
 use Rattle.reading.specs.World.{value_in}
 use Rattle.reading.specs.Knowledge.{Known, known, absent, missing, Told, value, told, Holds, Completes}
-use Rattle.reading.proofs.Parts.{value_in-continued}
 use Rattle.provider_trait.specs.declared.act.Act.TheVariants.{Put}
 use Rattle.provider_trait.specs.declared.answer.Answer.{Answer}
 use Rattle.provider_trait.specs.declared.answer.Answer.TheVariants.{Stored, Gone, Refused}
-use Rattle.deploy_cells.specs.Cells.{Step, Position, Cell, name, state, World}
-use Rattle.deploy_cells.specs.Guarded.{Reads, there_if}
-use Rattle.deploy_cells.specs.Puts.{Kind, IsPut, key_at, id_at, body_in, AreAllowed}
+use Rattle.deploy_cells.specs.Cells.{Step, Position, Cell, state, World}
+use Rattle.deploy_cells.specs.Guarded.{Reads}
+use Rattle.deploy_cells.specs.Puts.{key_at, id_at, body_in, AreAllowed}
 use Rattle.deploy_cells.proofs.SameLemmas.{id_is}
 use Rattle.plan_cells.specs.Known.{Table, entry_of}
 use Rattle.plan_cells.specs.Meaning.{meaning, bodies}
@@ -34,13 +32,13 @@ use Rattle.deploy_histories.specs.Events.{progress, state_in}
 use Rattle.deploy_histories.specs.Points.{point, IsKnownThen}
 use Rattle.deploy_histories.specs.Values.{a_body, body_reading, value_or_null}
 use Rattle.deploy_histories.specs.Legal.{May, MayEnd, IsLegalFrom, IsLegal}
-use Rattle.deploy_histories.specs.Outcome.{MayAnswer, stores_by, Target, put_target, target, IsGivenTo, IsGiven}
+use Rattle.deploy_histories.specs.Outcome.{MayAnswer, stores_by, Target, target, IsGivenTo, IsGiven}
 use Rattle.deploy_histories.specs.Outcome.{AreGiven}
 use Rattle.deploy_histories.proofs.ReadinessLemmas.{first_is}
 use Rattle.history_laws.specs.Past.{StaysDone, WasReady, IsKept, OneAnswer}
 use Rattle.history_laws.proofs.Steps.{IsChanged, at_changed, points_later}
 use Rattle.history_laws.proofs.Keeping.{given_target, kept_step, kept_opening}
-use Rattle.history_laws.proofs.Included.{put_is, keys_listed, start_so, start_is}
+use Rattle.history_laws.proofs.Included.{put_is, keys_listed, start_so, key_at_start, target_at_start, body_there}
 use Rattle.history_laws.proofs.Puts.{listed_task}
 
 -- what is stored, by now, is so in the world
@@ -109,7 +107,7 @@ stored_same i j e = cc
 
 module _ (x : Planned) (planned : IsPlanned x) (w : World) (sat : Satisfies x.deployment x.held w) where
   pub on_the_way : (f : ℕ → Status) → StoredIsSo x w f → IsOnTheWay x.deployment (course x) (point x f) w
-  on_the_way f so = record { keys = keys_listed x planned w sat; stored = so }
+  on_the_way f so = record { keys = keys_listed x planned w sat.is_world; stored = so }
 
   holds_at : (c : Cell) (k : Known Json) → ((o : Option Json) → k ≡ entry_of o → w c ≡ o) → Holds (w c) k
   holds_at c (known j) h = h (Some j) refl
@@ -124,34 +122,6 @@ module _ (x : Planned) (planned : IsPlanned x) (w : World) (sat : Satisfies x.de
 
   pub earlier_so : (f g : ℕ → Status) → StaysDone f g → StoredIsSo x w g → StoredIsSo x w f
   earlier_so f g more so k j e = so k j ((points_later f g more x).stored k j e)
-
-  -- a name of a put is known at the start
-  title_at_start : (p : Position) (s : Step) (n : List ℕ) → w (name p s) ≡ Some (text n)
-      → start_world x.known (name p s) ≡ Some (text n)
-  title_at_start p s n e = start_is x planned w (start_so x planned w sat) (name p s) refl ∙ e
-
-  pub key_at_start : (p : Position) (s : Step) (k : Kind) (n : List ℕ) → IsPut (kinds x.deployment) w p s k n
-      → key_in x.deployment (start_world x.known) p s ≡ Some (key_at x.deployment.place k.type n)
-  key_at_start p s k n i =
-      ap (option_and_then (task.key_by x.deployment.place (kinds x.deployment p s.resource)))
-      (title_at_start p s n i.is_included.has_name)
-      ∙ ap (λ (o : Option Kind). task.key_by x.deployment.place o (text n)) i.is_included.is_declared
-
-  pub target_at_start : (p : Position) (s : Step) (k : Kind) (n : List ℕ) → IsPut (kinds x.deployment) w p s k n
-      → target x (task.put p s)
-      ≡ Some (record { act = Put; id = text_of (id_at x.deployment.place k.type n); api = k.api })
-  target_at_start p s k n i =
-      ap (put_target x.deployment.place (kinds x.deployment p s.resource))
-      (title_at_start p s n i.is_included.has_name)
-      ∙ ap (λ (o : Option Kind). put_target x.deployment.place o (Some (text n))) i.is_included.is_declared
-
-  -- the body of a put in the world
-  body_there : (o : Option (Reads Json)) (b : Json) → body_in w o ≡ Some b → value_in w (there_if o) ≡ Some (Some b)
-  unfolding value_in
-  body_there None b e = let f : None ≡ Some b = e in absurd (cc)
-  body_there (Some r) b e =
-      value_in-continued Cell Json Json (Option Json) w r (λ v. pure (Some v))
-      ∙ ap (option_and_then (λ v. value_in w (pure (Some v)))) e
 
   pub so_value : (r : Reads (Option Json)) (t : Told Cell (Option Json)) (o : Option Json) → IsSo w r t → t ≡ value o
       → value_in w r ≡ Some o
@@ -168,7 +138,7 @@ module _ (x : Planned) (planned : IsPlanned x) (w : World) (sat : Satisfies x.de
       let v = r.is_ready.has_values (record { part = a_body; reading = body_reading x.deployment p s }) (inl refl) in
       let here = so_value (body_reading x.deployment p s) (told r.known (body_reading x.deployment p s)) v.0
       (told_so (Option Json) w r.known all (body_reading x.deployment p s)) v.1 in
-      let same : v.0 ≡ Some b = some_option v.0 (Some b) (sym here ∙ body_there (bodies x.deployment p s) b e) in
+      let same : v.0 ≡ Some b = some_option v.0 (Some b) (sym here ∙ body_there w (bodies x.deployment p s) b e) in
       sym (ap value_or_null (v.1 ∙ ap value same)) ∙ r.is_ready.has_body
 
 -- nothing more is stored
@@ -224,7 +194,7 @@ module _ (may : MayAnswer) (single : OneAnswer may) (x : Planned) (planned : IsP
       → IsGivenTo may (target x (task.put p s)) body (Stored j) → (k : ResourceId)
       → is_state_at (key_in x.deployment (start_world x.known) p s) (state k) ≡ true → w (state k) ≡ Some j
   answered_so f so u p s body j is r given k at =
-      let q = put_is x planned w sat p s (listed_task x.tasks u (task.put p s) is) in
+      let q = put_is x planned w sat.is_world p s (listed_task x.tasks u (task.put p s) is) in
       let b = sat.have_bodies p s q.kind q.title q.is_put in
       let same = body_is x planned w sat f so u p s body r b.0 b.1 in
       let a = allowed p s q.kind q.title b.0 q.is_put b.1 in
@@ -233,7 +203,8 @@ module _ (may : MayAnswer) (single : OneAnswer may) (x : Planned) (planned : IsP
         act = Put;
         id = text_of (id_at x.deployment.place q.kind.type q.title);
         api = q.kind.api;
-      }) body (Stored j) given (target_at_start x planned w sat p s q.kind q.title q.is_put) in
+      }) body (Stored j) given
+      (target_at_start x planned w (start_so x planned w sat.is_world) p s q.kind q.title q.is_put) in
       let theirs : may Put (text_of (id_at x.deployment.place q.kind.type q.title)) q.kind.api body (Stored a.0)
       = subst (λ (c : Json). may Put (text_of (id_at x.deployment.place q.kind.type q.title)) q.kind.api c
       (Stored a.0)) same a.1.1 in
@@ -243,7 +214,8 @@ module _ (may : MayAnswer) (single : OneAnswer may) (x : Planned) (planned : IsP
       let l = key_of_state (key_in x.deployment (start_world x.known) p s) k at in
       let here : key_at x.deployment.place q.kind.type q.title ≡ k
       = some_key (key_at x.deployment.place q.kind.type q.title) l.0
-      (sym (key_at_start x planned w sat p s q.kind q.title q.is_put) ∙ l.1.0) ∙ l.1.1 in
+      (sym (key_at_start x planned w (start_so x planned w sat.is_world) p s q.kind q.title q.is_put)
+      ∙ l.1.0) ∙ l.1.1 in
       subst (λ (i : ResourceId). w (state i) ≡ Some j) here (a.1.0 ∙ ap Some one)
 
   stored_now : (p : Progress) (u : ℕ) (j : Json) → MayEnd x p u (Stored j) → IsGiven may x p (answer u (Stored j))

@@ -1,0 +1,4 @@
+pub mod SameLemmas
+pub mod SettledLemmas
+pub mod FillLemmas
+pub mod FilledLemmas

@@ -65,13 +65,18 @@ fn add_line(bytes: &mut Vec<u8>, line: &str) -> Result<(), AllocError> {
     add_row(bytes, "|")
 }
 
+// Adds a request, with these fields after its start line.
+fn add_with(bytes: &mut Vec<u8>, fields: &str, request: &str) -> Result<(), AllocError> {
+    let (line, rest) = request.split_once('|').unwrap_or((request, ""));
+    add_line(bytes, line)?;
+    add_line(bytes, fields)?;
+    add_row(bytes, rest)
+}
+
 // Compares what is read of a request with these fields after its start line.
 fn check_with(alloc: Global, fields: &str, request: &str, wanted: &str) -> Result<(), Fail> {
-    let (line, rest) = request.split_once('|').unwrap_or((request, ""));
     let mut bytes = Vec::new(alloc);
-    add_line(&mut bytes, line)?;
-    add_line(&mut bytes, fields)?;
-    add_row(&mut bytes, rest)?;
+    add_with(&mut bytes, fields, request)?;
     check_read(alloc, fields, (bytes.as_slice(), &[500], &[]), wanted)
 }
 

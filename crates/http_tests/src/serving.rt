@@ -2,7 +2,7 @@
 use crate::writing::{bytes_of, compare, letting_go, text_of};
 use arm_edges::{Connection, Link, RealLink, Sink};
 use arm_value::{Bytes, Text};
-use deploy_http::{Ask, Code, Reply, Request, read_request, write_reply};
+use deploy_http::{Ask, Code, HttpFault, Reply, Request, read_request, write_reply};
 use std::alloc::Global;
 use std::io::{Read, Write};
 use std::net::{Ipv4Addr, Net, TcpStream};
@@ -36,7 +36,17 @@ fn reply_to<E: Sink>(alloc: Global, end: &mut E, request: &Request) -> Result<()
 // Reads a request for a group, and replies that it is not there.
 fn serve<E: Connection>(alloc: Global, end: &mut E) -> Result<(), Fail> {
     let mut rest = Bytes::from_vec(Vec::new(alloc));
-    match read_request(alloc, end, &mut rest) {
+    let answer = read_request(alloc, end, &mut rest);
+    reply_after(alloc, end, answer)
+}
+
+// Replies to what was read.
+fn reply_after<E: Sink>(
+    alloc: Global,
+    end: &mut E,
+    answer: Result<Option<Request>, HttpFault>,
+) -> Result<(), Fail> {
+    match answer {
         Ok(Some(request)) => letting_go(reply_to(alloc, end, &request), request),
         Ok(None) => Err(Fail::from("no request")),
         Err(_) => Err(Fail::from("a fault")),
@@ -56,7 +66,12 @@ fn client_of<R: Net<Stream = TcpStream>>(
     port: Option<u16>,
 ) -> Result<TcpStream, Fail> {
     let port = port.ok_or("no port")?;
-    let mut client = TcpStream::connect(rt, (Ipv4Addr::LOCALHOST, port))?;
+    sent_by(alloc, TcpStream::connect(rt, (Ipv4Addr::LOCALHOST, port))?)
+}
+
+// The client, which has sent the request.
+fn sent_by(alloc: Global, client: TcpStream) -> Result<TcpStream, Fail> {
+    let mut client = client;
     match send(alloc, &mut client) {
         Ok(()) => Ok(client),
         Err(fail) => letting_go(Err(fail), client),

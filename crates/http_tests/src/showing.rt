@@ -107,17 +107,24 @@ fn say_asked(out: &mut String, alloc: Global, ask: &Ask) -> Result<(), AllocErro
     }
 }
 
-// Adds what is asked of a deployment that is there, of a lock or of a resource.
+// Adds what is asked of a deployment that is there, of a resource or of a lock.
 fn say_more(out: &mut String, ask: &Ask) -> Result<(), AllocError> {
     match ask {
         Ask::GetDeployment(at) => say_deployment(out, "GetDeployment", at),
         Ask::Resume(at) => say_maybe(out, "Resume", at),
         Ask::Abandon(at) => say_maybe(out, "Abandon", at),
+        Ask::GetResource(at) => say(out, &["GetResource", at.id.as_str()]),
+        Ask::DeleteResource(at) => say(out, &["DeleteResource", at.id.as_str()]),
+        other => say_of_lock(out, other),
+    }
+}
+
+// Adds what is asked of a lock.
+fn say_of_lock(out: &mut String, ask: &Ask) -> Result<(), AllocError> {
+    match ask {
         Ask::PutLock { at, level, notes } => say_put_lock(out, at, *level, notes),
         Ask::GetLock(at) => say_lock(out, "GetLock", at),
         Ask::DeleteLock(at) => say_lock(out, "DeleteLock", at),
-        Ask::GetResource(at) => say(out, &["GetResource", at.id.as_str()]),
-        Ask::DeleteResource(at) => say(out, &["DeleteResource", at.id.as_str()]),
         _ => say(out, &["something else"]),
     }
 }
@@ -183,11 +190,9 @@ fn say_deployed(out: &mut String, alloc: Global, ask: &Ask) -> Result<(), AllocE
     else {
         return say(out, &["no deployment"]);
     };
-    say(out, &["Deploy", subscription.as_str()])?;
-    say(out, &["", group.as_str(), name.as_str()])?;
-    say(out, &["", mode_word(*mode), ""])?;
-    out.push_str(text_of(template.as_slice()))?;
-    out.push_str(" ")?;
+    let (s, g, n) = (subscription.as_str(), group.as_str(), name.as_str());
+    write!(out, "Deploy {s} {g} {n} {} ", mode_word(*mode))?;
+    say(out, &[text_of(template.as_slice()), ""])?;
     say_given(out, alloc, parameters)
 }
 

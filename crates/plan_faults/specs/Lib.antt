@@ -1,0 +1,4 @@
+pub mod Rules
+pub mod Known
+pub mod Dependencies
+pub mod Faults

@@ -1,0 +1,3 @@
+pub mod GrowthLemmas
+pub mod HoleLemmas
+pub mod NumberLemmas

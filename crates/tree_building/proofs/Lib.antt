@@ -1,0 +1,5 @@
+mod NestLemmas
+mod GrownLemmas
+mod LeftLemmas
+mod WithinLemmas
+mod SizeLemmas

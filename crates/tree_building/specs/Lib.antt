@@ -1,0 +1,3 @@
+pub mod Depth
+pub mod Sight
+pub mod Built

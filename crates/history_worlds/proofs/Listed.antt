@@ -69,12 +69,12 @@ module _ (w : World) where
   among_more r us ts l a = record { list = l.list; is_read = l.is_read; among = λ t h. a t (l.among t h) }
 
   -- both parts have their lists
-  record Both (r s : Reads (List Task)) (ts : List Task) : Type 0 where
-    one : List Task
-    two : List Task
-    one_read : value_in w r ≡ Some one
-    two_read : value_in w s ≡ Some two
-    is : ts ≡ one ++ two
+  pub record Both (r s : Reads (List Task)) (ts : List Task) : Type 0 where
+    pub one : List Task
+    pub two : List Task
+    pub one_read : value_in w r ≡ Some one
+    pub two_read : value_in w s ≡ Some two
+    pub is : ts ≡ one ++ two
 
   by_two : (r s : Reads (List Task)) (ts xs : List Task) → value_in w r ≡ Some xs → (o : Option (List Task))
       → value_in w s ≡ o → option_and_then (λ ys. value_in w (pure (xs ++ ys))) o ≡ Some ts → Both r s ts
@@ -95,7 +95,7 @@ module _ (w : World) where
       by_two r s ts xs e (value_in w s) refl
       (sym (value_in-continued Cell Json (List Task) (List Task) w s (λ ys. pure (xs ++ ys))) ∙ f)
 
-  both_of : (r s : Reads (List Task)) (ts : List Task) → value_in w (both_lists r s) ≡ Some ts → Both r s ts
+  pub both_of : (r s : Reads (List Task)) (ts : List Task) → value_in w (both_lists r s) ≡ Some ts → Both r s ts
   both_of r s ts e =
       by_one r s ts (value_in w r) refl
       (sym (value_in-continued Cell Json (List Task) (List Task) w r (λ xs. continued s (λ ys. pure (xs ++ ys)))) ∙ e)
@@ -224,10 +224,10 @@ module _ (w : World) where
   -- ---- scopes
 
   -- the tasks of a scope: its entry, those of its resources, and its leave
-  record ScopeList (p : Position) (t : TemplateTree) (ts : List Task) : Type 0 where
-    inside : List Task
-    is_read : value_in w (trees_tasks p 0 (trees_in t)) ≡ Some inside
-    is : ts ≡ enter p ∷ (inside ++ leave p ∷ [])
+  pub record ScopeList (p : Position) (t : TemplateTree) (ts : List Task) : Type 0 where
+    pub inside : List Task
+    pub is_read : value_in w (trees_tasks p 0 (trees_in t)) ≡ Some inside
+    pub is : ts ≡ enter p ∷ (inside ++ leave p ∷ [])
 
   by_inside : (p : Position) (t : TemplateTree) (ts : List Task) (o : Option (List Task))
       → value_in w (trees_tasks p 0 (trees_in t)) ≡ o
@@ -240,7 +240,7 @@ module _ (w : World) where
     is = sym (some_is (enter p ∷ (us ++ leave p ∷ [])) ts f);
   }
 
-  scope_list : (p : Position) (t : TemplateTree) (ts : List Task) → value_in w (template_tasks p t) ≡ Some ts
+  pub scope_list : (p : Position) (t : TemplateTree) (ts : List Task) → value_in w (template_tasks p t) ≡ Some ts
       → ScopeList p t ts
   scope_list p (template h rs) ts e =
       by_inside p (template h rs) ts (value_in w (trees_tasks p 0 rs)) refl

@@ -42,13 +42,15 @@ use Rattle.deploy_histories.specs.Outcome.{BelongsTo}
 use Rattle.history_laws.specs.Past.{WasReady, IsLeft, IsKept}
 use Rattle.history_laws.proofs.Steps.{at_itself, all_stay_done}
 use Rattle.history_laws.proofs.Keeping.{ready_still, kept_step, kept_opening, kept_always}
-use Rattle.history_laws.proofs.Puts.{listed_task, any_has}
+use Rattle.history_laws.proofs.Puts.{listed_task, any_has, deletes_alone}
 use Rattle.history_laws.proofs.Included.{start_so, put_is, keys_listed, start_is, key_at_start}
 use Rattle.history_laws.proofs.Included.{target_at_start}
 use Rattle.history_laws.proofs.Way.{stored_by, put_with, key_of_state, some_key}
 use Rattle.history_laws.proofs.Belonging.{stored_in}
 use Rattle.history_replays.proofs.Later.{known_later}
-use Rattle.history_worlds.specs.Whole.{IsWhole}
+use Rattle.history_worlds.proofs.Lists.{lists_known}
+use Rattle.history_worlds.proofs.Once.{listed_once}
+use Rattle.history_worlds.proofs.Start.{the_list}
 use Rattle.history_worlds.proofs.Values.{the_world, known_so, is_world, a_putter, stored_at, put_value, held_value}
 
 same_of : {A : Type 0} (a b : A) → Some a ≡ Some b → a ≡ b
@@ -58,6 +60,21 @@ holds_by : (a : Option Json) (k : Known Json) → ((u : Option Json) → k ≡ e
 holds_by a (known v) h = h (Some v) refl
 holds_by a absent h = h None refl
 holds_by a missing h = tt
+
+-- ---- each put is listed once
+
+not_delete : (q : Position) (s : Step) (k : ResourceId) → task.delete k ≡ task.put q s → ⊥
+not_delete q s k e = cc
+
+put_once : (x : Planned) → IsPlanned x → (q : Position) (s : Step) (u v : ℕ)
+    → slice_get x.tasks u ≡ Some (task.put q s) → slice_get x.tasks v ≡ Some (task.put q s) → u ≡ v
+put_once x planned q s u v a b =
+    let l = the_list x planned in
+    let ds = task.deletes_in x.mode x.deployment.place x.keys x.held in
+    listed_once (start_world x.known) q s x.deployment.template l.scopes ds x.tasks l.is_read
+    (λ t i e.
+    let k = deletes_alone x.mode x.deployment.place x.keys x.held t i in not_delete q s k.0 (sym k.1 ∙ e))
+    l.joined u v a b
 
 -- ---- the answers that stored
 
@@ -125,7 +142,7 @@ module _ (may : MayAnswer) (x : Planned) where
   was_stored (crash ∷ es) p l g k n j h e =
       was_stored es (after crash p) l.1 g.1 (kept_step may x p crash l.0 g.0 k) n j h e
 
-module _ (may : MayAnswer) (x : Planned) (planned : IsPlanned x) (whole : IsWhole x) (h : List Event)
+module _ (may : MayAnswer) (x : Planned) (planned : IsPlanned x) (h : List Event)
     (legal : IsLegal x h) (given : AreGiven may x at_opening h) (ended : HasSucceeded x (progress h)) where
   abbrev d : Deployment
   d = x.deployment
@@ -137,15 +154,15 @@ module _ (may : MayAnswer) (x : Planned) (planned : IsPlanned x) (whole : IsWhol
   kept = kept_always may x h legal given
 
   w : World
-  w = the_world may x planned p kept ended.all_done whole.lists
+  w = the_world may x planned p kept ended.all_done (lists_known x planned)
 
   knows : (c : Cell) (o : Option Json) → IsKnown (meaning d) (at_point (course x) (point x p.status)) c o → w c ≡ o
   unfolding w
-  knows c o k = known_so may x planned p kept ended.all_done whole.lists c o k
+  knows c o k = known_so may x planned p kept ended.all_done (lists_known x planned) c o k
 
   world : (c : Cell) → value_in w (meaning d c) ≡ Some (w c)
   unfolding w
-  world c = is_world may x planned p kept ended.all_done whole.lists c
+  world c = is_world may x planned p kept ended.all_done (lists_known x planned) c
 
   start_is_so : Completes x.known w
   start_is_so = start_so x planned w world
@@ -275,7 +292,7 @@ module _ (may : MayAnswer) (x : Planned) (planned : IsPlanned x) (whole : IsWhol
       let listed : list_any (same_id key) x.keys ≡ true
       = keys_listed x planned w world key
       (record { at = q; instance = s; kind = k; title = n; is_put = i; has_key = refl }) in
-      let j = stored_at may x planned p kept ended.all_done whole.lists key listed in
+      let j = stored_at may x planned p kept ended.all_done (lists_known x planned) key listed in
       let z = stored_by x p.status key j.0 j.1 in
       let a = put_with x key z.task z.puts in
       let b = put_is x planned w world a.at a.instance
@@ -294,16 +311,16 @@ module _ (may : MayAnswer) (x : Planned) (planned : IsPlanned x) (whole : IsWhol
         has = z.has;
         state_is =
             knows (state key) (Some j.0)
-            (put_value may x planned p kept ended.all_done whole.lists key j.0 listed j.1).is_known;
+            (put_value may x planned p kept ended.all_done (lists_known x planned) key j.0 listed j.1).is_known;
       }
 
   not_put : (k : ResourceId) → (IsPutAt d.place (kinds d) w k → ⊥) → (b : Bool) → list_any (same_id k) x.keys ≡ b
       → w (state k) ≡ held_state x.held k
   not_put k never false e =
       knows (state k) (held_state x.held k)
-      (held_value may x planned p kept ended.all_done whole.lists k e).is_known
+      (held_value may x planned p kept ended.all_done (lists_known x planned) k e).is_known
   not_put k never true e =
-      let t = a_putter may x planned p kept ended.all_done whole.lists k (any_has k x.keys e) in
+      let t = a_putter may x planned p kept ended.all_done (lists_known x planned) k (any_has k x.keys e) in
       let a = put_with x k t.0 t.1.1 in
       let b = put_is x planned w world a.at a.instance (subst (λ (z : Task). Has z x.tasks) a.is t.1.0) in
       let l = key_of_state (key_in d (start_world x.known) a.at a.instance) k a.has_key in
@@ -374,7 +391,7 @@ module _ (may : MayAnswer) (x : Planned) (planned : IsPlanned x) (whole : IsWhol
       let c = was_stored may x h at_opening legal given (kept_opening may x) n j listed e in
       let z = put_state q s k t i in
       let rd = body_reads q s k t i in
-      let one : z.number ≡ n.task = whole.once z.number n.task (task.put q s) z.is_task is in
+      let one : z.number ≡ n.task = put_once x planned q s z.number n.task z.is_task is in
       let same : z.stored ≡ j
       = state_same z.stored j (state_of (sym z.has ∙ (ap p.status one ∙ c.is_stored))) in
       record {

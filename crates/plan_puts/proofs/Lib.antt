@@ -1,0 +1,4 @@
+mod InstanceLemmas
+mod LineLemmas
+mod SameLemmas
+mod FoundLemmas

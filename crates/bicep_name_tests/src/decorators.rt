@@ -1,6 +1,6 @@
 // Which decorators may be where.
 
-use crate::rows::{Question, wrong};
+use crate::rows::{Question, check};
 use std::test::Fail;
 
 const ROWS: &str = "@description('a')
@@ -248,7 +248,5 @@ resource r 'T/x@1' = {
 
 #[test]
 fn decorators_are_refused_where_they_may_not_be(rt: HostRuntime) -> Result<(), Fail> {
-    let wrong = wrong(rt.alloc(), Question::Decorator, ROWS)?;
-    assert_eq!(rt; wrong.as_str(), "");
-    Ok(())
+    check(rt.alloc(), Question::Decorator, ROWS)
 }

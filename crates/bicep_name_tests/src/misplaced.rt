@@ -1,6 +1,6 @@
 // What may not be where it is.
 
-use crate::rows::{Question, wrong};
+use crate::rows::{Question, check};
 use std::test::Fail;
 
 const RESOURCES: &str = "targetScope = 'resourceGroup'
@@ -264,14 +264,10 @@ param copy int = 1
 
 #[test]
 fn resources_and_modules_have_their_own_fields(rt: HostRuntime) -> Result<(), Fail> {
-    let wrong = wrong(rt.alloc(), Question::Misplaced, RESOURCES)?;
-    assert_eq!(rt; wrong.as_str(), "");
-    Ok(())
+    check(rt.alloc(), Question::Misplaced, RESOURCES)
 }
 
 #[test]
 fn for_expressions_are_refused_where_they_may_not_be(rt: HostRuntime) -> Result<(), Fail> {
-    let wrong = wrong(rt.alloc(), Question::Misplaced, LOOPS)?;
-    assert_eq!(rt; wrong.as_str(), "");
-    Ok(())
+    check(rt.alloc(), Question::Misplaced, LOOPS)
 }

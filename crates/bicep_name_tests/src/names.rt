@@ -1,18 +1,14 @@
 // What names stand for.
 
-use crate::rows::{mark_of, parsed, source_of};
+use crate::rows::{Question, check, letting_go};
 use arm_value::{OutOfMemory, Text};
 use bicep_found::Stop;
-use bicep_found::join::let_go;
 use bicep_names::{Kind, Outputs, Symbols, resolve_value};
 use bicep_parser::File;
 use bicep_resolved::SourceValue;
 use bicep_tree::{Declaration, Value};
 use std::alloc::{AllocError, Global};
 use std::test::Fail;
-
-// What is before each row.
-const FRONT: &str = "output o string = ";
 
 // Each row is the value of an output.
 const ROWS: &str = "p
@@ -218,18 +214,18 @@ fn outputs(alloc: Global) -> Result<Vec<Outputs>, OutOfMemory> {
     Ok(all)
 }
 
-fn known(value: SourceValue) -> Option<usize> {
-    let_go(value);
-    None
+fn fault_of(found: &Result<SourceValue, Stop>) -> Option<usize> {
+    match found {
+        Ok(_) => None,
+        Err(Stop::Unknown(at)) => Some(*at),
+        Err(Stop::OutOfMemory) => Some(0),
+    }
 }
 
 // The offset of the first unknown name in a value.
 fn first_in(alloc: Global, symbols: &Symbols, outputs: &[Outputs], value: &Value) -> Option<usize> {
-    match resolve_value(alloc, symbols, outputs, &[], value) {
-        Ok(value) => known(value),
-        Err(Stop::Unknown(at)) => Some(at),
-        Err(Stop::OutOfMemory) => Some(0),
-    }
+    let found = resolve_value(alloc, symbols, outputs, &[], value);
+    letting_go(fault_of(&found), found)
 }
 
 // The offset of the first unknown name in the value of the file's output.
@@ -248,41 +244,15 @@ fn first_unknown(
     }
 }
 
-fn is_right(
-    alloc: Global,
-    symbols: &Symbols,
-    outputs: &[Outputs],
-    row: &str,
-) -> Result<bool, AllocError> {
-    let source = source_of(alloc, FRONT, row)?;
-    match parsed(alloc, source.as_str()) {
-        Some(file) => {
-            let found = first_unknown(alloc, symbols, outputs, &file);
-            let_go(file);
-            Ok(found == mark_of(FRONT, row))
-        }
-        None => Ok(false),
-    }
-}
-
-// The rows that are answered otherwise.
-fn wrong(alloc: Global, symbols: &Symbols, outputs: &[Outputs]) -> Result<String, AllocError> {
-    let mut out = String::new(alloc);
-    for row in ROWS.split("---\n") {
-        if !is_right(alloc, symbols, outputs, row)? {
-            out.push_str(row)?;
-        }
-    }
-    Ok(out)
+/// The offset of the first unknown name in the value of the file's output.
+pub fn unknown(alloc: Global, file: &File) -> Result<Option<usize>, AllocError> {
+    let mut symbols = Symbols::new(alloc);
+    add_all(alloc, &mut symbols)?;
+    let outputs = outputs(alloc)?;
+    Ok(first_unknown(alloc, &symbols, outputs.as_slice(), file))
 }
 
 #[test]
 fn each_name_means_something_or_is_unknown(rt: HostRuntime) -> Result<(), Fail> {
-    let alloc = rt.alloc();
-    let mut symbols = Symbols::new(alloc);
-    add_all(alloc, &mut symbols)?;
-    let outputs = outputs(alloc)?;
-    let wrong = wrong(alloc, &symbols, outputs.as_slice())?;
-    assert_eq!(rt; wrong.as_str(), "");
-    Ok(())
+    check(rt.alloc(), Question::Unknown, ROWS)
 }

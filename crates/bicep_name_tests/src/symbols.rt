@@ -1,10 +1,9 @@
 // Which symbols a file has.
 
-use crate::rows::parsed;
-use bicep_found::join::let_go;
+use crate::rows::{letting_go, parsed};
 use bicep_names::Kind;
 use bicep_parser::File;
-use bicep_symbols::{Entry, FileNames, names_of};
+use bicep_symbols::{Entry, FileNames, NameFault, names_of};
 use std::alloc::{AllocError, Global};
 use std::test::Fail;
 
@@ -30,65 +29,7 @@ module q 'q.bicep' = {}
 param w string = 'a'
 ";
 
-// The kind of a symbol, with the number of the resource around it or of its file.
-fn kind(alloc: Global, kind: Kind) -> Result<String, AllocError> {
-    match kind {
-        Kind::Parameter => String::from_str(alloc, "parameter"),
-        Kind::Variable => String::from_str(alloc, "variable"),
-        Kind::Resource(None) => String::from_str(alloc, "resource"),
-        Kind::Resource(Some(around)) => format!(in alloc; "resource in {around}"),
-        Kind::ResourceLoop(None) => String::from_str(alloc, "resource loop"),
-        Kind::ResourceLoop(Some(around)) => format!(in alloc; "resource loop in {around}"),
-        Kind::Module(file) => format!(in alloc; "module {file}"),
-        Kind::ModuleLoop(file) => format!(in alloc; "module loop {file}"),
-    }
-}
-
-fn add(alloc: Global, out: &mut String, entry: &Entry) -> Result<(), AllocError> {
-    let kind = kind(alloc, entry.kind)?;
-    out.push_str(entry.name.as_str())?;
-    out.push_str(": ")?;
-    out.push_str(kind.as_str())?;
-    out.push_str("\n")
-}
-
-// The symbols, a line each.
-fn listed(alloc: Global, names: &FileNames) -> Result<String, AllocError> {
-    let mut out = String::new(alloc);
-    for entry in &names.entries {
-        add(alloc, &mut out, entry)?;
-    }
-    Ok(out)
-}
-
-fn listed_all(alloc: Global, names: FileNames) -> Result<String, AllocError> {
-    let listed = listed(alloc, &names);
-    let_go(names);
-    listed
-}
-
-fn names_in(alloc: Global, file: File) -> Result<String, AllocError> {
-    let names = names_of(alloc, &[2, 1], file.as_slice());
-    let_go(file);
-    match names {
-        Ok(names) => listed_all(alloc, names),
-        Err(_) => String::from_str(alloc, "a name is given twice"),
-    }
-}
-
-fn symbols_in(alloc: Global, source: &str) -> Result<String, AllocError> {
-    match parsed(alloc, source) {
-        Some(file) => names_in(alloc, file),
-        None => String::from_str(alloc, "no file"),
-    }
-}
-
-#[test]
-fn symbols_are_in_source_order(rt: HostRuntime) -> Result<(), Fail> {
-    let symbols = symbols_in(rt.alloc(), FILE)?;
-    assert_eq!(rt;
-        symbols.as_str(),
-        "p: parameter
+const SYMBOLS: &str = "p: parameter
 v: variable
 r: resource
 c: resource in 2
@@ -98,7 +39,59 @@ n: module loop 2
 rs: resource loop
 q: module 1
 w: parameter
-"
-    );
+";
+
+// Adds the kind of a symbol, with the number of the resource around it or of its file.
+fn say_kind(out: &mut String, kind: Kind) -> Result<(), AllocError> {
+    match kind {
+        Kind::Parameter => out.push_str("parameter"),
+        Kind::Variable => out.push_str("variable"),
+        Kind::Resource(None) => out.push_str("resource"),
+        Kind::Resource(Some(around)) => write!(out, "resource in {around}"),
+        Kind::ResourceLoop(None) => out.push_str("resource loop"),
+        Kind::ResourceLoop(Some(around)) => write!(out, "resource loop in {around}"),
+        Kind::Module(file) => write!(out, "module {file}"),
+        Kind::ModuleLoop(file) => write!(out, "module loop {file}"),
+    }
+}
+
+fn say_entry(out: &mut String, entry: &Entry) -> Result<(), AllocError> {
+    out.push_str(entry.name.as_str())?;
+    out.push_str(": ")?;
+    say_kind(out, entry.kind)?;
+    out.push_str("\n")
+}
+
+// Adds the symbols, a line each.
+fn say_symbols(out: &mut String, names: &Result<FileNames, NameFault>) -> Result<(), AllocError> {
+    let Ok(names) = names else {
+        return out.push_str("a name is given twice");
+    };
+    for entry in &names.entries {
+        say_entry(out, entry)?;
+    }
     Ok(())
+}
+
+fn say_file(out: &mut String, alloc: Global, file: &Option<File>) -> Result<(), AllocError> {
+    let Some(file) = file else {
+        return out.push_str("no file");
+    };
+    let names = names_of(alloc, &[2, 1], file.as_slice());
+    letting_go(say_symbols(out, &names), names)
+}
+
+fn say_source(out: &mut String, alloc: Global, source: &str) -> Result<(), AllocError> {
+    let file = parsed(alloc, source);
+    letting_go(say_file(out, alloc, &file), file)
+}
+
+#[test]
+fn symbols_are_in_source_order(rt: HostRuntime) -> Result<(), Fail> {
+    let mut found = String::new(rt.alloc());
+    say_source(&mut found, rt.alloc(), FILE)?;
+    if found.as_str() == SYMBOLS {
+        return Ok(());
+    }
+    Err(Fail::new(format_args!("{found}")))
 }

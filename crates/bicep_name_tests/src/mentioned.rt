@@ -1,6 +1,6 @@
 // Circles of symbols, variables that read state, and what is mentioned through variables.
 
-use crate::answers::{Question, found};
+use crate::mentions::{Mention, check_mentions};
 use std::test::Fail;
 
 // In each row a file, a line `->`, and the names of symbols that mention each other in a circle.
@@ -162,21 +162,15 @@ module m 'm.bicep' = { params: { p: [for x in [ rs[0].id ]: x] } }
 
 #[test]
 fn circles_begin_with_the_symbol_that_is_declared_first(rt: HostRuntime) -> Result<(), Fail> {
-    let found = found(rt.alloc(), Question::Circle, CIRCLES)?;
-    assert_eq!(rt; found.as_str(), CIRCLES);
-    Ok(())
+    check_mentions(rt.alloc(), Mention::Circle, CIRCLES)
 }
 
 #[test]
 fn variables_that_read_state_have_no_entry(rt: HostRuntime) -> Result<(), Fail> {
-    let found = found(rt.alloc(), Question::State(None), STATES)?;
-    assert_eq!(rt; found.as_str(), STATES);
-    Ok(())
+    check_mentions(rt.alloc(), Mention::State(None), STATES)
 }
 
 #[test]
 fn resources_and_modules_are_mentioned_through_variables(rt: HostRuntime) -> Result<(), Fail> {
-    let found = found(rt.alloc(), Question::Dependency, DEPENDENCIES)?;
-    assert_eq!(rt; found.as_str(), DEPENDENCIES);
-    Ok(())
+    check_mentions(rt.alloc(), Mention::Dependency, DEPENDENCIES)
 }

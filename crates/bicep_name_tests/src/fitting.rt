@@ -1,12 +1,12 @@
 // What the places of declarations take.
 
-use crate::rows::{parsed, split};
-use crate::typing::{FRONT, names, outputs, symbols};
+use crate::rows::{Question, check_lines, letting_go, parsed};
+use crate::typing::{names, outputs, symbols};
 use arm_value::{OutOfMemory, Text};
 use bicep_declared::{DeclaredFile, declare_file};
 use bicep_parser::File;
 use bicep_program::SourceFile;
-use bicep_symbols::{Entry, FileNames, names_of};
+use bicep_symbols::{Entry, FileNames, NameFault, names_of};
 use bicep_type_faults::file_fits;
 use std::alloc::{AllocError, Global};
 use std::test::Fail;
@@ -62,90 +62,88 @@ module n 'm.bicep' = [for y in a: { params: { text: y } }]
 // The number of the module's file is 1.
 const MODULES: [u32; 3] = [1, 1, 1];
 
-fn source_file(alloc: Global, name: &str, source: &str) -> Result<Option<SourceFile>, OutOfMemory> {
-    match parsed(alloc, source) {
-        Some(file) => {
-            let name = Text::of(alloc, name)?;
-            let modules = Vec::new(alloc);
-            Ok(Some(SourceFile {
-                name,
-                file,
-                modules,
-            }))
-        }
-        None => Ok(None),
+fn push_file(
+    alloc: Global,
+    all: &mut Vec<SourceFile>,
+    name: &str,
+    source: &str,
+) -> Result<(), OutOfMemory> {
+    let name = Text::of(alloc, name)?;
+    let Some(file) = parsed(alloc, source) else {
+        return Ok(());
+    };
+    let modules = Vec::new(alloc);
+    match all.push(SourceFile {
+        name,
+        file,
+        modules,
+    }) {
+        Ok(()) => Ok(()),
+        Err(_) => Err(AllocError),
     }
 }
 
 // Both files of the program, the main file without any declaration.
 fn files(alloc: Global) -> Result<Vec<SourceFile>, OutOfMemory> {
     let mut all = Vec::new(alloc);
-    if let Some(main) = source_file(alloc, "main.bicep", "")? {
-        all.push(main)?;
-    }
-    if let Some(module) = source_file(alloc, "m.bicep", MODULE)? {
-        all.push(module)?;
-    }
+    push_file(alloc, &mut all, "main.bicep", "")?;
+    push_file(alloc, &mut all, "m.bicep", MODULE)?;
     Ok(all)
 }
 
-fn fault_in(
+// The offset of the first part of the file that does not fit.
+fn fault_among(
     alloc: Global,
+    files: &[SourceFile],
     entries: &[Entry],
     declared: &DeclaredFile,
 ) -> Result<Option<usize>, OutOfMemory> {
-    let files = files(alloc)?;
     let symbols = symbols(alloc, declared.declarations.as_slice())?;
     let outputs = outputs(alloc)?;
-    match file_fits(&files, &symbols, &outputs, entries, declared) {
+    match file_fits(files, &symbols, &outputs, entries, declared) {
         Ok(()) => Ok(None),
         Err(at) => Ok(Some(at)),
     }
 }
 
-fn is_answered(
+fn misfit_in<E>(
     alloc: Global,
-    found: &FileNames,
+    entries: &[Entry],
+    declared: &Result<DeclaredFile, E>,
+) -> Result<Option<usize>, OutOfMemory> {
+    let Ok(declared) = declared else {
+        return Ok(Some(usize::MAX));
+    };
+    let files = files(alloc)?;
+    letting_go(
+        fault_among(alloc, files.as_slice(), entries, declared),
+        files,
+    )
+}
+
+fn misfit_of(
+    alloc: Global,
+    found: &Result<FileNames, NameFault>,
     file: &File,
-    wanted: Option<usize>,
-) -> Result<bool, OutOfMemory> {
+) -> Result<Option<usize>, OutOfMemory> {
+    let Ok(found) = found else {
+        return Ok(Some(usize::MAX));
+    };
     let names = names(alloc)?;
-    match declare_file(alloc, &found.symbols, names.as_slice(), file.as_slice()) {
-        Ok(declared) => Ok(fault_in(alloc, found.entries.as_slice(), &declared)? == wanted),
-        Err(_) => Ok(false),
-    }
+    let declared = declare_file(alloc, &found.symbols, names.as_slice(), file.as_slice());
+    letting_go(
+        misfit_in(alloc, found.entries.as_slice(), &declared),
+        declared,
+    )
 }
 
-fn is_file_right(alloc: Global, file: &File, wanted: Option<usize>) -> Result<bool, OutOfMemory> {
-    match names_of(alloc, &MODULES, file.as_slice()) {
-        Ok(found) => is_answered(alloc, &found, file, wanted),
-        Err(_) => Ok(false),
-    }
-}
-
-fn is_right(alloc: Global, row: &str) -> Result<bool, AllocError> {
-    let (source, wanted) = split(alloc, FRONT, row)?;
-    match parsed(alloc, source.as_str()) {
-        Some(file) => is_file_right(alloc, &file, wanted),
-        None => Ok(false),
-    }
-}
-
-// The rows that are answered otherwise.
-fn wrong(alloc: Global, table: &str) -> Result<String, AllocError> {
-    let mut out = String::new(alloc);
-    for row in table.lines() {
-        if !is_right(alloc, row)? {
-            out.push_str(row)?;
-            out.push_str("\n")?;
-        }
-    }
-    Ok(out)
+/// The offset of the first part of the file that does not fit; one beyond it where a name is given twice or is unknown.
+pub fn first_misfit(alloc: Global, file: &File) -> Result<Option<usize>, OutOfMemory> {
+    let found = names_of(alloc, &MODULES, file.as_slice());
+    letting_go(misfit_of(alloc, &found, file), found)
 }
 
 #[test]
 fn places_of_declarations_take_their_kinds(rt: HostRuntime) -> Result<(), Fail> {
-    let wrong = wrong(rt.alloc(), PLACES)?;
-    assert_eq!(rt; wrong.as_str(), "");
-    Ok(())
+    check_lines(rt.alloc(), Question::Fits, PLACES)
 }

@@ -4,54 +4,26 @@ ghost use Rattle.bicep_declared.specs.View.{declared_tree};
 ghost use Rattle.bicep_circles.specs.Links.{links};
 ghost use Rattle.bicep_circles.specs.Orders.{IsLinkOrder};
 
-use arm_value::{OutOfMemory, Text};
+use crate::declarations::outputs;
+use crate::rows::{letting_go, parsed};
 use bicep_circles::symbol_order;
 use bicep_declared::{Declared, DeclaredFile, declare_file};
 use bicep_dependencies::dependencies;
-use bicep_lexer::tokens;
-use bicep_names::Outputs;
-use bicep_parser::{File, parse};
+use bicep_found::Stop;
+use bicep_parser::File;
 use bicep_states::{StateTable, has_entry, misplaced_variable, state_table};
-use bicep_symbols::{Entry, FileNames, names_of};
+use bicep_symbols::{Entry, FileNames, NameFault, names_of};
 use depend_graph::Sorted;
 use std::alloc::{AllocError, Global};
 use std::collections::BTreeSet;
+use std::test::Fail;
 
 /// What is asked of the symbols of a file. Of variables that read state, also the offset of a misplaced for-expression.
 #[derive(Clone, Copy)]
-pub enum Question {
+pub enum Mention {
     Circle,
     State(Option<usize>),
     Dependency,
-}
-
-// Drops a value, and returns the answer about it.
-fn answered<A: Drop, R>(_value: A, answer: R) -> R {
-    answer
-}
-
-// The file of a source; none where it is none.
-fn parsed(alloc: Global, source: &str) -> Option<File> {
-    match tokens(alloc, source) {
-        Ok(found) => match parse(alloc, found.as_slice()) {
-            Ok(file) => Some(file),
-            Err(_) => None,
-        },
-        Err(_) => None,
-    }
-}
-
-// No outputs of the main file, and one of the module's.
-fn outputs(alloc: Global) -> Result<Vec<Outputs>, OutOfMemory> {
-    let mut module = Outputs::new(alloc);
-    let name = Text::of(alloc, "out")?;
-    if module.find(&name).is_none() {
-        module.add(alloc, &name)?;
-    }
-    let mut all = Vec::new(alloc);
-    all.push(Outputs::new(alloc))?;
-    all.push(module)?;
-    Ok(all)
 }
 
 // Writes the name of a symbol, after a space.
@@ -121,7 +93,7 @@ fn write_sets(
 fn write_ordered(
     alloc: Global,
     out: &mut String,
-    question: Question,
+    question: Mention,
     entries: &[Entry],
     declarations: &[Declared],
     order: &[u32],
@@ -129,16 +101,17 @@ fn write_ordered(
     requires { IsLinkOrder (links (map (λ e. e.kind) entries.now) (map declared_tree declarations.now)) order.now }
 {
     match question {
-        Question::Circle => Ok(()),
-        Question::State(place) => {
+        Mention::Circle => Ok(()),
+        Mention::State(place) => {
             let table = state_table(alloc, entries, declarations, order)?;
-            let answer = write_entries(out, place, entries, declarations, &table);
-            answered(table, answer)
+            letting_go(
+                write_entries(out, place, entries, declarations, &table),
+                table,
+            )
         }
-        Question::Dependency => {
+        Mention::Dependency => {
             let sets = dependencies(alloc, entries, declarations, order)?;
-            let answer = write_sets(out, entries, sets.as_slice());
-            answered(sets, answer)
+            letting_go(write_sets(out, entries, sets.as_slice()), sets)
         }
     }
 }
@@ -146,7 +119,7 @@ fn write_ordered(
 fn write_sorted(
     alloc: Global,
     out: &mut String,
-    question: Question,
+    question: Mention,
     entries: &[Entry],
     declarations: &[Declared],
 ) -> Result<(), AllocError> {
@@ -154,11 +127,10 @@ fn write_sorted(
         Sorted::Order(order) => {
             let ordered = order.as_slice();
             let answer = write_ordered(alloc, out, question, entries, declarations, ordered);
-            answered(order, answer)
+            letting_go(answer, order)
         }
         Sorted::Circle(numbers) => {
-            let answer = write_names(out, entries, numbers.as_slice());
-            answered(numbers, answer)
+            letting_go(write_names(out, entries, numbers.as_slice()), numbers)
         }
     }
 }
@@ -166,58 +138,66 @@ fn write_sorted(
 fn write_declared(
     alloc: Global,
     out: &mut String,
-    question: Question,
+    question: Mention,
     names: &FileNames,
-    declared: DeclaredFile,
+    declared: &Result<DeclaredFile, Stop>,
 ) -> Result<(), AllocError> {
+    let Ok(declared) = declared else {
+        return out.push_str(" an unknown name");
+    };
     let entries = names.entries.as_slice();
-    let declarations = declared.declarations.as_slice();
-    let answer = write_sorted(alloc, out, question, entries, declarations);
-    answered(declared, answer)
+    write_sorted(
+        alloc,
+        out,
+        question,
+        entries,
+        declared.declarations.as_slice(),
+    )
 }
 
 fn write_named(
     alloc: Global,
     out: &mut String,
-    question: Question,
-    names: FileNames,
+    question: Mention,
+    names: &Result<FileNames, NameFault>,
     file: &File,
 ) -> Result<(), AllocError> {
-    let outputs = outputs(alloc)?;
-    let answer = match declare_file(alloc, &names.symbols, outputs.as_slice(), file.as_slice()) {
-        Ok(declared) => write_declared(alloc, out, question, &names, declared),
-        Err(_) => out.push_str(" an unknown name"),
+    let Ok(names) = names else {
+        return out.push_str(" a name that is given twice");
     };
-    answered((names, outputs), answer)
+    let outputs = outputs(alloc)?;
+    let declared = declare_file(alloc, &names.symbols, outputs.as_slice(), file.as_slice());
+    letting_go(
+        write_declared(alloc, out, question, names, &declared),
+        (declared, outputs),
+    )
 }
 
-fn write_parsed(
+fn write_file(
     alloc: Global,
     out: &mut String,
-    question: Question,
-    file: File,
+    question: Mention,
+    file: &Option<File>,
 ) -> Result<(), AllocError> {
-    let answer = match names_of(alloc, &[1, 1], file.as_slice()) {
-        Ok(names) => write_named(alloc, out, question, names, &file),
-        Err(_) => out.push_str(" a name that is given twice"),
+    let Some(file) = file else {
+        return out.push_str(" no file");
     };
-    answered(file, answer)
+    let names = names_of(alloc, &[1, 1], file.as_slice());
+    letting_go(write_named(alloc, out, question, &names, file), names)
 }
 
 fn write_answer(
     alloc: Global,
     out: &mut String,
-    question: Question,
+    question: Mention,
     source: &str,
 ) -> Result<(), AllocError> {
-    match parsed(alloc, source) {
-        Some(file) => write_parsed(alloc, out, question, file),
-        None => out.push_str(" no file"),
-    }
+    let file = parsed(alloc, source);
+    letting_go(write_file(alloc, out, question, &file), file)
 }
 
 /// What is said of the symbols of a file.
-pub fn answer(alloc: Global, question: Question, source: &str) -> Result<String, AllocError> {
+pub fn answer(alloc: Global, question: Mention, source: &str) -> Result<String, AllocError> {
     let mut out = String::new(alloc);
     write_answer(alloc, &mut out, question, source)?;
     Ok(out)
@@ -227,14 +207,14 @@ pub fn answer(alloc: Global, question: Question, source: &str) -> Result<String,
 fn write_marked(
     alloc: Global,
     out: &mut String,
-    question: Question,
+    question: Mention,
     file: &str,
 ) -> Result<(), AllocError> {
     match file.split_once('^') {
         Some((before, after)) => {
             let source = format!(in alloc; "{before}{after}")?;
             let place = Some(before.len());
-            write_answer(alloc, out, Question::State(place), source.as_str())
+            write_answer(alloc, out, Mention::State(place), source.as_str())
         }
         None => write_answer(alloc, out, question, file),
     }
@@ -244,7 +224,7 @@ fn write_marked(
 fn write_row(
     alloc: Global,
     out: &mut String,
-    question: Question,
+    question: Mention,
     row: &str,
 ) -> Result<(), AllocError> {
     let (file, _) = row.split_once("->").unwrap_or((row, ""));
@@ -253,14 +233,33 @@ fn write_row(
     out.push_str("\n")
 }
 
-/// The files of a table, each with what is said of its symbols. A line `---` divides two rows.
-pub fn found(alloc: Global, question: Question, table: &str) -> Result<String, AllocError> {
-    let mut out = String::new(alloc);
+// Writes the files of a table, each with what is said of its symbols. A line `---` divides two rows.
+fn write_table(
+    alloc: Global,
+    out: &mut String,
+    question: Mention,
+    table: &str,
+) -> Result<(), AllocError> {
     for row in table.split("---\n") {
         if !out.is_empty() {
             out.push_str("---\n")?;
         }
-        write_row(alloc, &mut out, question, row)?;
+        write_row(alloc, out, question, row)?;
     }
-    Ok(out)
+    Ok(())
+}
+
+/// Fails unless this is found.
+pub fn compare(found: &str, wanted: &str) -> Result<(), Fail> {
+    if found == wanted {
+        return Ok(());
+    }
+    Err(Fail::new(format_args!("{found}")))
+}
+
+/// Fails unless the files of a table have what it says of their symbols.
+pub fn check_mentions(alloc: Global, question: Mention, table: &str) -> Result<(), Fail> {
+    let mut found = String::new(alloc);
+    write_table(alloc, &mut found, question, table)?;
+    compare(found.as_str(), table)
 }

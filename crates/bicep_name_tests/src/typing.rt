@@ -1,15 +1,16 @@
 // The types of the expressions of a table.
 
-use crate::rows::{parsed, split};
+use crate::rows::{add_row, letting_go, parsed};
 use arm_value::{OutOfMemory, Text};
-use bicep_declared::{Declared, declare_file};
+use bicep_declared::{Declared, DeclaredFile, declare_file};
 use bicep_names::Outputs;
 use bicep_parser::File;
 use bicep_signatures::ValueType;
-use bicep_symbols::{FileNames, names_of};
+use bicep_symbols::{FileNames, NameFault, names_of};
 use bicep_tree::TypeName;
 use bicep_typing::{Typed, value_type};
 use std::alloc::{AllocError, Global};
+use std::test::Fail;
 
 /// What each row goes on from. The outputs of the module are a text and an array.
 pub const FRONT: &str = "param t string
@@ -32,18 +33,23 @@ var v = json('1')
 // The number of the module's file is 1.
 const MODULES: [u32; 2] = [1, 1];
 
-fn with_names(alloc: Global, mut outputs: Outputs, name: &str) -> Result<Outputs, OutOfMemory> {
+fn add_name(alloc: Global, outputs: &mut Outputs, name: &str) -> Result<(), OutOfMemory> {
     let name = Text::of(alloc, name)?;
     if outputs.find(&name).is_none() {
         outputs.add(alloc, &name)?;
     }
-    Ok(outputs)
+    Ok(())
+}
+
+fn add_both(alloc: Global, outputs: &mut Outputs) -> Result<(), OutOfMemory> {
+    add_name(alloc, outputs, "text")?;
+    add_name(alloc, outputs, "list")
 }
 
 /// The names of the outputs of both files.
 pub fn names(alloc: Global) -> Result<Vec<Outputs>, OutOfMemory> {
-    let module = with_names(alloc, Outputs::new(alloc), "text")?;
-    let module = with_names(alloc, module, "list")?;
+    let mut module = Outputs::new(alloc);
+    add_both(alloc, &mut module)?;
     let mut all = Vec::new(alloc);
     all.push(Outputs::new(alloc))?;
     all.push(module)?;
@@ -94,29 +100,41 @@ fn last_type(alloc: Global, declarations: &[Declared]) -> Result<Option<Typed>, 
     }
 }
 
-fn declared_type(
+fn type_in<E>(
     alloc: Global,
-    names: &FileNames,
-    outputs: &[Outputs],
-    file: &File,
+    declared: &Result<DeclaredFile, E>,
 ) -> Result<Option<Typed>, OutOfMemory> {
-    match declare_file(alloc, &names.symbols, outputs, file.as_slice()) {
+    match declared {
         Ok(declared) => last_type(alloc, declared.declarations.as_slice()),
         Err(_) => Ok(None),
     }
 }
 
-fn file_type(alloc: Global, file: &File) -> Result<Option<Typed>, OutOfMemory> {
-    let outputs = names(alloc)?;
-    match names_of(alloc, &MODULES, file.as_slice()) {
-        Ok(names) => declared_type(alloc, &names, outputs.as_slice(), file),
-        Err(_) => Ok(None),
-    }
+fn declared_type(
+    alloc: Global,
+    found: &Result<FileNames, NameFault>,
+    outputs: &[Outputs],
+    file: &File,
+) -> Result<Option<Typed>, OutOfMemory> {
+    let Ok(found) = found else {
+        return Ok(None);
+    };
+    let declared = declare_file(alloc, &found.symbols, outputs, file.as_slice());
+    letting_go(type_in(alloc, &declared), declared)
 }
 
-fn source_type(alloc: Global, source: &str) -> Result<Option<Typed>, OutOfMemory> {
-    match parsed(alloc, source) {
-        Some(file) => file_type(alloc, &file),
+fn file_type(alloc: Global, file: &File) -> Result<Option<Typed>, OutOfMemory> {
+    let outputs = names(alloc)?;
+    let found = names_of(alloc, &MODULES, file.as_slice());
+    letting_go(
+        declared_type(alloc, &found, outputs.as_slice(), file),
+        found,
+    )
+}
+
+fn source_type(alloc: Global, file: &Option<File>) -> Result<Option<Typed>, OutOfMemory> {
+    match file {
+        Some(file) => file_type(alloc, file),
         None => Ok(None),
     }
 }
@@ -149,26 +167,23 @@ fn is_as_said(found: Option<Typed>, word: &str, fault: Option<usize>) -> bool {
     }
 }
 
+// Whether the expression has the type that the word names, or does not fit where its `^` is.
 fn is_right(alloc: Global, word: &str, expression: &str) -> Result<bool, AllocError> {
-    let mut front = String::from_str(alloc, FRONT)?;
-    front.push_str("var w = ")?;
-    let (source, fault) = split(alloc, front.as_str(), expression)?;
-    let found = source_type(alloc, source.as_str())?;
+    let mut source = String::from_str(alloc, FRONT)?;
+    source.push_str("var w = ")?;
+    let fault = add_row(&mut source, expression)?;
+    let file = parsed(alloc, source.as_str());
+    let found = letting_go(source_type(alloc, &file), file)?;
     Ok(is_as_said(found, word, fault))
 }
 
-/// The rows whose expressions have other types.
-pub fn wrong(alloc: Global, table: &str) -> Result<String, AllocError> {
-    let mut out = String::new(alloc);
+/// Fails at the first row whose expression has another type.
+pub fn check(alloc: Global, table: &str) -> Result<(), Fail> {
     for row in table.lines() {
-        let right = match row.split_once('|') {
-            Some((word, expression)) => is_right(alloc, word, expression)?,
-            None => false,
-        };
-        if !right {
-            out.push_str(row)?;
-            out.push_str("\n")?;
+        let (word, expression) = row.split_once('|').unwrap_or((row, ""));
+        if !is_right(alloc, word, expression)? {
+            return Err(Fail::new(format_args!("{row}")));
         }
     }
-    Ok(out)
+    Ok(())
 }

@@ -1,6 +1,6 @@
 // Types of calls, function by function.
 
-use crate::typing::wrong;
+use crate::typing::check;
 use std::test::Fail;
 
 const NUMBERS: &str = "Int|min(1, i, v)
@@ -148,28 +148,20 @@ Text|TOLOWER(t)
 
 #[test]
 fn functions_of_numbers_take_their_kinds(rt: HostRuntime) -> Result<(), Fail> {
-    let wrong = wrong(rt.alloc(), NUMBERS)?;
-    assert_eq!(rt; wrong.as_str(), "");
-    Ok(())
+    check(rt.alloc(), NUMBERS)
 }
 
 #[test]
 fn functions_of_texts_take_their_kinds(rt: HostRuntime) -> Result<(), Fail> {
-    let wrong = wrong(rt.alloc(), TEXTS)?;
-    assert_eq!(rt; wrong.as_str(), "");
-    Ok(())
+    check(rt.alloc(), TEXTS)
 }
 
 #[test]
 fn functions_of_arrays_and_objects_take_their_kinds(rt: HostRuntime) -> Result<(), Fail> {
-    let wrong = wrong(rt.alloc(), LISTS)?;
-    assert_eq!(rt; wrong.as_str(), "");
-    Ok(())
+    check(rt.alloc(), LISTS)
 }
 
 #[test]
 fn functions_of_places_take_their_kinds(rt: HostRuntime) -> Result<(), Fail> {
-    let wrong = wrong(rt.alloc(), PLACES)?;
-    assert_eq!(rt; wrong.as_str(), "");
-    Ok(())
+    check(rt.alloc(), PLACES)
 }

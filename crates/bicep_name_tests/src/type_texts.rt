@@ -1,9 +1,6 @@
 // Type texts of resources.
 
-use crate::rows::{answered, mark_of, parsed, source_of};
-use bicep_parser::File;
-use bicep_type_texts::bad_type;
-use std::alloc::{AllocError, Global};
+use crate::rows::{Question, check};
 use std::test::Fail;
 
 const ROWS: &str = "resource a 'T/x@1' = { name: 'a' }
@@ -85,34 +82,7 @@ resource a 'T/x@1' = {
 }
 ";
 
-fn is_of(alloc: Global, file: File, wanted: Option<usize>) -> Result<bool, AllocError> {
-    let found = bad_type(alloc, file.as_slice());
-    Ok(answered(file, found)? == wanted)
-}
-
-fn is_right(alloc: Global, row: &str) -> Result<bool, AllocError> {
-    let source = source_of(alloc, "", row)?;
-    match parsed(alloc, source.as_str()) {
-        Some(file) => is_of(alloc, file, mark_of("", row)),
-        None => Ok(false),
-    }
-}
-
-// The rows that are answered otherwise.
-fn wrong(alloc: Global, table: &str) -> Result<String, AllocError> {
-    let mut out = String::new(alloc);
-    for row in table.split("---\n") {
-        if !is_right(alloc, row)? {
-            out.push_str(row)?;
-            out.push_str("---\n")?;
-        }
-    }
-    Ok(out)
-}
-
 #[test]
 fn type_texts_have_segments_and_versions(rt: HostRuntime) -> Result<(), Fail> {
-    let wrong = wrong(rt.alloc(), ROWS)?;
-    assert_eq!(rt; wrong.as_str(), "");
-    Ok(())
+    check(rt.alloc(), Question::TypeText, ROWS)
 }

@@ -1,18 +1,18 @@
 // Names in each place of a file, and what may be in `dependsOn`, in `parent` and in a default.
 
-use crate::rows::{answered, mark_of, parsed, source_of};
+use crate::rows::{Question, check, letting_go};
 use arm_value::{OutOfMemory, Text};
 use bicep_declared::{DeclaredFile, declare_file};
 use bicep_found::Stop;
 use bicep_names::Outputs;
 use bicep_parser::File;
 use bicep_placed::misplaced_link;
-use bicep_symbols::{FileNames, names_of};
+use bicep_symbols::{FileNames, NameFault, names_of};
 use std::alloc::{AllocError, Global};
 use std::test::Fail;
 
-// What each row goes on from.
-const FRONT: &str = "var v = []
+/// What each row goes on from.
+pub const FRONT: &str = "var v = []
 param p string
 resource b 'T/x@1' = {
   name: 'b'
@@ -189,15 +189,6 @@ resource d 'T/x/y@1' = { name: 'a', parent: ^p == 'a' ? b : b }
 resource d 'T/x/y@1' = [for x in v: { name: 'a', parent: bs[x] }]
 ";
 
-// What is asked of a file.
-#[derive(Clone, Copy)]
-enum Question {
-    // Its first unknown name.
-    Unknown,
-    // The first thing that is misplaced by what names stand for.
-    Link,
-}
-
 fn add_output(alloc: Global, outputs: &mut Outputs, name: &str) -> Result<(), OutOfMemory> {
     let name = Text::of(alloc, name)?;
     if outputs.find(&name).is_none() {
@@ -206,8 +197,8 @@ fn add_output(alloc: Global, outputs: &mut Outputs, name: &str) -> Result<(), Ou
     Ok(())
 }
 
-// No outputs of the main file, and one of the module's.
-fn outputs(alloc: Global) -> Result<Vec<Outputs>, OutOfMemory> {
+/// No outputs of the main file, and one of the module's.
+pub fn outputs(alloc: Global) -> Result<Vec<Outputs>, OutOfMemory> {
     let mut module = Outputs::new(alloc);
     add_output(alloc, &mut module, "out")?;
     let mut all = Vec::new(alloc);
@@ -216,87 +207,61 @@ fn outputs(alloc: Global) -> Result<Vec<Outputs>, OutOfMemory> {
     Ok(all)
 }
 
-// What is answered of declarations whose names are found.
+// The offset of the first unknown name, or of the first thing that is misplaced by what names stand for.
 fn asked(
     alloc: Global,
     question: Question,
     names: &FileNames,
-    declared: DeclaredFile,
+    declared: &Result<DeclaredFile, Stop>,
 ) -> Result<Option<usize>, AllocError> {
-    let found = match question {
-        Question::Unknown => Ok(None),
-        Question::Link => misplaced_link(
-            alloc,
-            names.entries.as_slice(),
-            declared.declarations.as_slice(),
-        ),
-    };
-    answered(declared, found)
-}
-
-fn answer(
-    alloc: Global,
-    question: Question,
-    names: &FileNames,
-    file: &File,
-) -> Result<Option<usize>, AllocError> {
-    let outputs = outputs(alloc)?;
-    match declare_file(alloc, &names.symbols, outputs.as_slice(), file.as_slice()) {
-        Ok(declared) => asked(alloc, question, names, declared),
-        Err(Stop::Unknown(at)) => Ok(Some(at)),
+    match declared {
+        Ok(declared) => match question {
+            Question::Link => misplaced_link(
+                alloc,
+                names.entries.as_slice(),
+                declared.declarations.as_slice(),
+            ),
+            _ => Ok(None),
+        },
+        Err(Stop::Unknown(at)) => Ok(Some(*at)),
         Err(Stop::OutOfMemory) => Err(AllocError),
     }
 }
 
-fn answer_of(
+// What is answered of a file; an offset beyond it where a name is given twice.
+fn asked_of(
     alloc: Global,
     question: Question,
-    names: FileNames,
+    names: &Result<FileNames, NameFault>,
     file: &File,
 ) -> Result<Option<usize>, AllocError> {
-    let found = answer(alloc, question, &names, file);
-    answered(names, found)
-}
-
-// What is answered of a file; an offset beyond it where a name is given twice.
-fn answer_in(alloc: Global, question: Question, file: File) -> Result<Option<usize>, AllocError> {
-    let found = match names_of(alloc, &[1, 1, 1], file.as_slice()) {
-        Ok(names) => answer_of(alloc, question, names, &file),
-        Err(_) => Ok(Some(usize::MAX)),
+    let Ok(names) = names else {
+        return Ok(Some(usize::MAX));
     };
-    answered(file, found)
+    let outputs = outputs(alloc)?;
+    let declared = declare_file(alloc, &names.symbols, outputs.as_slice(), file.as_slice());
+    letting_go(
+        asked(alloc, question, names, &declared),
+        (declared, outputs),
+    )
 }
 
-fn is_right(alloc: Global, question: Question, row: &str) -> Result<bool, AllocError> {
-    let source = source_of(alloc, FRONT, row)?;
-    match parsed(alloc, source.as_str()) {
-        Some(file) => Ok(answer_in(alloc, question, file)? == mark_of(FRONT, row)),
-        None => Ok(false),
-    }
-}
-
-// The rows that are answered otherwise.
-fn wrong(alloc: Global, question: Question, table: &str) -> Result<String, AllocError> {
-    let mut out = String::new(alloc);
-    for row in table.split("---\n") {
-        if !is_right(alloc, question, row)? {
-            out.push_str(row)?;
-            out.push_str("---\n")?;
-        }
-    }
-    Ok(out)
+/// What is answered of a file with its declarations.
+pub fn declared_in(
+    alloc: Global,
+    question: Question,
+    file: &File,
+) -> Result<Option<usize>, AllocError> {
+    let names = names_of(alloc, &[1, 1, 1], file.as_slice());
+    letting_go(asked_of(alloc, question, &names, file), names)
 }
 
 #[test]
 fn each_name_of_a_file_means_something_or_is_unknown(rt: HostRuntime) -> Result<(), Fail> {
-    let wrong = wrong(rt.alloc(), Question::Unknown, UNKNOWN)?;
-    assert_eq!(rt; wrong.as_str(), "");
-    Ok(())
+    check(rt.alloc(), Question::Declared, UNKNOWN)
 }
 
 #[test]
 fn defaults_dependencies_and_parents_are_of_their_kinds(rt: HostRuntime) -> Result<(), Fail> {
-    let wrong = wrong(rt.alloc(), Question::Link, LINKS)?;
-    assert_eq!(rt; wrong.as_str(), "");
-    Ok(())
+    check(rt.alloc(), Question::Link, LINKS)
 }

@@ -1,5 +1,5 @@
 -- The readiness of a task, and what it says.
-use Rattle.std.proofs.Common.{◌≡◌, inl, inr, ℕ, zero, suc, ◌<◌, Bool, true, false, true≢false, List, [], ◌∷◌}
+use Rattle.std.proofs.Common.{◌≡◌, inl, inr, ℕ, zero, suc, ◌<◌, Bool, true, false, true≢false, List, [], ◌∷◌, ◌++◌}
 use Rattle.std.proofs.Common.{Option, Some, None, refl, sym, ap, subst, ◌∙◌, arith}
 use Rattle.std.specs.Prelude.{◌&&◌, ◌||◌, not, slice_get, option_map, if◌then◌else◌}
 use Rattle.std.specs.List.{list_any}
@@ -23,9 +23,10 @@ use Rattle.deploy_histories.specs.Events.{Status, is_waiting, is_begun, is_done,
 use Rattle.deploy_histories.specs.Points.{IsKnownThen, IsTableOf, point}
 use Rattle.deploy_histories.specs.Values.{Part, a_body, TaskValue, task_values, body_reading, reads_from, value_or_null}
 use Rattle.deploy_histories.specs.Values.{body_of}
-use Rattle.deploy_histories.specs.Readiness.{Fault, needs_task, ready}
+use Rattle.deploy_histories.specs.Readiness.{Fault, needs_task, at_fault, ready, fault_of_part}
 use Rattle.deploy_histories.specs.Readiness.{fault_or, first_fault, needs_first, needs_now, first_undone, by_fault}
-use Rattle.deploy_histories.specs.Readiness.{by_need, by_status, readiness, IsFree, IsReadyWith, IsHeldUp}
+use Rattle.deploy_histories.specs.Readiness.{by_need, by_status, readiness, IsFree, IsReadyWith, IsHeldUp, IsUnknown}
+use Rattle.deploy_histories.specs.Readiness.{IsAtFault}
 
 pub same_table : (x : Planned) (p : Progress) (s t : Table) → IsTableOf x p s → IsTableOf x p t → s ≡ t
 same_table x p s t i j =
@@ -255,6 +256,121 @@ module _ (x : Planned) (t : Table) (p : Progress) (u : ℕ) (task : Task) where
       passing true b e f = cc
       passing false b e f = f
 
+-- ---- faults
+
+fault_said : (s : Status) (need : Option ℕ) (r : Option Fault) (b : Json) (f : Fault)
+    → by_status s (by_need need (by_fault r b)) ≡ at_fault f → (s ≡ is_waiting) × ((need ≡ None) × (r ≡ Some f))
+fault_said (is_done o) need r b f e = cc
+fault_said (is_begun w j) need r b f e = cc
+fault_said is_waiting (Some v) r b f e = cc
+fault_said is_waiting None (Some g) b f e = (refl, (refl, same_fault e))
+  where
+    same_fault : at_fault g ≡ at_fault f → Some g ≡ Some f
+    same_fault h = cc
+fault_said is_waiting None None b f e = cc
+
+module _ (x : Planned) (t : Table) where
+  abbrev Unknown : List TaskValue → Fault → Type 0
+  Unknown vs f = (a : TaskValue) × (IsUnknown x t vs a × (fault_of_part x.deployment t a.part ≡ f))
+
+  unknown_later : (a : TaskValue) (vs : List TaskValue) (f : Fault) (o : Option Json) → told t a.reading ≡ value o
+      → Unknown vs f → Unknown (a ∷ vs) f
+  unknown_later a vs f o e u = (
+    u.0,
+    (
+      record {
+        front = a ∷ u.1.0.front;
+        rest = u.1.0.rest;
+        is = ap (λ (r : List TaskValue). a ∷ r) u.1.0.is;
+        before = λ b h. elim h [
+          | inl i ↦ subst (λ (z : TaskValue). (o : Option Json) × (told t z.reading ≡ value o)) i (o, e)
+          | inr i ↦ u.1.0.before b i
+        ];
+        here = u.1.0.here;
+      },
+      u.1.1,
+    ),
+  )
+
+  unknown_here : (a : TaskValue) (vs : List TaskValue) (f : Fault)
+      → ((o : Option Json) → told t a.reading ≡ value o → ⊥) → Some (fault_of_part x.deployment t a.part) ≡ Some f
+      → Unknown (a ∷ vs) f
+  unknown_here a vs f n e = (
+    a,
+    (
+      record {
+        front = [];
+        rest = vs;
+        is = refl;
+        before = λ b h. absurd h;
+        here = n;
+      },
+      same_some (fault_of_part x.deployment t a.part) f e,
+    ),
+  )
+
+  never_none : (o : Option Json) (z : Told Cell (Option Json)) → z ≡ no_value → z ≡ value o → ⊥
+  never_none o z e f = cc
+
+  never_waits : (o : Option Json) (c : Cell) (z : Told Cell (Option Json)) → z ≡ waits c → z ≡ value o → ⊥
+  never_waits o c z e f = cc
+
+  by_first : (a : TaskValue) (vs : List TaskValue) (f : Fault) (r : Told Cell (Option Json)) → told t a.reading ≡ r
+      → (first_fault x.deployment t vs ≡ Some f → Unknown vs f)
+      → fault_or x.deployment t a.part r (first_fault x.deployment t vs) ≡ Some f → Unknown (a ∷ vs) f
+  by_first a vs f (value o) e more h = unknown_later a vs f o e (more h)
+  by_first a vs f no_value e more h = unknown_here a vs f (λ o g. never_none o (told t a.reading) e g) h
+  by_first a vs f (waits c) e more h = unknown_here a vs f (λ o g. never_waits o c (told t a.reading) e g) h
+
+  fault_is : (vs : List TaskValue) (f : Fault) → first_fault x.deployment t vs ≡ Some f → Unknown vs f
+  fault_is [] f e = cc
+  fault_is (a ∷ vs) f e = by_first a vs f (told t a.reading) refl (λ h. fault_is vs f h) e
+
+  fault_there : (a : TaskValue) (rest : Option Fault) (r : Told Cell (Option Json)) → told t a.reading ≡ r
+      → ((o : Option Json) → told t a.reading ≡ value o → ⊥)
+      → fault_or x.deployment t a.part r rest ≡ Some (fault_of_part x.deployment t a.part)
+  fault_there a rest (value o) e n = absurd (n o e)
+  fault_there a rest no_value e n = refl
+  fault_there a rest (waits c) e n = refl
+
+  fault_back : (front : List TaskValue) (a : TaskValue) (rest : List TaskValue)
+      → ((b : TaskValue) → Has b front → (o : Option Json) × (told t b.reading ≡ value o))
+      → ((o : Option Json) → told t a.reading ≡ value o → ⊥)
+      → first_fault x.deployment t (front ++ a ∷ rest) ≡ Some (fault_of_part x.deployment t a.part)
+  fault_back [] a rest before here =
+      fault_there a (first_fault x.deployment t rest) (told t a.reading) refl here
+  fault_back (b ∷ front) a rest before here =
+      let h = before b (inl refl) in
+      ap (λ (r : Told Cell (Option Json)). fault_or x.deployment t b.part r
+      (first_fault x.deployment t (front ++ a ∷ rest))) h.1
+      ∙ fault_back front a rest (λ c i. before c (inr i)) here
+
+module _ (x : Planned) (t : Table) (p : Progress) (u : ℕ) (task : Task) where
+  pub fault_says : (f : Fault) → readiness x t p.status u task ≡ at_fault f → IsAtFault x t p u task f
+  fault_says f e =
+      let parts = fault_said (p.status u) (first_undone x t p.status task)
+      (first_fault x.deployment t (task_values x.deployment task)) (body_of x t task) f e in
+      let a = fault_is x t (task_values x.deployment task) f parts.1.1 in
+      record {
+        is_free = free_of x t p u task parts.0 parts.1.0;
+        unknown = a.0;
+        is_unknown = a.1.0;
+        has_fault = a.1.1;
+      }
+
+  pub says_fault : (f : Fault) → IsAtFault x t p u task f → readiness x t p.status u task ≡ at_fault f
+  says_fault f h =
+      let needless = free_back x t p u task h.is_free in
+      let faulty : first_fault x.deployment t (task_values x.deployment task) ≡ Some f
+      = ap (first_fault x.deployment t) h.is_unknown.is
+      ∙ (fault_back x t h.is_unknown.front h.unknown h.is_unknown.rest h.is_unknown.before h.is_unknown.here
+      ∙ ap Some h.has_fault) in
+      ap (λ (s : Status). by_status s (by_need (first_undone x t p.status task) (by_fault
+      (first_fault x.deployment t (task_values x.deployment task)) (body_of x t task)))) h.is_free.waits_still
+      ∙ (ap (λ (o : Option ℕ). by_need o (by_fault
+      (first_fault x.deployment t (task_values x.deployment task)) (body_of x t task))) needless
+      ∙ ap (λ (o : Option Fault). by_fault o (body_of x t task)) faulty)
+
 -- ---- more is known
 
 module _ (q t : Table) (grows : Grows q t) where
@@ -318,7 +434,8 @@ module _ (x : Planned) (q t : Table) (grows : Grows q t) (p : Progress) (u : ℕ
 module _ (x : Planned) (p : Progress) (s t : Table) (known_then : IsKnownThen x p s) (all : IsTableOf x p t) where
   stays_by : (c : Cell) (e : Known Json) → s c ≡ e → Stays e (t c)
   stays_by c (known v) e =
-      has_known (meaning x.deployment) (at_point (course x) (point x p.status)) t all c (Some v) (known_then c (Some v) e)
+      has_known (meaning x.deployment) (at_point (course x) (point x p.status)) t all c (Some v)
+      (known_then c (Some v) e)
   stays_by c absent e =
       has_known (meaning x.deployment) (at_point (course x) (point x p.status)) t all c None (known_then c None e)
   stays_by c missing e = tt

@@ -1,5 +1,5 @@
 -- Whether a task may begin, be entered or be left: one word, with cases that exclude one another.
-use Rattle.std.specs.Prelude.{◌≡◌, ◌<◌, ℕ, ◌&&◌, ◌||◌, not, Bool, true, false, List, [], ◌∷◌}
+use Rattle.std.specs.Prelude.{◌≡◌, ◌++◌, ◌<◌, ℕ, ◌&&◌, ◌||◌, not, Bool, true, false, List, [], ◌∷◌}
 use Rattle.std.specs.Prelude.{Option, Some, None, option_map, slice_get, if◌then◌else◌}
 use Rattle.arm_value.specs.Json.{Json}
 use Rattle.reading.specs.Knowledge.{Told, value, told}
@@ -119,3 +119,18 @@ module _ (x : Planned) (t : Table) where
     pub is_undone : done_status (p.status v) ≡ false
     pub is_first : (w : ℕ) (earlier : Task) → w < v → slice_get x.tasks w ≡ Some earlier
         → needs_now task earlier ≡ true → IsDone p w
+
+  -- this is the first value that is not known
+  pub record IsUnknown (values : List TaskValue) (a : TaskValue) : Type 0 where
+    pub front : List TaskValue
+    pub rest : List TaskValue
+    pub is : values ≡ front ++ a ∷ rest
+    pub before : (b : TaskValue) → Has b front → (o : Option Json) × (told t b.reading ≡ value o)
+    pub here : (o : Option Json) → told t a.reading ≡ value o → ⊥
+
+  -- it needs nothing more, and this is the fault of the first value that is not known
+  pub record IsAtFault (p : Progress) (u : ℕ) (task : Task) (f : Fault) : Type 0 where
+    pub is_free : IsFree p u task
+    pub unknown : TaskValue
+    pub is_unknown : IsUnknown (task_values x.deployment task) unknown
+    pub has_fault : fault_of_part x.deployment t unknown.part ≡ f

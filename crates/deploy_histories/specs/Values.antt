@@ -68,7 +68,8 @@ value_or_null (value (Some j)) = j
 value_or_null _ = null
 
 module _ (x : Planned) (t : Table) where
-  -- whether a value reads what a task gives: the state at the key that it puts, or an output of the scope that it leaves
+  -- whether a value reads what a task gives: the state at the key that it puts, or an output of the scope that it
+  -- leaves
   abbrev pub reads_from : Task → TaskValue → Bool
   reads_from v a =
       list_any (λ c. is_given_by x.deployment (start_world x.known) v c) (reads_in (blanked t) a.reading)

@@ -1,0 +1,9 @@
+//! Why a deployment has no plan, where something lacks a value at its start.
+//!
+//! `lack_fault` says it of what is at a path, and `element_fault` of an element of `dependsOn`. `specs/Lacks` says what
+//! lacks a value.
+#![tactic(auto)]
+
+mod lacking;
+
+pub use lacking::{element_fault, lack_fault};

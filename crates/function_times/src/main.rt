@@ -18,7 +18,10 @@ use std::time::Instant;
 use std::{env, io};
 
 // How often each call is timed at each size.
-const TURNS: u32 = 5;
+const TURNS: u32 = 11;
+
+// The characters of a text that is built before each call, so that the processor's caches have little of the arguments.
+const COLD: u64 = 8_000_000;
 
 // The arguments of these shapes at size n.
 fn arguments(alloc: Global, shapes: &[Shape], n: u64) -> Result<Vec<Value>, AllocError> {
@@ -51,6 +54,7 @@ fn has_value(alloc: Global, name: &str, args: &[Value]) -> bool {
 // The microseconds of one call of the function at size n, and whether it gave a value.
 fn micros<R: Clock + Alloc<A = Global>>(rt: &R, case: &Case, n: u64) -> io::Result<(u64, bool)> {
     let args = arguments_of(rt.alloc(), case.2, n)?;
+    let _cold = argument(rt.alloc(), Shape::Text("", "c", ""), COLD)?;
     let start = Instant::now(rt)?;
     let found = has_value(rt.alloc(), case.0, args.as_slice());
     let elapsed = start.elapsed(rt)?;

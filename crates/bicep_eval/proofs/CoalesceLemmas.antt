@@ -31,7 +31,8 @@ module _ (s : Sight) (es : List Source) (i : ℕ) (fs : List Frame) where
       (spec.first_there s (sources (map source_of (drop (i + 1) es))) fs))
   unfolding first_there
   first_left x l e =
-      ap (λ (xs : List Source). told s.known (spec.first_there s (sources (map source_of xs)) fs)) (next_item es i x l e)
+      ap (λ (xs : List Source). told s.known (spec.first_there s (sources (map source_of xs)) fs))
+      (next_item es i x l e)
 
   -- a value that is not null
   pub first_found : (x : Source) (v w : Value) (t : Told Cell Json) → i < length es → x ≡ get_or es i x

@@ -40,7 +40,8 @@ no_parameter v x n =
     let q : Reads (List ℕ) = done None in
     let f = λ (name : List ℕ). read {C = Cell} {J = Json} (parameter [] (fold name)) in
     told-continued (known_of v) q f
-    ∙ ap (λ (u : Told Cell (List ℕ)). and_then u (λ y. told (known_of v) (f y))) (told-done (known_of v) {A = List ℕ} None)
+    ∙ ap (λ (u : Told Cell (List ℕ)). and_then u (λ y. told (known_of v) (f y)))
+    (told-done (known_of v) {A = List ℕ} None)
 
 no_name : (x : Place) (m : Target) (k : ℕ) → output_name (here x) m k ≡ None
 no_name x (t.Resource n) k = refl
@@ -55,7 +56,8 @@ no_output v x m k r =
     let q : Reads (List ℕ) = done None in
     let f = λ (o : List ℕ). continued r (λ j. continued (done (module_key x j)) (output_at (here x) o)) in
     ap (λ o. told (known_of v) (output_value (here x) o r)) (no_name x m k) ∙ told-continued (known_of v) q f
-    ∙ ap (λ (u : Told Cell (List ℕ)). and_then u (λ y. told (known_of v) (f y))) (told-done (known_of v) {A = List ℕ} None)
+    ∙ ap (λ (u : Told Cell (List ℕ)). and_then u (λ y. told (known_of v) (f y)))
+    (told-done (known_of v) {A = List ℕ} None)
 
 pub no_type : (n : ℕ) → [] ≡ (type_of empty n).kind
 unfolding type_within

@@ -2,7 +2,8 @@
 //!
 //! A table is one text: a line `---` divides its rows, and each row is a file, or what follows a front. A `^` is before
 //! the token at which a file is refused; a row without one is accepted. A table of `mentioned` has, after `->`, what is
-//! said of the symbols of its file. A table of types has a row in each line: a type, `|` and an expression of that type.
+//! said of the symbols of its file. A table of types has a row in each line: a type, `|` and an expression of that
+//! type.
 #![tactic(auto)]
 
 #[cfg(test)]

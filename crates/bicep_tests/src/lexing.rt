@@ -6,7 +6,8 @@ use crate::rows::{compare, compare_one};
 use std::alloc::{AllocError, Global};
 use std::test::Fail;
 
-// Adds the source that a table has: `front`, and then the part of each line before its `⇒`, each with `newline` after it.
+// Adds the source that a table has: `front`, and then the part of each line before its `⇒`, each with `newline` after
+// it.
 fn add_source(
     source: &mut String,
     front: &str,

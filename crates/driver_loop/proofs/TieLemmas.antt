@@ -114,7 +114,8 @@ module _ (steps : List DealerStep) (opens : List (Option OpenJob)) (tied : Tied 
               act = r.act;
               worker = r.worker;
               open_there = begun_more p.task steps s ∙ ends p.task (begun p.task steps)
-                  ∙ cond_false (eqb o.task p.task) None (begun p.task steps) (ne_eqb o.task p.task other) ∙ r.open_there;
+                  ∙ cond_false (eqb o.task p.task) None (begun p.task steps)
+                  (ne_eqb o.task p.task other) ∙ r.open_there;
             })
             (eqb_tells j k);
         all = λ t b e. ⊎_elim

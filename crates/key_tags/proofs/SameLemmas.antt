@@ -36,7 +36,8 @@ keys_same ks i j s =
     let b = key_at ks j s.second s.is_second in
     let shared : shares (key_code a.key ∷ []) (key_code b.key ∷ []) ≡ true = ap₂ shares a.is b.is ∙ s.share in
     let same : a.key ≡ b.key =
-    id_is a.key b.key (sym (key_eq a.key b.key) ∙ sym (or_false_twice (bytes_eq (key_code a.key) (key_code b.key))) ∙ shared) in
+    id_is a.key b.key (sym (key_eq a.key b.key)
+    ∙ sym (or_false_twice (bytes_eq (key_code a.key) (key_code b.key))) ∙ shared) in
     record { below = s.below; key = a.key; is_first = a.there; is_second = b.there ∙ ap Some (sym same) }
 
 pub keys_shared : (ks : List ResourceId) (i j : ℕ) → AreSame ks i j → IsShared (tags_by ks) i j

@@ -74,8 +74,13 @@ module _ (t : Table) (filled : Filled (whole_of t) (rows_in t)) where
 
   module _ (path : List ℕ) (mode : Mode) (held : List HeldResource) where
     pub no_value_fault : IsLackAt t path lack.NoValue → IsFault (whole_of t) mode held (fault.NoValue path)
-    no_value_fault l =
-        (known_by_lines t, (known_now, inl (record { reading = l.reading; is_needed = l.is_needed; has_none = l.stops })))
+    no_value_fault l = (
+      known_by_lines t,
+      (
+        known_now,
+        inl (record { reading = l.reading; is_needed = l.is_needed; has_none = l.stops }),
+      ),
+    )
 
     pub state_fault : (k : ResourceId) → IsLackAt t path (lack.State k)
         → IsFault (whole_of t) mode held (fault.NotStartKnown path k)

@@ -44,7 +44,8 @@ fn add_row(text: &mut String, row: &str) -> Result<(), AllocError> {
     text.push_str("]")
 }
 
-/// Adds why the text of a row is not read, or that it is. A row has a number, what opens, what is between and what closes.
+/// Adds why the text of a row is not read, or that it is. A row has a number, what opens, what is between and what
+/// closes.
 pub fn say_nested(out: &mut String, alloc: Global, asked: &str) -> Result<(), AllocError> {
     let mut text = String::new(alloc);
     add_row(&mut text, asked)?;

@@ -1,7 +1,7 @@
 //! How the extents of template expressions with holes grow with what is put into the holes.
 //!
-//! A caller may rely on `probes::holed`, which returns how an expression grows by its extents with five runs of a loop in
-//! its holes, and on `Holed::filled`, which returns its extent for any run. `specs/Growth` says how an extent grows.
+//! A caller may rely on `probes::holed`, which returns how an expression grows by its extents with five runs of a loop
+//! in its holes, and on `Holed::filled`, which returns its extent for any run. `specs/Growth` says how an extent grows.
 #![tactic(auto)]
 
 mod holed;

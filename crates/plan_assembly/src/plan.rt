@@ -21,8 +21,8 @@ pub enum Task {
 /// The plan of a deployment.
 #[derive(Drop)]
 pub struct Plan<'a> {
-    /// The tasks: of each scope its entry, the tasks of its instances in the order of resources and by index, with those
-    /// of a nested deployment in its place, and its leave. The deletes come last.
+    /// The tasks: of each scope its entry, the tasks of its instances in the order of resources and by index, with
+    /// those of a nested deployment in its place, and its leave. The deletes come last.
     pub tasks: Vec<Task>,
     /// The pairs of a task and of one that it needs by what is known at the start, by their numbers, each once, in
     /// order.

@@ -35,7 +35,8 @@ abbrev pub loop_is : List ℕ → Option ResourceCopy → Bool
 loop_is x None = false
 loop_is x (Some c) = is_same_folded x c.name
 
-pub has_loop_is : (x : List ℕ) (r : Listed) (o : Option ResourceCopy) → r.declaration.copy ≡ o → has_loop x r ≡ loop_is x o
+pub has_loop_is : (x : List ℕ) (r : Listed) (o : Option ResourceCopy) →
+    r.declaration.copy ≡ o → has_loop x r ≡ loop_is x o
 has_loop_is x r None e = rw e refl
 has_loop_is x r (Some c) e = rw e refl
 

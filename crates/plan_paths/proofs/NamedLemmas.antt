@@ -88,9 +88,9 @@ module _ (t : Table) (f : ℕ) (laid : IsLaid t) (differ : NamesDiffer (whole_of
   frame_there : f < length t.frames.items
   frame_there = let m = length-map t.frames.items opened_of in omega (arith, m, h)
 
-  pub parameter_found : (w : List ℕ) → w ≡ codes "parameters" → (n : ℕ) (q : Parameter) (fr : Frame) (qs : List Parameter)
-      → n < length (parameter_names u) → fr ≡ get_or t.frames.items f fr → qs ≡ fr.template.now.parameters
-      → q ≡ get_or qs n q
+  pub parameter_found : (w : List ℕ) → w ≡ codes "parameters" → (n : ℕ) (q : Parameter) (fr : Frame)
+      → (qs : List Parameter) → n < length (parameter_names u) → fr ≡ get_or t.frames.items f fr
+      → qs ≡ fr.template.now.parameters → q ≡ get_or qs n q
       → named_path all p w q.name ≡ cell_path all (cell_of (scopes_of t) (spot.Parameter f n))
   parameter_found w x n q fr qs l e g k =
       let same : qs ≡ (header_in u).parameters =
@@ -118,4 +118,5 @@ module _ (t : Table) (f : ℕ) (laid : IsLaid t) (differ : NamesDiffer (whole_of
       let same : os ≡ (header_in u).outputs =
       g ∙ ap (λ (x : Opened). (header_in x.template).outputs) (sym (frame_is t.frames.items f fr frame_there e)) in
       let m = length-map (header_in u).outputs (λ z. fold z.name) in
-      ap (λ y. named_path all p y o.name) x ∙ output_path_is n o (omega (arith, l, m)) (k ∙ ap (λ zs. get_or zs n o) same)
+      ap (λ y. named_path all p y o.name) x ∙ output_path_is n o (omega (arith, l, m))
+      (k ∙ ap (λ zs. get_or zs n o) same)

@@ -1,5 +1,6 @@
 -- Rows whose tags are shared are those of two instances with one key.
-use Rattle.std.proofs.Common.{◌≡◌, ◌⊎◌, inl, inr, ℕ, zero, suc, ◌<◌, Bool, true, false, true≢false, List, [], ◌∷◌, map, length}
+use Rattle.std.proofs.Common.{◌≡◌, ◌⊎◌, inl, inr, ℕ, zero, suc, ◌<◌, Bool, true, false, true≢false}
+use Rattle.std.proofs.Common.{List, [], ◌∷◌, map, length}
 use Rattle.std.proofs.Common.{Option, Some, None, refl, sym, ap, ap₂, ◌∙◌, arith}
 use Rattle.std.specs.Prelude.{slice_get, bytes_eq, option_and_then, if◌then◌else◌}
 use Rattle.foundation.proofs.TruthValues.{or_false_twice}
@@ -24,7 +25,8 @@ use Rattle.plan_cells.specs.Desired.{kinds}
 use Rattle.plan_cells.specs.Reads.{key_in}
 use Rattle.plan_cells.specs.Start.{start_world}
 use Rattle.plan_cells.specs.Tasks.{key_by}
-use Rattle.plan_filling.specs.Rows.{Status, New, Open, Value, Empty, Late, Row, row_at, status_of, known_by, AreDistinct}
+use Rattle.plan_filling.specs.Rows.{Status, New, Open, Value, Empty, Late}
+use Rattle.plan_filling.specs.Rows.{Row, row_at, status_of, known_by, AreDistinct}
 use Rattle.plan_filling.specs.Final.{or_unlisted, final}
 use Rattle.plan_filling.proofs.RowLemmas.{by_same, found_later, status_found}
 use Rattle.plan_tasks.specs.InOrder.{is_in}
@@ -54,7 +56,8 @@ module _ (d : Deployment) (q : knowing.Table) where
       → (cell_tags d q (included p s) ≡ []) ⊎ IsPutCell d q (included p s)
   by_key p s k i e n o g =
       let tags : cell_tags d q (included p s) ≡ key_tags o =
-      ap (λ b. if b then unless_nested (kinds d p s.resource) (key_tags (key_in d (start_world q) p s)) else []) i
+      ap (λ b. if b then unless_nested (kinds d p s.resource)
+      (key_tags (key_in d (start_world q) p s)) else []) i
       ∙ ap (λ m. unless_nested m (key_tags (key_in d (start_world q) p s))) e
       ∙ ap (λ b. if b then [] else key_tags (key_in d (start_world q) p s)) n ∙ ap key_tags g in
       by_option o tags g
@@ -78,14 +81,16 @@ module _ (d : Deployment) (q : knowing.Table) where
   by_kind : (p : Position) (s : Step) → is_in q p s ≡ true → (o : Option Kind) → kinds d p s.resource ≡ o
       → (cell_tags d q (included p s) ≡ []) ⊎ IsPutCell d q (included p s)
   by_kind p s i None e =
-      inl (ap (λ b. if b then unless_nested (kinds d p s.resource) (key_tags (key_in d (start_world q) p s)) else []) i
+      inl (ap (λ b. if b then unless_nested (kinds d p s.resource)
+      (key_tags (key_in d (start_world q) p s)) else []) i
       ∙ ap (λ m. unless_nested m (key_tags (key_in d (start_world q) p s))) e)
   by_kind p s i (Some k) e = by_deployment k.is_deployment refl
     where
       by_deployment : (b : Bool) → k.is_deployment ≡ b
           → (cell_tags d q (included p s) ≡ []) ⊎ IsPutCell d q (included p s)
       by_deployment true n =
-          inl (ap (λ b. if b then unless_nested (kinds d p s.resource) (key_tags (key_in d (start_world q) p s)) else [])
+          inl (ap (λ b. if b then unless_nested (kinds d p s.resource)
+          (key_tags (key_in d (start_world q) p s)) else [])
           i ∙ ap (λ m. unless_nested m (key_tags (key_in d (start_world q) p s))) e
           ∙ ap (λ b. if b then [] else key_tags (key_in d (start_world q) p s)) n)
       by_deployment false n = by_key p s k i e n (key_in d (start_world q) p s) refl
@@ -94,7 +99,8 @@ module _ (d : Deployment) (q : knowing.Table) where
       → (cell_tags d q (included p s) ≡ []) ⊎ IsPutCell d q (included p s)
   by_in p s true i = by_kind p s i (kinds d p s.resource) refl
   by_in p s false i =
-      inl (ap (λ b. if b then unless_nested (kinds d p s.resource) (key_tags (key_in d (start_world q) p s)) else []) i)
+      inl (ap (λ b. if b then unless_nested (kinds d p s.resource)
+      (key_tags (key_in d (start_world q) p s)) else []) i)
 
   put_of : (c : Cell) → (cell_tags d q c ≡ []) ⊎ IsPutCell d q c
   put_of (included p s) = by_in p s (is_in q p s) refl
@@ -327,7 +333,8 @@ module _ (d : Deployment) (rows : List Row) (a : AreDistinct rows) where
       let key : key_in d (start_world q) p s ≡ Some (key_at d.place k.type n) =
       ap (λ o. option_and_then (key_by d.place o) (known_value (q (name p s)))) h.is_included.is_declared
       ∙ ap (λ o. option_and_then (key_by d.place (Some k)) o) h.is_included.has_name in
-      ap (λ o. if is_true o then unless_nested (kinds d p s.resource) (key_tags (key_in d (start_world q) p s)) else [])
+      ap (λ o. if is_true o then unless_nested (kinds d p s.resource)
+      (key_tags (key_in d (start_world q) p s)) else [])
       h.is_included.has_condition
       ∙ ap (λ m. unless_nested m (key_tags (key_in d (start_world q) p s))) h.is_included.is_declared
       ∙ ap (λ b. if b then [] else key_tags (key_in d (start_world q) p s)) h.is_resource ∙ ap key_tags key

@@ -1,8 +1,10 @@
 -- Rows of a filled sheet for which there is no plan, by their lines.
-use Rattle.std.proofs.Common.{◌≡◌, ◌⊎◌, inl, inr, ℕ, zero, suc, ◌+◌, ◌<◌, ◌≤◌, Bool, true, false, true≢false, List, [], ◌∷◌, length}
+use Rattle.std.proofs.Common.{◌≡◌, ◌⊎◌, inl, inr, ℕ, zero, suc, ◌+◌, ◌<◌, ◌≤◌, Bool, true, false, true≢false}
+use Rattle.std.proofs.Common.{List, [], ◌∷◌, length}
 use Rattle.std.proofs.Common.{get_or, refl, sym, ap, ◌∙◌, arith}
 use Rattle.std.specs.Prelude.{not, ◌||◌}
-use Rattle.deploy_cells.specs.Cells.{Cell, parameter, variable, offered, output, count, included, name, deployments, state}
+use Rattle.deploy_cells.specs.Cells.{Cell, parameter, variable, offered, output}
+use Rattle.deploy_cells.specs.Cells.{count, included, name, deployments, state}
 use Rattle.plan_cells.specs.Meaning.{Deployment}
 use Rattle.plan_filling.specs.Rows.{Status, New, Open, Value, Empty, Late, Row, row_at, IsFinished}
 use Rattle.plan_filling.specs.Steps.{Filled}

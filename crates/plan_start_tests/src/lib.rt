@@ -1,8 +1,8 @@
 //! Tests of what is known of deployments at their start.
 //!
 //! Each row of a table is a template with facts on it: what a cell of it is, which tasks there are, at which keys they
-//! put. The facts are written from the rules, by hand. There is nothing here but tests, so there is no edit that must be
-//! refused.
+//! put. The facts are written from the rules, by hand. There is nothing here but tests, so there is no edit that must
+//! be refused.
 #![tactic(auto)]
 
 #[cfg(test)]

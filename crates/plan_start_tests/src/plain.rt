@@ -1,5 +1,5 @@
-// The tasks of a deployment by a plain program: it goes over scopes, resources and indices, and looks each cell up among
-// all lines.
+// The tasks of a deployment by a plain program: it goes over scopes, resources and indices, and looks each cell up
+// among all lines.
 
 use crate::work::push_task;
 use arm_value::Value;

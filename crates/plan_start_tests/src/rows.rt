@@ -159,8 +159,8 @@ pub fn has_same_tasks(told: &str) -> bool {
     }
 }
 
-/// Compares each row of a table: a template, which may go on over several lines, then its facts, each after `> `, and an
-/// empty line.
+/// Compares each row of a table: a template, which may go on over several lines, then its facts, each after `> `, and
+/// an empty line.
 pub fn check(alloc: Global, rows: &str) -> Result<(), Fail> {
     let mut asked = String::new(alloc);
     let mut told = String::new(alloc);

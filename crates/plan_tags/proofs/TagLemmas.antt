@@ -296,7 +296,8 @@ module _ (d : Deployment) where
   where_both true true x y h = h refl refl
 
   no_batch : (p q : Position) (r s : ℕ) → false ≡ (same_position p q && (nat_eq r s && false))
-  no_batch p q r s = sym (ap (λ b. same_position p q && b) (and_false_is (nat_eq r s)) ∙ and_false_is (same_position p q))
+  no_batch p q r s = sym (ap (λ b. same_position p q && b) (and_false_is (nat_eq r s))
+      ∙ and_false_is (same_position p q))
 
   in_batch : (p q : Position) (r n : ℕ) (t : Step) (o : Option ResourceCopy)
       → shares (before p r n ∷ []) (by_copy (λ m. suc m) q t o)

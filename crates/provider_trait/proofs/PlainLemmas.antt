@@ -73,7 +73,8 @@ pub third_code : (kind name : List ℕ) (body : Json) → has_wrong_properties b
     → lacks_location kind body ≡ false → lacks_sku kind body ≡ true
     → refusal kind name body ≡ Some (codes "SkuRequired")
 unfolding refusal
-third_code kind name body a b c = cond_false (has_wrong_properties body) _ _ a ∙ cond_false (lacks_location kind body) _ _ b
+third_code kind name body a b c =
+    cond_false (has_wrong_properties body) _ _ a ∙ cond_false (lacks_location kind body) _ _ b
     ∙ yes (lacks_sku kind body) _ _ c
 
 pub fourth_code : (kind name : List ℕ) (body : Json) → has_wrong_properties body ≡ false
@@ -81,7 +82,8 @@ pub fourth_code : (kind name : List ℕ) (body : Json) → has_wrong_properties 
     → refusal kind name body ≡ Some (codes "AccountNameInvalid")
 unfolding refusal
 fourth_code kind name body a b c d =
-    cond_false (has_wrong_properties body) _ _ a ∙ cond_false (lacks_location kind body) _ _ b ∙ cond_false (lacks_sku kind body) _ _ c
+    cond_false (has_wrong_properties body) _ _ a ∙ cond_false (lacks_location kind body) _ _ b
+    ∙ cond_false (lacks_sku kind body) _ _ c
     ∙ yes (has_wrong_name kind name) _ _ d
 
 pub no_code : (kind name : List ℕ) (body : Json) → has_wrong_properties body ≡ false
@@ -89,7 +91,8 @@ pub no_code : (kind name : List ℕ) (body : Json) → has_wrong_properties body
     → refusal kind name body ≡ None
 unfolding refusal
 no_code kind name body a b c d =
-    cond_false (has_wrong_properties body) _ _ a ∙ cond_false (lacks_location kind body) _ _ b ∙ cond_false (lacks_sku kind body) _ _ c
+    cond_false (has_wrong_properties body) _ _ a ∙ cond_false (lacks_location kind body) _ _ b
+    ∙ cond_false (lacks_sku kind body) _ _ c
     ∙ cond_false (has_wrong_name kind name) _ _ d
 
 and_then : (a x y : Bool) → a ≡ true → x ≡ y → x ≡ (a && y)

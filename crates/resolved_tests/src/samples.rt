@@ -246,8 +246,8 @@ last 1.0.0.0.0.0 => parameter names
 output picked => variable picked
 ";
 
-// Files with an unknown name, and the beginning of the first: a function that is not known, or the item of a loop around
-// a nested resource.
+// Files with an unknown name, and the beginning of the first: a function that is not known, or the item of a loop
+// around a nested resource.
 const UNKNOWN: [(&str, &str); 3] = [
     (
         "output suffix string = environment().suffixes.storage\n",

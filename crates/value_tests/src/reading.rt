@@ -123,7 +123,8 @@ fn say_nesting(out: &mut String, read: &Result<Value, JsonFault>) -> Result<(), 
     }
 }
 
-/// Adds how deep what is read nests, or why nothing is read, of a text within so many arrays; their number is before it.
+/// Adds how deep what is read nests, or why nothing is read, of a text within so many arrays; their number is before
+/// it.
 pub fn say_nested(out: &mut String, alloc: Global, asked: &str) -> Result<(), AllocError> {
     let (depth, inside) = two(asked);
     let mut text = String::new(alloc);

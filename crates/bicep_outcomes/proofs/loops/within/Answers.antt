@@ -17,7 +17,8 @@ loop-outer-preserved c =
     (sym (append_assoc c.loop-outer.inner.items (c.copy_of.result ∷ []) cs))
     (c.loop-outer.invariant (c.copy_of.result ∷ cs)
     (subst (λ (ts : List Turn). AreCopies ts (c.copy_of.result ∷ cs))
-    (sym (next_item c.args.turns.now c.loop-outer.outer-index c.outer-item.result c.loop-outer-test.true c.outer-item.is))
+    (sym (next_item c.args.turns.now c.loop-outer.outer-index c.outer-item.result c.loop-outer-test.true
+    c.outer-item.is))
     (c.copy_of.ensures, h))))
 
 pub returns : goal.returns

@@ -13,7 +13,8 @@ elements-init c =
 pub elements-preserved : goal.elements-preserved
 elements-preserved c =
     let h = c.elements-test.true in
-    elements_more c.args.register.now.table c.args.opener c.args.trees.now c.elements.number c.index-trees-number.result _
+    elements_more c.args.register.now.table c.args.opener c.args.trees.now c.elements.number
+    c.index-trees-number.result _
     c.elements.values.items c.push.new.self.items h c.index-trees-number.is c.in-Ok.ensures
     c.in_ok-push-in-Ok.ensures.items c.elements.invariant
 

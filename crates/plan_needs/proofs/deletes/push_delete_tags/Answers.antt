@@ -14,5 +14,6 @@ loop-key-preserved c =
     λ t.
     one_more (λ k. task_tags (whole_of t) (number_in (scopes_of t)) (start_of t) (delete k)) c.args.keys.now
     c.loop-key.key-index c.key-item.result (tags_in c.args.all.now.items ++ tags_of_deletes t c.args.keys.now)
-    c.loop-key.all.items c.push.new.self.items c.in_ok-tags.tags c.loop-key-test.true c.key-item.is (c.in_ok-tags.ensures t)
+    c.loop-key.all.items c.push.new.self.items c.in_ok-tags.tags c.loop-key-test.true c.key-item.is
+    (c.in_ok-tags.ensures t)
     c.in_ok-push.ensures.items (c.loop-key.invariant t)

@@ -9,6 +9,6 @@ pub mod RoundLemmas
 pub mod NameLemmas
 pub mod PutLemmas
 mod OutputLemmas
-mod TitleLemmas
+pub mod TitleLemmas
 mod CellLemmas
 mod LoopedLemmas

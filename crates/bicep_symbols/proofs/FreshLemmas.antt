@@ -1,7 +1,6 @@
--- Names that are none of those before, and lists that go on.
-use Rattle.std.proofs.Common.{◌≡◌, ℕ, ◌+◌, ◌<◌, suc, Bool, true, false, ◌||◌, List, [], ◌∷◌, ◌++◌, drop, length}
-use Rattle.std.proofs.Common.{get_or, Option, Some, None, refl, sym, ap, ◌∙◌, bytes_eq, encode_utf8_all, cond, add-one}
-use Rattle.std.proofs.Math.Seq.{drop-cons}
+-- Names that are none of those before.
+use Rattle.std.proofs.Common.{◌≡◌, ℕ, Bool, true, false, ◌||◌, List, [], ◌∷◌, ◌++◌, Option, Some, None}
+use Rattle.std.proofs.Common.{refl, sym, ap, ◌∙◌, bytes_eq, encode_utf8_all, cond}
 use Rattle.std.proofs.lemmas.Slice.Eq.{bytes_eq-Decides}
 use Rattle.std.proofs.lemmas.Str.{encodes_same}
 use Rattle.arm_value.specs.Look.{fold, is_same_folded}
@@ -31,8 +30,3 @@ later_by false r e g = g e
 pub later : (xs ys : List (List ℕ)) (q : List ℕ) → is_named (xs ++ ys) q ≡ false → is_named ys q ≡ false
 later [] ys q h = h
 later (x ∷ xs) ys q h = later_by (is_same_folded q x) (is_named (xs ++ ys) q) h (later xs ys q)
-
--- the items from a place on
-pub next_item : {A : Type 0} (xs : List A) (i : ℕ) (x : A) → i < length xs → x ≡ get_or xs i x
-    → drop i xs ≡ x ∷ drop (i + 1) xs
-next_item xs i x h e = rw (add-one, drop-cons xs i x h) (ap (λ y. y ∷ drop (suc i) xs) (sym e))

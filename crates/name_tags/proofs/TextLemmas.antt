@@ -1,13 +1,7 @@
 -- Texts that are added character by character, and the names of a key.
-use Rattle.std.proofs.Common.{◌≡◌, ◌<◌, ◌^◌, ℕ, List, [], ◌∷◌, ◌++◌, map, length, sym, ap, ◌∙◌, arith, lit<}
-use Rattle.std.proofs.Common.{append_assoc, chars, codes, IsUtf8, decimal}
+use Rattle.std.proofs.Common.{◌≡◌, ◌<◌, ℕ, List, [], ◌∷◌, ◌++◌, map, length, sym, ap, ◌∙◌, arith, append_assoc}
 use Rattle.std.specs.Char.{to_ascii_lowercase}
-use Rattle.std.specs.Str.{IsAscii}
 use Rattle.std.proofs.lemmas.List.{map-append, length-map}
-use Rattle.std.proofs.lemmas.Str.{chars-append, chars-IsAscii, IsAscii-append}
-use Rattle.std.proofs.lemmas.Fmt.{IsAscii-decimal}
-use Rattle.foundation.proofs.AsciiWords.{one_ascii}
-use Rattle.arm_eval.specs.Titles.{element}
 use Rattle.arm_value.specs.Look.{fold}
 use Rattle.arm_ids.specs.Segments.{segments, slashed, joined}
 use Rattle.arm_ids.specs.declared.id.ResourceId.{ResourceId}
@@ -29,19 +23,6 @@ exact_more first old new yielded c e g = g ∙ ap (λ xs. xs ++ c ∷ []) e ∙ 
 pub exact_all : (first new yielded all : List ℕ) → map (λ x. x) yielded ≡ all → new ≡ first ++ yielded
     → new ≡ first ++ all
 exact_all first new yielded all e f = f ∙ ap (λ xs. first ++ xs) (sym (same_map yielded) ∙ e)
-
--- ---- `n[i]`
-
-in_brackets : (i : ℕ) → i < 2 ^ 64 → IsAscii (codes "[" ++ (decimal i ++ codes "]"))
-in_brackets i h =
-    IsAscii-append (codes "[") (decimal i ++ codes "]") (one_ascii 91 (lit< tt))
-    (IsAscii-append (decimal i) (codes "]") (IsAscii-decimal i h) (one_ascii 93 (lit< tt)))
-
-pub spelled_element : (name : List ℕ) (i : ℕ) → IsUtf8 name → i < 2 ^ 64
-    → chars (name ++ (codes "[" ++ (decimal i ++ codes "]"))) ≡ element (chars name) i
-spelled_element name i u h =
-    chars-append name (codes "[" ++ (decimal i ++ codes "]")) u
-    ∙ ap (λ r. chars name ++ r) (chars-IsAscii (codes "[" ++ (decimal i ++ codes "]")) (in_brackets i h))
 
 -- ---- the names of a key
 
@@ -79,5 +60,3 @@ names_made f place r n k a b c e h h1 h2 h3 =
     ∷ []))) (kind_spelled place r.type n k h)
     ∙ ap (λ (i : ResourceId). a ++ (loop_names f r.declaration.copy ++ (keyed f i ∷ spelled f (fold (r.type ++ 47 ∷ n))
     ∷ spelled f (fold (joined i.names)) ∷ []))) h
-
--- ---- results

@@ -1,5 +1,5 @@
 use Rattle.std.proofs.Common.{◌<◌, ◌+◌, drop, length, arith}
-use Rattle.bicep_symbols.proofs.FreshLemmas.{next_item}
+use Rattle.foundation.proofs.Lists.{next_item}
 use Rattle.bicep_symbols.proofs.SymbolLemmas.{fresh, more, at_rest}
 use Rattle.bicep_symbols.proofs.registry.register.Goals as goal
 

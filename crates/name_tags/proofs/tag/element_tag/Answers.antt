@@ -3,7 +3,7 @@ use Rattle.arm_eval.specs.Titles.{element}
 use Rattle.plan_codes.specs.NameCodes.{symbolic}
 use Rattle.name_tags.proofs.tag.element_tag.Goals as goal
 use Rattle.foundation.proofs.Options.{if_ok}
-use Rattle.name_tags.proofs.TextLemmas.{spelled_element}
+use Rattle.arm_eval.proofs.TitleLemmas.{spelled_element}
 
 pub returns : goal.returns
 returns c =

@@ -17,11 +17,19 @@ use std::rt::{Clock, Env};
 use std::time::Instant;
 use std::{env, io};
 
-// How often each call is timed at each size.
-const TURNS: u32 = 11;
+// How often each call is timed at each size, at least and at most. Above the least number it is timed again until so many
+// seconds have passed.
+const LEAST_TURNS: u32 = 11;
 
-// The characters of a text that is built before each call, so that the processor's caches have little of the arguments.
-const COLD: u64 = 8_000_000;
+const MOST_TURNS: u32 = 101;
+
+const SECONDS: u64 = 4;
+
+// How often this line is in a text that is built before each call, so that the processor's caches have little of the
+// arguments.
+const COLD: u64 = 125_000;
+
+const LINE: &str = "cccccccccccccccccccccccccccccccccccccccccccccccccccccccccccccccc";
 
 // The arguments of these shapes at size n.
 fn arguments(alloc: Global, shapes: &[Shape], n: u64) -> Result<Vec<Value>, AllocError> {
@@ -54,7 +62,7 @@ fn has_value(alloc: Global, name: &str, args: &[Value]) -> bool {
 // The microseconds of one call of the function at size n, and whether it gave a value.
 fn micros<R: Clock + Alloc<A = Global>>(rt: &R, case: &Case, n: u64) -> io::Result<(u64, bool)> {
     let args = arguments_of(rt.alloc(), case.2, n)?;
-    let _cold = argument(rt.alloc(), Shape::Text("", "c", ""), COLD)?;
+    let _cold = argument(rt.alloc(), Shape::Text("", LINE, ""), COLD)?;
     let start = Instant::now(rt)?;
     let found = has_value(rt.alloc(), case.0, args.as_slice());
     let elapsed = start.elapsed(rt)?;
@@ -74,7 +82,11 @@ fn least<R: Clock + Alloc<A = Global>>(rt: &R, case: &Case) -> io::Result<(u64, 
     let mut once = u64::MAX;
     let mut twice = u64::MAX;
     let mut found = true;
-    for _turn in 0..TURNS {
+    let start = Instant::now(rt)?;
+    for turn in 0..MOST_TURNS {
+        if turn >= LEAST_TURNS && start.elapsed(rt)?.as_secs() >= SECONDS {
+            break;
+        }
         let (smaller, is_found) = micros(rt, case, case.3)?;
         let (larger, is_larger_found) = micros(rt, case, case.3.saturating_mul(2))?;
         once = once.min(smaller);

@@ -19,6 +19,7 @@ use Rattle.plan_cells.specs.Sites.{form_at}
 use Rattle.plan_cells.specs.Known.{Table}
 use Rattle.plan_cells.specs.Meaning.{Deployment}
 use Rattle.plan_cells.specs.Needs.{is_loop, is_symbol, is_element, with_text, value_names}
+use Rattle.plan_tasks.specs.InOrder.{is_in}
 use Rattle.plan_faults.specs.Known.{IsElementAt}
 
 -- whether the text is the index of an element in brackets after the symbolic name
@@ -55,19 +56,21 @@ module _ (d : Deployment) (q : Table) where
         (text title) ≡ true
     pub has_key : key_at d.place listed.type title ≡ k
 
-  -- the element of `dependsOn` at a path names nothing
+  -- the element of `dependsOn` at a path is of an instance that is included, and names nothing
   pub record IsUnknown (path : List ℕ) : Type 0 where
     pub reading : Reads Json
     pub is_element : IsElementAt d path reading
+    pub is_included : is_in q is_element.position is_element.instance ≡ true
     pub given : Json
     pub has : told q reading ≡ value given
     pub no_title : is_title_at is_element.position given ≡ false
     pub no_instance : (s : Step) (k : ResourceId) → IsNamed is_element.position given s k → ⊥
 
-  -- it is no name of a loop, and names instances with two keys
+  -- it is of an instance that is included, is no name of a loop, and names instances with two keys
   pub record IsAmbiguous (path : List ℕ) : Type 0 where
     pub reading : Reads Json
     pub is_element : IsElementAt d path reading
+    pub is_included : is_in q is_element.position is_element.instance ≡ true
     pub given : Json
     pub has : told q reading ≡ value given
     pub no_title : is_title_at is_element.position given ≡ false

@@ -1,3 +1,3 @@
 mod TreeLemmas
-mod TextLemmas
+pub mod TextLemmas
 pub mod NamedLemmas

@@ -9,3 +9,5 @@ mod resources;
 mod scopes;
 
 pub use cells::{element_path, line_path};
+pub use resources::{below, resource_path};
+pub use scopes::instance_path;

@@ -1,0 +1,5 @@
+pub mod OptionLemmas
+pub mod CellLemmas
+pub mod ParentLemmas
+pub mod WorldLemmas
+pub mod PutLemmas

@@ -1,8 +1,8 @@
 -- Of which things something is true, as more things and more tags are looked at.
-use Rattle.std.proofs.Common.{◌≡◌, ◌⊎◌, inl, inr, ℕ, zero, suc, ◌+◌, ◌<◌, ◌≤◌, Bool, true, false, true≢false, ◌||◌}
-use Rattle.std.proofs.Common.{List, [], ◌∷◌, map, drop, length, get_or, bytes_eq, cond, Option, Some, None}
+use Rattle.std.proofs.Common.{◌≡◌, ◌⊎◌, inl, inr, ℕ, zero, suc, ◌+◌, ◌≤◌, Bool, true, false, true≢false, ◌||◌}
+use Rattle.std.proofs.Common.{List, [], ◌∷◌, map, drop, length, bytes_eq, cond, Option, Some, None}
 use Rattle.std.proofs.Common.{refl, sym, ap, subst, ◌∙◌, arith}
-use Rattle.std.specs.Prelude.{slice_get, if◌then◌else◌}
+use Rattle.std.specs.Prelude.{if◌then◌else◌}
 use Rattle.std.specs.List.{list_any}
 use Rattle.std.specs.declared.vec.Vec.{Vec}
 use Rattle.std.specs.declared.alloc.Global.{Global}
@@ -15,7 +15,7 @@ use Rattle.std.proofs.lemmas.Map.Text.{btree_map_updates_str}
 use Rattle.std.proofs.lemmas.Slice.Eq.{bytes_eq-Decides}
 use Rattle.foundation.proofs.Words.{swapped}
 use Rattle.foundation.proofs.Options.{same_some}
-use Rattle.tag_needs.specs.Tags.{Tag, shares, tags_of, tags_in}
+use Rattle.tag_needs.specs.Tags.{Tag, shares, tags_in}
 use Rattle.tag_holders.specs.declared.holders.Found.{Found}
 use Rattle.tag_holders.specs.declared.holders.Found.TheVariants.{Alike, Differing}
 use Rattle.tag_holders.specs.Holders.{class_at, IsHolder, IsTrueOf, AreHolders, Holders, found_at, AreKept}

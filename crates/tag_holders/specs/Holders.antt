@@ -1,7 +1,6 @@
 -- Things that are numbered from 0, each with tags and a class, and which of them have a tag.
 use Rattle.std.specs.Prelude.{◌≡◌, ℕ, suc, bytes_eq, Bool, true, List, [], ◌∷◌, map, slice_get, slice_index_or}
 use Rattle.std.specs.Prelude.{Option, Some, None, if◌then◌else◌}
-use Rattle.std.specs.List.{list_any}
 use Rattle.std.specs.declared.vec.Vec.{Vec}
 use Rattle.std.specs.declared.alloc.Global.{Global}
 use Rattle.std.specs.Ordering.{nat_cmp}

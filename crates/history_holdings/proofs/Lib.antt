@@ -1,0 +1,7 @@
+pub mod ReadingLemmas
+pub mod Effects
+pub mod Deletes
+pub mod Ended
+pub mod Puts
+pub mod Holding
+pub mod Alone

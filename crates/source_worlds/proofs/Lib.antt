@@ -1,0 +1,4 @@
+pub mod ListLemmas
+pub mod NumberLemmas
+pub mod DeclaredLemmas
+pub mod TemplateLemmas

@@ -1,0 +1,3 @@
+mod NothingLemmas
+mod OrderLemmas
+pub mod KnownLemmas

@@ -1,0 +1,22 @@
+-- What declarations become where only some of them are known.
+use Rattle.std.specs.Prelude.{ℕ, Bool, [], ◌∷◌, map, if◌then◌else◌}
+use Rattle.bicep_emission.specs.Emitted.{Scope, no_value}
+use Rattle.emitted_declarations.specs.Declared.{Emission}
+use Rattle.emission_laws.specs.Holes.{fill, holes, nearest}
+
+-- of a symbol that is known what it becomes, made of that with holes; of another nothing
+abbrev pub known_scope : (ℕ → Bool) → Scope → Scope
+known_scope p sc = record {
+  variable = λ n. if p n then sc.variable n else no_value;
+  items = λ n. if p n then sc.items n else no_value;
+  name = λ n fs. if p n then fill (nearest fs) (sc.name n (holes ∷ [])) else no_value;
+  id = λ n fs. if p n then fill (nearest fs) (sc.id n (holes ∷ [])) else no_value;
+}
+
+abbrev pub known : (ℕ → Bool) → Emission → Emission
+known p b = record {
+  scope = known_scope p b.scope;
+  full_name = λ n fs. if p n then b.full_name n fs else no_value;
+  condition = λ n fs. if p n then b.condition n fs else no_value;
+  parts = λ n fs. if p n then map (fill (nearest fs)) (b.parts n (holes ∷ [])) else [];
+}

@@ -1,0 +1,26 @@
+use Rattle.arm_value.specs.Look.{fold}
+use Rattle.arm_value.specs.View.{json}
+use Rattle.arm_env.specs.Look.{a_value}
+use Rattle.plan_sight.proofs.LookLemmas.{owner_within, found_some, found_none}
+use Rattle.point_rows.proofs.SeenNowLemmas.{parameter_shown, parameter_hidden}
+use Rattle.point_rows.proofs.look.look_parameter.Goals as goal
+
+pub parameter_line-requires-clause-there : goal.parameter_line-requires-clause-there
+parameter_line-requires-clause-there c =
+    owner_within c.args.table.now c.args.frame c.index.result.now c.requires.ready c.requires.there c.index.ensures
+
+pub returns-in-Ok-Some : goal.returns-in-Ok-Some
+returns-in-Ok-Some c =
+    λ place e here.
+    parameter_shown c.args.table.now c.args.later.now c.args.frame (fold c.args.name.now) c.index.result.now
+    c.requires.ready c.requires.there c.index.ensures (λ v. a_value (json v.now)) c.look_at.result c.in-Ok-Some.at
+    (found_some _ c.in-Ok-Some.field-0 c.in-Ok-Some.at c.in-Ok-Some.field-0-is c.in-Ok-Some.ensures.found)
+    c.look_at.ensures place e here
+
+pub returns-in-Ok-None : goal.returns-in-Ok-None
+returns-in-Ok-None c =
+    λ place e here.
+    parameter_hidden c.args.table.now c.args.later.now c.args.frame (fold c.args.name.now) c.index.result.now
+    c.requires.ready c.requires.there c.index.ensures
+    (found_none _ c.in-Ok-None.field-0 c.in-Ok-None.field-0-is c.in-Ok-None.ensures.missing)
+    place e here

@@ -1,0 +1,14 @@
+use Rattle.std.proofs.Common.{◌≡◌, map, drop, Some}
+use Rattle.arm_env.specs.Sight.{declared_of}
+use Rattle.plan_cells.specs.Sites.{offered_outputs, outputs_in}
+use Rattle.plan_table.specs.Found.{scope_at}
+use Rattle.point_rows.specs.Rows.{told_now}
+use Rattle.point_rows.proofs.SeenNowLemmas.{listed_rest}
+use Rattle.point_rows.proofs.outputs.outputs_of.Given as goal
+
+abbrev pub invariant-loop-output : goal.invariant-loop-output
+invariant-loop-output l =
+    listed_rest l.table l.later (scope_at l.table l.frame).position (map declared_of l.listed.items)
+    (drop l.output-index l.outputs)
+    ≡ told_now l.table l.later (offered_outputs (scope_at l.table l.frame).position
+    (outputs_in (Some (scope_at l.table l.frame).template)))

@@ -1,0 +1,76 @@
+-- How a task stands that waits and whose needs at the start are done: by what is known at a point of a deployment.
+use Rattle.std.specs.Prelude.{◌≡◌, ◌⊎◌, ℕ, true, false, Some, slice_get}
+use Rattle.arm_value.specs.Json.{Json}
+use Rattle.arm_value.specs.View.{json}
+use Rattle.provider_trait.specs.Act.{FitsAct}
+use Rattle.provider_trait.specs.declared.act.Act.TheVariants as act
+use Rattle.reading.specs.Knowledge.{no_value, waits, told}
+use Rattle.deploy_cells.specs.Cells.{Cell}
+use Rattle.plan_cells.specs.Known.{Table}
+use Rattle.plan_cells.specs.Tasks.{Task, put}
+use Rattle.plan_cells.specs.Children.{Has}
+use Rattle.plan_cells.specs.Start.{start_world}
+use Rattle.plan_cells.specs.Reads.{is_given_by}
+use Rattle.deploy_histories.specs.Planned.{Planned}
+use Rattle.deploy_histories.specs.Events.{Progress, done_status, IsDone}
+use Rattle.deploy_histories.specs.Points.{IsKnownThen}
+use Rattle.deploy_histories.specs.Values.{TaskValue, task_values}
+use Rattle.deploy_histories.specs.Readiness.{ready, readiness, needs_first}
+use Rattle.task_standings.specs.declared.standing.Standing.{Standing}
+use Rattle.task_standings.specs.declared.standing.Standing.TheVariants.{Ready, Waits, Stuck}
+
+-- by what is known, a value of the first task waits for a cell that the second gives
+pub record WaitsFor (x : Planned) (t : Table) (task giver : Task) : Type 0 where
+  pub awaiting : TaskValue
+  pub is_value : Has awaiting (task_values x.deployment task)
+  pub cell : Cell
+  pub is_awaited : told t awaiting.reading ≡ waits cell
+  pub is_given : is_given_by x.deployment (start_world x.known) giver cell ≡ true
+
+-- by what is known, a value of the task is none
+pub record LacksValue (x : Planned) (t : Table) (task : Task) : Type 0 where
+  pub lacking : TaskValue
+  pub is_value : Has lacking (task_values x.deployment task)
+  pub is_none : told t lacking.reading ≡ no_value
+
+-- at a point the first task waits for the second by some of what is known
+pub record IsHeldBy (x : Planned) (p : Progress) (task giver : Task) : Type 0 where
+  pub known : Table
+  pub is_known : IsKnownThen x p known
+  pub waits_for : WaitsFor x known task giver
+
+-- the first task needs the second at the start, or it waits for it
+abbrev pub Needs : Planned → Progress → Task → Task → Type 0
+Needs x p task giver = (needs_first x task giver ≡ true) ⊎ IsHeldBy x p task giver
+
+-- at a point a value of the task is none by some of what is known
+pub record IsStuck (x : Planned) (p : Progress) (task : Task) : Type 0 where
+  pub known : Table
+  pub is_known : IsKnownThen x p known
+  pub lacks : LacksValue x known task
+
+-- the body of a put is an object that nests at most 100
+abbrev pub FitsTask : Task → Json → Type 0
+FitsTask (put p s) body = FitsAct act.Put body
+FitsTask _ body = Unit {0}
+
+-- what is said of a task with a number, by what is known: it is ready with a body; it waits for a task that is not
+-- done; or a value of it is none
+abbrev pub StandsAs : Planned → Progress → Table → ℕ → Task → Standing → Type 0
+StandsAs x p t u task (Ready body) = (readiness x t p.status u task ≡ ready (json body)) × FitsTask task (json body)
+StandsAs x p t u task (Waits v) =
+    (done_status (p.status v) ≡ false)
+    × ((giver : Task) × ((slice_get x.tasks v ≡ Some giver) × WaitsFor x t task giver))
+StandsAs x p t u task Stuck = LacksValue x t task
+
+-- the same of the task of the number
+pub record IsStanding (x : Planned) (p : Progress) (t : Table) (u : ℕ) (s : Standing) : Type 0 where
+  pub task : Task
+  pub is_task : slice_get x.tasks u ≡ Some task
+  pub stands_as : StandsAs x p t u task s
+
+-- each task that is needed at the start is done
+abbrev pub AreStartNeedsDone : Planned → Progress → ℕ → Type 0
+AreStartNeedsDone x p u =
+    (task : Task) (v : ℕ) (other : Task) → slice_get x.tasks u ≡ Some task → slice_get x.tasks v ≡ Some other
+    → needs_first x task other ≡ true → IsDone p v

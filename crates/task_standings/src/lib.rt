@@ -1,0 +1,10 @@
+//! How the tasks of a plan stand at a point of a deployment: ready, waiting for another task, or without a value.
+//!
+//! `specs/Standings.antt` says what this means by a part of what is known. The laws are in `laws`; there is no other
+//! code.
+#![tactic(auto)]
+
+pub mod laws;
+mod standing;
+
+pub use standing::Standing;

@@ -1,9 +1,8 @@
 -- How the extent of an expression grows with what is put into its holes.
-use Rattle.std.specs.Prelude.{◌≡◌, ◌<◌, ◌+◌, ◌-◌, ◌*◌, ◌^◌, ℕ, zero, suc, List, [], ◌∷◌, length, min, max, Option}
+use Rattle.std.specs.Prelude.{◌≡◌, ◌+◌, ◌-◌, ◌^◌, ℕ, suc, [], ◌∷◌, length, min, max, Option}
 use Rattle.std.specs.Prelude.{Some, None}
 use Rattle.arm_expr.specs.Print.{size}
 use Rattle.arm_expr.specs.Tree.{Tree, Trees, text, int, call, member, index, none, more}
-use Rattle.bicep_emission.specs.Emitted.{Frame}
 use Rattle.emitted_sizes.specs.Extent.{bounded}
 use Rattle.measured_holes.specs.declared.holed.Holed.{Holed}
 

@@ -1,5 +1,5 @@
 -- What is put into holes to see how an extent grows.
-use Rattle.std.specs.Prelude.{◌≡◌, ℕ, zero, suc, pos, []}
+use Rattle.std.specs.Prelude.{ℕ, zero, suc, pos, []}
 use Rattle.arm_expr.specs.Tree.{Tree, text, int, member}
 use Rattle.bicep_emission.specs.Emitted.{Frame}
 use Rattle.emission_laws.specs.Holes.{fill}

@@ -5,6 +5,8 @@
 #![tactic(auto)]
 
 mod holed;
+mod measured;
 pub mod probes;
 
 pub use holed::Holed;
+pub use measured::{measured_holes, measured_value_holes};

@@ -42,15 +42,14 @@ use Rattle.deploy_histories.specs.Outcome.{BelongsTo}
 use Rattle.history_laws.specs.Past.{WasReady, IsLeft, IsKept}
 use Rattle.history_laws.proofs.Steps.{at_itself, all_stay_done}
 use Rattle.history_laws.proofs.Keeping.{ready_still, kept_step, kept_opening, kept_always}
-use Rattle.history_laws.proofs.Puts.{listed_task, any_has, deletes_alone}
+use Rattle.history_laws.proofs.Puts.{listed_task, any_has}
 use Rattle.history_laws.proofs.Included.{start_so, put_is, keys_listed, start_is, key_at_start}
 use Rattle.history_laws.proofs.Included.{target_at_start}
 use Rattle.history_laws.proofs.Way.{stored_by, put_with, key_of_state, some_key}
 use Rattle.history_laws.proofs.Belonging.{stored_in}
 use Rattle.history_replays.proofs.Later.{known_later}
-use Rattle.history_worlds.proofs.Lists.{lists_known}
-use Rattle.history_worlds.proofs.Once.{listed_once}
-use Rattle.history_worlds.proofs.Start.{the_list}
+use Rattle.history_starts.proofs.Lists.{lists_known}
+use Rattle.history_starts.proofs.Puts.{put_once}
 use Rattle.history_worlds.proofs.Values.{the_world, known_so, is_world, a_putter, stored_at, put_value, held_value}
 
 same_of : {A : Type 0} (a b : A) → Some a ≡ Some b → a ≡ b
@@ -60,21 +59,6 @@ holds_by : (a : Option Json) (k : Known Json) → ((u : Option Json) → k ≡ e
 holds_by a (known v) h = h (Some v) refl
 holds_by a absent h = h None refl
 holds_by a missing h = tt
-
--- ---- each put is listed once
-
-not_delete : (q : Position) (s : Step) (k : ResourceId) → task.delete k ≡ task.put q s → ⊥
-not_delete q s k e = cc
-
-put_once : (x : Planned) → IsPlanned x → (q : Position) (s : Step) (u v : ℕ)
-    → slice_get x.tasks u ≡ Some (task.put q s) → slice_get x.tasks v ≡ Some (task.put q s) → u ≡ v
-put_once x planned q s u v a b =
-    let l = the_list x planned in
-    let ds = task.deletes_in x.mode x.deployment.place x.keys x.held in
-    listed_once (start_world x.known) q s x.deployment.template l.scopes ds x.tasks l.is_read
-    (λ t i e.
-    let k = deletes_alone x.mode x.deployment.place x.keys x.held t i in not_delete q s k.0 (sym k.1 ∙ e))
-    l.joined u v a b
 
 -- ---- the answers that stored
 

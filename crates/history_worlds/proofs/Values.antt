@@ -55,8 +55,8 @@ use Rattle.history_laws.proofs.OneWorld.{told_output}
 use Rattle.history_laws.proofs.OneWorld.{has_number}
 use Rattle.history_replays.proofs.Later.{known_later}
 use Rattle.history_worlds.proofs.Consistent.{one_known}
-use Rattle.history_worlds.proofs.Listed.{entered_listed, left_listed}
-use Rattle.history_worlds.proofs.Start.{value_entry, seen_now, sound_start, the_list, entry_told_of, opened, there}
+use Rattle.history_starts.proofs.Listed.{entered_listed, left_listed}
+use Rattle.history_starts.proofs.Start.{value_entry, seen_now, sound_start, the_list, entry_told_of, opened, there}
 
 -- ---- tables joined of two
 

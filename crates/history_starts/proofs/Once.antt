@@ -18,7 +18,7 @@ use Rattle.plan_cells.specs.Tasks as tasks
 use Rattle.plan_cells.specs.Tasks.{Task, enter, leave, put, where_included, instance_tasks, instances_tasks}
 use Rattle.plan_cells.specs.Tasks.{all_instances, template_tasks, trees_tasks, tree_tasks, body_tasks}
 use Rattle.plan_cells.proofs.ListLemmas.{has_joined}
-use Rattle.history_worlds.proofs.Listed.{both_of, scope_list}
+use Rattle.history_starts.proofs.Listed.{both_of, scope_list}
 
 some_of : {A : Type 0} (a b : A) → Some a ≡ Some b → a ≡ b
 some_of a b e = cc

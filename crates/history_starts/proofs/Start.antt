@@ -32,7 +32,7 @@ use Rattle.deploy_histories.specs.Events.{Status}
 use Rattle.deploy_histories.specs.Points.{point}
 use Rattle.history_laws.proofs.Included.{first_entry}
 use Rattle.history_laws.proofs.OneWorld.{some_true}
-use Rattle.history_worlds.proofs.Listed.{IsAt, IsThere}
+use Rattle.history_starts.proofs.Listed.{IsAt, IsThere}
 
 some_one : {A : Type 0} (a b : A) → Some a ≡ Some b → a ≡ b
 some_one a b e = cc

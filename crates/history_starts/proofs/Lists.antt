@@ -31,7 +31,7 @@ use Rattle.plan_cells.specs.Start.{start_world}
 use Rattle.plan_cells.specs.Children.{Has}
 use Rattle.deploy_histories.specs.Planned.{Planned, IsPlanned, IsAnswered, is_asked_first}
 use Rattle.history_laws.proofs.Included.{first_entry}
-use Rattle.history_worlds.proofs.Start.{value_entry, entry_told_of, opened}
+use Rattle.history_starts.proofs.Start.{value_entry, entry_told_of, opened}
 
 -- ---- what is told of a reading that goes on
 

@@ -1,0 +1,5 @@
+pub mod Listed
+pub mod Once
+pub mod Start
+pub mod Puts
+pub mod Lists

@@ -5,9 +5,9 @@ use Rattle.arm_value.specs.View.{json}
 use Rattle.provider_trait.specs.Act.{FitsAct}
 use Rattle.provider_trait.specs.declared.act.Act.TheVariants as act
 use Rattle.reading.specs.Knowledge.{no_value, waits, told}
-use Rattle.deploy_cells.specs.Cells.{Cell}
+use Rattle.deploy_cells.specs.Cells.{Position, Cell}
 use Rattle.plan_cells.specs.Known.{Table}
-use Rattle.plan_cells.specs.Tasks.{Task, put}
+use Rattle.plan_cells.specs.Tasks.{Task, enter, leave, put, delete}
 use Rattle.plan_cells.specs.Children.{Has}
 use Rattle.plan_cells.specs.Start.{start_world}
 use Rattle.plan_cells.specs.Reads.{is_given_by}
@@ -16,6 +16,8 @@ use Rattle.deploy_histories.specs.Events.{Progress, done_status, IsDone}
 use Rattle.deploy_histories.specs.Points.{IsKnownThen}
 use Rattle.deploy_histories.specs.Values.{TaskValue, task_values}
 use Rattle.deploy_histories.specs.Readiness.{ready, readiness, needs_first}
+use Rattle.task_standings.specs.declared.standing.Kind.{Kind}
+use Rattle.task_standings.specs.declared.standing.Kind.TheVariants.{Enter, Put, Delete, Leave}
 use Rattle.task_standings.specs.declared.standing.Standing.{Standing}
 use Rattle.task_standings.specs.declared.standing.Standing.TheVariants.{Ready, Waits, Stuck}
 
@@ -74,3 +76,16 @@ abbrev pub AreStartNeedsDone : Planned → Progress → ℕ → Type 0
 AreStartNeedsDone x p u =
     (task : Task) (v : ℕ) (other : Task) → slice_get x.tasks u ≡ Some task → slice_get x.tasks v ≡ Some other
     → needs_first x task other ≡ true → IsDone p v
+
+-- what a task does
+abbrev pub kind_of : Task → Kind
+kind_of (enter p) = Enter
+kind_of (put p s) = Put
+kind_of (delete k) = Delete
+kind_of (leave p) = Leave
+
+-- the task leaves a scope, and is ready
+abbrev pub Leaves : Planned → ℕ → Standing → Type 0
+Leaves x u (Ready body) = (p : Position) × (slice_get x.tasks u ≡ Some (leave p))
+Leaves x u (Waits v) = ⊥
+Leaves x u Stuck = ⊥

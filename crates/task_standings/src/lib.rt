@@ -1,10 +1,12 @@
 //! How the tasks of a plan stand at a point of a deployment: ready, waiting for another task, or without a value.
 //!
-//! `specs/Standings.antt` says what this means by a part of what is known. The laws are in `laws`; there is no other
-//! code.
+//! `specs/Standings.antt` says what this means by a part of what is known, and the trait `Standings` is what a board
+//! asks for it. The laws are in `laws`; there is no other code.
 #![tactic(auto)]
 
 pub mod laws;
 mod standing;
+mod standings;
 
-pub use standing::Standing;
+pub use standing::{Aim, Kind, Standing};
+pub use standings::Standings;

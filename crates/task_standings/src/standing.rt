@@ -1,6 +1,20 @@
 // How tasks stand.
 
-use arm_value::Value;
+use arm_value::{Text, Value};
+use provider_trait::Act;
+
+/// What a task does.
+#[derive(Clone, Copy, Debug, PartialEq, Eq)]
+pub enum Kind {
+    /// It enters a scope.
+    Enter,
+    /// It puts a resource.
+    Put,
+    /// It deletes a resource.
+    Delete,
+    /// It leaves a scope.
+    Leave,
+}
 
 /// How a task stands of which no Begin is open, which is not done, and whose needs at the start are done.
 #[derive(Drop)]
@@ -11,4 +25,15 @@ pub enum Standing {
     Waits(u32),
     /// A value of it is none.
     Stuck,
+}
+
+/// What a put or a deletion is for.
+#[derive(Drop)]
+pub struct Aim {
+    /// What the provider is asked to do.
+    pub act: Act,
+    /// The id of the resource, with its letters as they are spelled.
+    pub id: Text,
+    /// The version of the resource's type, empty for a deletion.
+    pub api: Text,
 }

@@ -184,6 +184,8 @@ pub fn assemble<'a>(start: Start<'a>, mode: Mode, parts: Parts) -> Plan<'a>
     ensures planned { (held : List HeldResource) → ArePlanned start.entry.register.table mode held parts.tasks.items
         parts.keys.items parts.needs.items → IsPlanned result held }
     ensures whole { deployment_of result ≡ whole_of start.entry.register.table }
+    ensures table { result.start.register.table ≡ start.entry.register.table }
+    ensures tasks { result.tasks.items ≡ parts.tasks.items }
     ensures mode { result.mode ≡ mode }
 {
     Plan {

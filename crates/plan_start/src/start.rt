@@ -5,6 +5,7 @@ ghost use Rattle.template_tree.specs.View.{template_tree};
 ghost use Rattle.plan_cells.specs.Children.{NamesDiffer, roots};
 ghost use Rattle.plan_filling.specs.Rows.{fresh};
 ghost use Rattle.plan_filling.specs.Limits.{IsHalted};
+ghost use Rattle.plan_filling.specs.Sound.{Sound};
 ghost use Rattle.plan_filling.specs.Steps.{IsCircle, Filled};
 ghost use Rattle.plan_table.specs.Whole.{whole_of, rows_in, IsLaid};
 ghost use Rattle.plan_table.specs.Counted.{IsCounted};
@@ -15,11 +16,12 @@ use arm_ids::Place;
 use arm_value::OutOfMemory;
 use plan_filling::laws::new_sheets_are_sound;
 use plan_filling::sheet::Halt;
-use plan_filling::visit::{Circle, fill_all};
+use plan_filling::visit::Circle;
 use plan_listing::words::TypeTexts;
 use plan_table::begun::begin_table;
 use plan_table::table::Table;
 use plan_telling::register::Register;
+use plan_visits::fill_all;
 use std::alloc::Global;
 use template_parts::{Bound, run_out};
 use template_tree::Template;
@@ -99,6 +101,7 @@ pub fn known_at_start<'a>(
       place = place.now;
     }) }
     ensures sheet { IfOk result (λ o. IsSheet o.start.register) }
+    ensures sound { IfOk result (λ o. Sound (whole_of o.start.register.table) (rows_in o.start.register.table)) }
     ensures filled { IfOk result (λ o. MatchOption o.circle
         (Filled (whole_of o.start.register.table) (rows_in o.start.register.table))
         (λ c. IsCircle (whole_of o.start.register.table) (rows_in o.start.register.table) c.places.items c.last

@@ -1,0 +1,2 @@
+mod TellNowLemmas
+pub mod BodyLemmas

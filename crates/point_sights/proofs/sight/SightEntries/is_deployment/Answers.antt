@@ -1,0 +1,41 @@
+use Rattle.std.proofs.Common.{refl, Ok, Err}
+use Rattle.arm_env.specs.Look as look
+use Rattle.arm_env.specs.Look.{a_truth, truth_in}
+use Rattle.plan_sights.specs.Seats.{site_of}
+use Rattle.point_sights.specs.PointSeats.{seat_now}
+use Rattle.plan_sights.proofs.SightLemmas.{shown, hidden, awaited, await_stops}
+use Rattle.point_sights.proofs.TellNowLemmas.{deployment_now}
+use Rattle.point_sights.proofs.sight.SightEntries.is_deployment.Goals as goal
+
+pub returns-in-Ok : goal.returns-in-Ok
+returns-in-Ok c =
+    let r = (seat_now c.self.inside.table.now c.self.inside.later.now c.self.inside.frame c.self.inside.place.now
+    c.self.inside.loops.now
+    c.self.inside.by_names) in
+    shown r c.args.self.now c.self.view_is truth_in (look.deployment c.args.key.now) (a_truth c.in-Ok.truth)
+    (c.in-Ok.truth) refl (deployment_now c.self.inside.table.now c.self.inside.later.now
+    c.self.inside.place.now (site_of r) c.args.key.now (λ b. a_truth b) (Ok c.in-Ok.truth)
+    (c.in-Ok.ensures (site_of r) refl))
+
+pub returns-in-Nothing : goal.returns-in-Nothing
+returns-in-Nothing c =
+    let r = (seat_now c.self.inside.table.now c.self.inside.later.now c.self.inside.frame c.self.inside.place.now
+    c.self.inside.loops.now
+    c.self.inside.by_names) in
+    hidden r c.args.self.now c.self.view_is truth_in (look.deployment c.args.key.now) c.self.inside.table.now
+    c.in-Err.lack
+    c.in-Nothing.ensures (deployment_now c.self.inside.table.now c.self.inside.later.now
+    c.self.inside.place.now (site_of r) c.args.key.now (λ b. a_truth b) (Err c.in-Err.lack)
+    (c.in-Err.ensures (site_of r) refl))
+
+pub returns-in-Missing : goal.returns-in-Missing
+returns-in-Missing c =
+    let r = (seat_now c.self.inside.table.now c.self.inside.later.now c.self.inside.frame c.self.inside.place.now
+    c.self.inside.loops.now
+    c.self.inside.by_names) in
+    await_stops c.await_deployment.result (look.deployment c.args.key.now) _ c.await_deployment.ensures
+    (awaited r c.args.self.now c.self.view_is truth_in (look.deployment c.args.key.now) c.self.inside.table.now
+    c.in-Err.lack
+    c.in-Missing.ensures (deployment_now c.self.inside.table.now c.self.inside.later.now
+    c.self.inside.place.now (site_of r) c.args.key.now (λ b. a_truth b) (Err c.in-Err.lack)
+    (c.in-Err.ensures (site_of r) refl)))

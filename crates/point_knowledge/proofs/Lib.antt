@@ -1,0 +1,3 @@
+mod StartLemmas
+mod BlankLemmas
+mod StepLemmas

@@ -1,0 +1,38 @@
+-- What became known, with one fact more.
+use Rattle.std.specs.Prelude.{◌≡◌, ℕ, ◌<◌, true, [], ◌∷◌, ◌++◌, length, Some, option_map, slice_get, slice_set}
+use Rattle.arm_value.specs.View.{json}
+use Rattle.arm_value.specs.declared.value.Value.{Value}
+use Rattle.deploy_cells.specs.Cells.{state}
+use Rattle.plan_cells.specs.Known.{outright}
+use Rattle.plan_cells.specs.Start.{start_world, at_point}
+use Rattle.plan_cells.specs.Tasks.{Task}
+use Rattle.plan_cells.specs.Reads.{is_given_by}
+use Rattle.deploy_histories.specs.Planned.{Planned, course}
+use Rattle.deploy_histories.specs.Events.{Progress, IsDone}
+use Rattle.deploy_histories.specs.Points.{point}
+use Rattle.point_rows.specs.declared.later.Entry.TheVariants as entry
+use Rattle.point_rows.specs.declared.later.Later.{Later}
+use Rattle.point_rows.specs.declared.later.StateAt.{StateAt}
+use Rattle.point_rows.specs.Rows.{entry_at}
+
+-- nothing became known
+pub record IsBlank (l : Later) : Type 0 where
+  pub no_entry : (j : ℕ) → entry_at l.entries.items j ≡ entry.Missing
+  pub no_state : l.states.items ≡ []
+
+-- a state more
+pub record AddsState (s : StateAt) (l m : Later) : Type 0 where
+  pub states : m.states.items ≡ l.states.items ++ s ∷ []
+  pub entries : m.entries.items ≡ l.entries.items
+
+-- the entry of a line has a value
+pub record AddsValue (j : ℕ) (v : Value) (l m : Later) : Type 0 where
+  pub within : j < length l.entries.items
+  pub entries : m.entries.items ≡ slice_set l.entries.items j (entry.Value v)
+  pub states : m.states.items ≡ l.states.items
+
+-- the state is known at the point, and whoever puts it is done
+pub record IsStateThen (x : Planned) (p : Progress) (s : StateAt) : Type 0 where
+  pub is_known : at_point (course x) (point x p.status) (state s.key) ≡ outright (option_map json s.state)
+  pub is_stored : (v : ℕ) (task : Task) → slice_get x.tasks v ≡ Some task
+      → is_given_by x.deployment (start_world x.known) task (state s.key) ≡ true → IsDone p v

@@ -5,18 +5,19 @@ use Rattle.arm_value.specs.Json.{Json, row, items as items_in}
 use Rattle.arm_value.proofs.TreeLemmas.{row-items}
 use Rattle.emitted_trees.specs.Templates.{TemplateTree, TemplateItems, TemplateMembers, TemplateValue}
 use Rattle.emitted_trees.specs.Templates as t
-use Rattle.emitted_trees.specs.Written.{tree_json, items_json, IsWithin, AreWithin, MembersAreWithin, ValueIsWithin}
+use Rattle.emitted_trees.specs.Written.{tree_json, items_json}
+use Rattle.tree_building.specs.Each.{AreSmall, ItemsAreSmall, MembersAreSmall, ValueIsSmall}
 use Rattle.tree_building.specs.Built.{Members, grown, all_grown}
 use Rattle.tree_building.specs.Depth.{depth, items_depth, members_depth, value_depth}
 
 -- ---- items: those that are left begin with one
 
 module _ (left : TemplateItems) (e : TemplateTree) (rest : TemplateItems) (is : left ≡ t.item e rest) where
-  pub item_within : AreWithin left → IsWithin e
-  item_within h = (subst AreWithin is h).0
+  pub item_within : ItemsAreSmall left → AreSmall e
+  item_within h = (subst ItemsAreSmall is h).0
 
-  pub rest_within : AreWithin left → AreWithin rest
-  rest_within h = (subst AreWithin is h).1
+  pub rest_within : ItemsAreSmall left → ItemsAreSmall rest
+  rest_within h = (subst ItemsAreSmall is h).1
 
   left_depth : items_depth left ≤ 119 → items_depth (t.item e rest) ≤ 119
   left_depth h = subst (λ es. items_depth es ≤ 119) is h
@@ -44,11 +45,11 @@ items_end left whole all e w =
 
 module _ (left : TemplateMembers) (k : List ℕ) (v : TemplateValue) (rest : TemplateMembers)
     (is : left ≡ t.member k v rest) where
-  pub value_within : MembersAreWithin left → ValueIsWithin v
-  value_within h = (subst MembersAreWithin is h).0
+  pub value_within : MembersAreSmall left → ValueIsSmall v
+  value_within h = (subst MembersAreSmall is h).0
 
-  pub others_within : MembersAreWithin left → MembersAreWithin rest
-  others_within h = (subst MembersAreWithin is h).1
+  pub others_within : MembersAreSmall left → MembersAreSmall rest
+  others_within h = (subst MembersAreSmall is h).1
 
   members_depth_of : members_depth left ≤ 119 → members_depth (t.member k v rest) ≤ 119
   members_depth_of h = subst (λ ms. members_depth ms ≤ 119) is h

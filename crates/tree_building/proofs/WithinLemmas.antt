@@ -12,7 +12,7 @@ use Rattle.emitted_expressions.specs.Sight.{Sight}
 use Rattle.emitted_trees.specs.EmittedTrees.{copy_index, has_copy}
 use Rattle.emitted_trees.specs.Templates.{TemplateMembers}
 use Rattle.emitted_trees.specs.Templates as t
-use Rattle.emitted_trees.specs.Written.{IsWithin, AreWithin, MembersAreWithin, ValueIsWithin}
+use Rattle.tree_building.specs.Each.{AreSmall, ItemsAreSmall, MembersAreSmall, ValueIsSmall}
 use Rattle.tree_building.specs.Built.{members_of, all_grown, AreParts}
 use Rattle.tree_building.specs.Depth.{depth, items_depth, members_depth, value_depth}
 use Rattle.tree_building.specs.Sight as spec
@@ -21,7 +21,7 @@ use Rattle.tree_building.proofs.GrownLemmas.{loops_are}
 use Rattle.tree_building.proofs.NestLemmas.{loops_nest}
 
 within_by : (b : Bool) (x : Tree) (ms : TemplateMembers) → b ≡ false
-    → IsWithin (if b then t.expression x else t.object ms) → MembersAreWithin ms
+    → AreSmall (if b then t.expression x else t.object ms) → MembersAreSmall ms
 within_by true x ms e h = absurd cc
 within_by false x ms e h = h
 
@@ -33,10 +33,10 @@ flat_by false x ms e h = omega arith
 module _ (w : Sight) (fs : List Frame) where
   -- the members of an object that is no expression
   pub members_within : (y : SourceTree) (at : ℕ) (ps : PropertyTrees) → y ≡ s.object at ps → has_copy ps ≡ false
-      → IsWithin (spec.tree w y fs) → MembersAreWithin (spec.members w ps fs)
+      → AreSmall (spec.tree w y fs) → MembersAreSmall (spec.members w ps fs)
   members_within y at ps e n h =
       within_by (has_copy ps) (spec.expression w (s.object at ps) fs) (spec.members w ps fs) n
-      (subst (λ y. IsWithin (spec.tree w y fs)) e h)
+      (subst (λ y. AreSmall (spec.tree w y fs)) e h)
 
   pub members_flat : (y : SourceTree) (at : ℕ) (ps : PropertyTrees) → y ≡ s.object at ps → has_copy ps ≡ false
       → depth (spec.tree w y fs) ≤ 119 → members_depth (spec.members w ps fs) ≤ 119
@@ -45,8 +45,8 @@ module _ (w : Sight) (fs : List Frame) where
       (subst (λ y. depth (spec.tree w y fs) ≤ 119) e h)
 
   pub items_within : (y : SourceTree) (at : ℕ) (es : SourceTrees) → y ≡ s.array at es
-      → IsWithin (spec.tree w y fs) → AreWithin (spec.items w es fs)
-  items_within y at es e h = subst (λ y. IsWithin (spec.tree w y fs)) e h
+      → AreSmall (spec.tree w y fs) → ItemsAreSmall (spec.items w es fs)
+  items_within y at es e h = subst (λ y. AreSmall (spec.tree w y fs)) e h
 
   pub items_flat : (y : SourceTree) (at : ℕ) (es : SourceTrees) → y ≡ s.array at es
       → depth (spec.tree w y fs) ≤ 119 → items_depth (spec.items w es fs) ≤ 119
@@ -55,9 +55,9 @@ module _ (w : Sight) (fs : List Frame) where
       omega arith
 
   module _ (name : Option (List ℕ)) (v : ValueTree) where
-    pub plain_within : (x : SourceTree) → v ≡ s.plain x → ValueIsWithin (spec.value w name v fs)
-        → IsWithin (spec.tree w x fs)
-    plain_within x e h = subst (λ v. ValueIsWithin (spec.value w name v fs)) e h
+    pub plain_within : (x : SourceTree) → v ≡ s.plain x → ValueIsSmall (spec.value w name v fs)
+        → AreSmall (spec.tree w x fs)
+    plain_within x e h = subst (λ v. ValueIsSmall (spec.value w name v fs)) e h
 
     pub plain_flat : (x : SourceTree) → v ≡ s.plain x → value_depth (spec.value w name v fs) ≤ 119
         → depth (spec.tree w x fs) ≤ 119
@@ -68,10 +68,10 @@ module _ (w : Sight) (fs : List Frame) where
     inside xs = element (spec.expression w xs fs) (copy_index name) ∷ fs
 
     pub each_within : (at : ℕ) (xs x : SourceTree) (gs : List Frame) → v ≡ s.each (s.loop at xs) x → gs ≡ inside xs
-        → ValueIsWithin (spec.value w name v fs) → IsWithin (spec.tree w x gs)
+        → ValueIsSmall (spec.value w name v fs) → AreSmall (spec.tree w x gs)
     each_within at xs x gs e i h =
-        let g = subst (λ v. ValueIsWithin (spec.value w name v fs)) e h in
-        subst (λ gs. IsWithin (spec.tree w x gs)) (sym i) g.1
+        let g = subst (λ v. ValueIsSmall (spec.value w name v fs)) e h in
+        subst (λ gs. AreSmall (spec.tree w x gs)) (sym i) g.1
 
     pub each_flat : (at : ℕ) (xs x : SourceTree) (gs : List Frame) → v ≡ s.each (s.loop at xs) x → gs ≡ inside xs
         → value_depth (spec.value w name v fs) ≤ 119 → depth (spec.tree w x gs) ≤ 119

@@ -1,3 +1,4 @@
 pub mod Depth
+pub mod Each
 pub mod Sight
 pub mod Built

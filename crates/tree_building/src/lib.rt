@@ -4,7 +4,7 @@
 //! memory. The texts of its expressions come from an implementation of `Texts`. `specs/Built` says what is returned.
 #![tactic(auto)]
 
-mod literals;
+pub mod literals;
 mod parts;
 pub mod texts;
 pub mod trees;

@@ -1,4 +1,4 @@
-// Literals, and names of members.
+//! Literals, and names of members.
 ghost use Rattle.std.specs.Prelude.{◌≡◌, ◌-ℤ◌, pos, map, option_map};
 ghost use Rattle.function_numbers.specs.Numbers.{within};
 ghost use Rattle.arm_expr.specs.Brackets.{is_copy};
@@ -47,7 +47,7 @@ fn negated_literal(literal: &Literal) -> Option<i64>
 
 /// The number that a `-` before a number is.
 #[tactic(auto, using(bicep_resolved::proofs::ViewLemmas::enums))]
-pub(crate) fn signed(prefix: Prefix, inner: &Source) -> Option<i64>
+pub fn signed(prefix: Prefix, inner: &Source) -> Option<i64>
     ensures { option_map l.Number result ≡ signed prefix (source_of inner.now) }
 {
     match prefix {
@@ -85,7 +85,7 @@ fn is_copy_member(property: &Property) -> bool
 }
 
 /// Whether a member is named as the one by which templates state loops.
-pub(crate) fn has_copy(items: &[Property]) -> bool
+pub fn has_copy(items: &[Property]) -> bool
     ensures { result ≡ has_copy (properties (map property_of items.now)) }
 {
     for item in items {

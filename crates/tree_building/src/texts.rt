@@ -6,7 +6,7 @@ ghost use Rattle.bicep_resolved.specs.View.{source_of};
 ghost use Rattle.emitted_expressions.specs.Sight.{Sight, frames_of, AreFrames};
 ghost use Rattle.emitted_parts.specs.Built.{IsText};
 ghost use Rattle.emitted_trees.specs.EmittedTrees.{copy_index};
-ghost use Rattle.emitted_trees.specs.Written.{IsWritable};
+ghost use Rattle.tree_building.specs.Each.{IsSmall};
 ghost use Rattle.tree_building.specs.Sight as spec;
 
 use arm_value::{OutOfMemory, Text};
@@ -22,12 +22,12 @@ pub trait Texts {
 
     /// The text of what an expression becomes, in brackets.
     fn text(&self, alloc: Global, e: &Source, turns: &[Turn]) -> Result<Text, OutOfMemory>
-        requires { IsWritable (spec.expression (sight self.now) (source_of e.now) (frames_of turns.now)) }
+        requires { IsSmall (spec.expression (sight self.now) (source_of e.now) (frames_of turns.now)) }
         ensures { IsText (printed (spec.expression (sight self.now) (source_of e.now) (frames_of turns.now))) result };
 
     /// The text of how often a loop over a value runs, in brackets.
     fn count(&self, alloc: Global, over: &Source, turns: &[Turn]) -> Result<Text, OutOfMemory>
-        requires { IsWritable (spec.count (sight self.now) (source_of over.now) (frames_of turns.now)) }
+        requires { IsSmall (spec.count (sight self.now) (source_of over.now) (frames_of turns.now)) }
         ensures { IsText (printed (spec.count (sight self.now) (source_of over.now) (frames_of turns.now))) result };
 
     /// The runs around the body of a loop over a value: its own, and those around it. The loop of an output has no
@@ -39,7 +39,7 @@ pub trait Texts {
         over: &Source,
         turns: &[Turn],
     ) -> Result<Vec<Turn>, OutOfMemory>
-        requires { IsWritable (spec.count (sight self.now) (source_of over.now) (frames_of turns.now)) }
+        requires { IsSmall (spec.count (sight self.now) (source_of over.now) (frames_of turns.now)) }
         ensures { AreFrames (element (spec.expression (sight self.now) (source_of over.now) (frames_of turns.now))
             (copy_index (option_map (λ t. t.now) name.entry)) ∷ frames_of turns.now) result };
 }

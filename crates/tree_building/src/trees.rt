@@ -3,7 +3,7 @@ ghost use Rattle.std.specs.Prelude.{◌≤◌, [], Some, map, option_map};
 ghost use Rattle.bicep_resolved.specs.View.{source_of, property_of, value_of, sources, properties};
 ghost use Rattle.emitted_expressions.specs.Sight.{frames_of};
 ghost use Rattle.emitted_trees.specs.Templates as t;
-ghost use Rattle.emitted_trees.specs.Written.{IsWritable, IsWithin, AreWithin, MembersAreWithin, ValueIsWithin};
+ghost use Rattle.tree_building.specs.Each.{IsSmall, AreSmall, ItemsAreSmall, MembersAreSmall, ValueIsSmall};
 ghost use Rattle.tree_building.specs.Built.{IsTree, AreItems, IsValue, AreParts, members_of, grown, all_grown};
 ghost use Rattle.tree_building.specs.Depth.{depth, items_depth, members_depth, value_depth};
 ghost use Rattle.tree_building.specs.Sight as spec;
@@ -27,7 +27,7 @@ fn expression<K: Texts>(
     e: &Source,
     turns: &[Turn],
 ) -> Result<Value, OutOfMemory>
-    requires { IsWritable (spec.expression (K.sight texts.now) (source_of e.now) (frames_of turns.now)) }
+    requires { IsSmall (spec.expression (K.sight texts.now) (source_of e.now) (frames_of turns.now)) }
     ensures { IsTree (t.expression (spec.expression (K.sight texts.now) (source_of e.now) (frames_of turns.now)))
         result }
 {
@@ -51,7 +51,7 @@ pub fn tree<K: Texts>(
     e: &Source,
     turns: &[Turn],
 ) -> Result<Value, OutOfMemory>
-    requires within { IsWithin (spec.tree (K.sight texts.now) (source_of e.now) (frames_of turns.now)) }
+    requires within { AreSmall (spec.tree (K.sight texts.now) (source_of e.now) (frames_of turns.now)) }
     requires nests { depth (spec.tree (K.sight texts.now) (source_of e.now) (frames_of turns.now)) ≤ 119 }
     ensures { IsTree (spec.tree (K.sight texts.now) (source_of e.now) (frames_of turns.now)) result }
 {
@@ -90,7 +90,7 @@ fn all<K: Texts>(
     items: &[Source],
     turns: &[Turn],
 ) -> Result<Items, OutOfMemory>
-    requires within { AreWithin (spec.items (K.sight texts.now) (sources (map source_of items.now))
+    requires within { ItemsAreSmall (spec.items (K.sight texts.now) (sources (map source_of items.now))
         (frames_of turns.now)) }
     requires nests { items_depth (spec.items (K.sight texts.now) (sources (map source_of items.now))
         (frames_of turns.now)) ≤ 119 }
@@ -121,7 +121,7 @@ pub fn written<K: Texts>(
     value: &SourceValue,
     turns: &[Turn],
 ) -> Result<Written, OutOfMemory>
-    requires within { ValueIsWithin (spec.value (K.sight texts.now) (option_map (λ t. t.now) name)
+    requires within { ValueIsSmall (spec.value (K.sight texts.now) (option_map (λ t. t.now) name)
         (value_of value.now) (frames_of turns.now)) }
     requires nests { value_depth (spec.value (K.sight texts.now) (option_map (λ t. t.now) name)
         (value_of value.now) (frames_of turns.now)) ≤ 119 }
@@ -153,7 +153,7 @@ fn with_member<K: Texts>(
     property: &Property,
     turns: &[Turn],
 ) -> Result<Parts, OutOfMemory>
-    requires within { ValueIsWithin (spec.value (K.sight texts.now) (Some (property_of property.now).1)
+    requires within { ValueIsSmall (spec.value (K.sight texts.now) (Some (property_of property.now).1)
         (property_of property.now).2 (frames_of turns.now)) }
     requires nests { value_depth (spec.value (K.sight texts.now) (Some (property_of property.now).1)
         (property_of property.now).2 (frames_of turns.now)) ≤ 119 }
@@ -173,7 +173,7 @@ fn members<K: Texts>(
     items: &[Property],
     turns: &[Turn],
 ) -> Result<Parts, OutOfMemory>
-    requires within { MembersAreWithin (spec.members (K.sight texts.now) (properties (map property_of items.now))
+    requires within { MembersAreSmall (spec.members (K.sight texts.now) (properties (map property_of items.now))
         (frames_of turns.now)) }
     requires nests { members_depth (spec.members (K.sight texts.now) (properties (map property_of items.now))
         (frames_of turns.now)) ≤ 119 }

@@ -7,7 +7,7 @@ use Rattle.bicep_resolved.proofs.ViewLemmas.{source_of-Object, source_of-Array, 
 use Rattle.bicep_resolved.proofs.ViewLemmas.{property_of-is, loop_of-is}
 use Rattle.emitted_expressions.specs.Sight.{frames_of}
 use Rattle.emitted_trees.specs.EmittedTrees.{has_copy}
-use Rattle.emitted_trees.specs.Written.{ValueIsWithin}
+use Rattle.tree_building.specs.Each.{ValueIsSmall}
 use Rattle.tree_building.specs.Depth.{value_depth}
 use Rattle.tree_building.specs.Sight as spec
 use Rattle.tree_building.proofs.LeftLemmas.{item_within, item_depth, items_end, value_within, member_depth}
@@ -107,7 +107,7 @@ with_member-written-made-requires g t c κs within =
       (
         within,
         (
-          subst (λ (q : PropertyTree). ValueIsWithin (spec.value w (Some q.1) q.2 fs))
+          subst (λ (q : PropertyTree). ValueIsSmall (spec.value w (Some q.1) q.2 fs))
               (property_of-is c.args.property.now) c.requires.within,
           subst (λ (q : PropertyTree). value_depth (spec.value w (Some q.1) q.2 fs) ≤ 119)
               (property_of-is c.args.property.now) c.requires.nests,

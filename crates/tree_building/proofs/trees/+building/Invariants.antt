@@ -2,7 +2,8 @@ use Rattle.std.proofs.Common.{suc, ◌≡◌, ◌≤◌, ◌++◌, [], map, drop
 use Rattle.arm_value.specs.Json.{items as items_in}
 use Rattle.bicep_resolved.specs.View.{source_of, property_of, value_of, sources, properties}
 use Rattle.emitted_expressions.specs.Sight.{frames_of}
-use Rattle.emitted_trees.specs.Written.{items_json, AreWithin, MembersAreWithin}
+use Rattle.emitted_trees.specs.Written.{items_json}
+use Rattle.tree_building.specs.Each.{ItemsAreSmall, MembersAreSmall}
 use Rattle.tree_building.specs.Built.{members_of, all_grown}
 use Rattle.tree_building.specs.Depth.{items_depth, members_depth}
 use Rattle.tree_building.specs.Sight as spec
@@ -16,7 +17,7 @@ invariant-all-loop-item g l =
     let left = spec.items s (sources (map source_of (drop l.item-index l.items))) (frames_of l.turns) in
     (l.all ++ items_in (items_json left)
     ≡ items_in (items_json (spec.items s (sources (map source_of l.items)) (frames_of l.turns))))
-    × (AreWithin left × (items_depth left ≤ 119))
+    × (ItemsAreSmall left × (items_depth left ≤ 119))
 
 abbrev pub invariant-members-loop-item : goal.invariant-members-loop-item
 invariant-members-loop-item g l =
@@ -24,7 +25,7 @@ invariant-members-loop-item g l =
     let left = spec.members s (properties (map property_of (drop l.item-index l.items))) (frames_of l.turns) in
     (all_grown left (members_of l.parts)
     ≡ all_grown (spec.members s (properties (map property_of l.items)) (frames_of l.turns)) ([], []))
-    × (MembersAreWithin left × (members_depth left ≤ 119))
+    × (MembersAreSmall left × (members_depth left ≤ 119))
 
 abbrev pub decreases-tree : goal.decreases-tree
 decreases-tree g l = tree_size (source_of l.e.now)

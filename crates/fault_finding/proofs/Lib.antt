@@ -1,0 +1,7 @@
+mod ReadLemmas
+mod LineLemmas
+mod BreakLemmas
+mod MissingLemmas
+mod PlaceLemmas
+mod AskLemmas
+mod RoundLemmas

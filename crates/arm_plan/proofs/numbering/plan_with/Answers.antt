@@ -1,0 +1,26 @@
+use Rattle.std.proofs.Common.{◌≡◌, List, length, ap, arith, rules}
+use Rattle.arm_ids.specs.Held.{HeldResource}
+use Rattle.plan_table.specs.Whole.{whole_of}
+use Rattle.plan_assembly.specs.Plans.{ArePlanned}
+use Rattle.plan_faults.specs.Faults.{IsFault}
+use Rattle.plan_assembly.specs.declared.plan.Task.{Task}
+use Rattle.arm_plan.proofs.TaskLemmas.{failed_by, too_many}
+use Rattle.arm_plan.proofs.numbering.plan_with.Goals as goal
+
+pub returns-then-tasks-gt-MAX_TASKS-clause-fault : goal.returns-then-tasks-gt-MAX_TASKS-clause-fault
+returns-then-tasks-gt-MAX_TASKS-clause-fault c =
+    let t = c.args.start.register.table in
+    let n : c.len-tasks.result ≡ length c.args.parts.tasks.items = search rules in
+    failed_by
+    (λ f. (held : List HeldResource) → ArePlanned t c.args.mode held c.args.parts.tasks.items c.args.parts.keys.items
+    c.args.parts.needs.items → IsFault (whole_of t) c.args.mode held f)
+    c.failed.result _ c.failed.ensures (λ held a.
+    too_many t c.requires.table c.args.mode held c.args.parts.tasks.items c.args.parts.keys.items
+    c.args.parts.needs.items _ a n c.if-tasks-gt-MAX_TASKS.true)
+
+pub returns-else-tasks-gt-MAX_TASKS-clause-few : goal.returns-else-tasks-gt-MAX_TASKS-clause-few
+returns-else-tasks-gt-MAX_TASKS-clause-few c =
+    let n : c.len-tasks.result ≡ length c.args.parts.tasks.items = search rules in
+    let h = c.if-tasks-gt-MAX_TASKS.false in
+    let e = ap (λ (us : List Task). length us) c.assemble.ensures.tasks in
+    omega (arith, n, h, e)

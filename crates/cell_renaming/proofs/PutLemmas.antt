@@ -6,7 +6,8 @@ use Rattle.arm_ids.specs.declared.id.Place.{Place}
 use Rattle.arm_ids.specs.declared.id.ResourceId.{ResourceId}
 use Rattle.deploy_cells.specs.Cells.{Step, step, Position, World, included, name, state}
 use Rattle.deploy_cells.specs.Puts.{Kind, Desired, IsDesired, IsIncluded, IsPut, IsNested, IsPutAt}
-use Rattle.deploy_cells.specs.Puts.{HaveBodies, ResourcesDiffer, DeploymentsDiffer, OthersAreHeld, body_in, key_at, id_at}
+use Rattle.deploy_cells.specs.Puts.{HaveBodies, ResourcesDiffer, DeploymentsDiffer, OthersAreHeld}
+use Rattle.deploy_cells.specs.Puts.{body_in, key_at, id_at}
 use Rattle.cell_renaming.specs.Renaming.{Renaming, IsOneToOne, to_position, from_position, resource_at}
 use Rattle.cell_renaming.specs.Renaming.{to_cell, from_cell, renamed, unrenamed, IsRenamable}
 use Rattle.cell_renaming.specs.Renamed.{IsRenamed, Stored, stored_by, IsStored}
@@ -251,12 +252,14 @@ module _ (r : Renaming) (i : IsOneToOne r) where
       is_world = world_forth r i s t h w n d.is_world;
       have_bodies = bodies_forth d.have_bodies;
       resources_differ =
-          subst (λ p. ResourcesDiffer p t.kinds (renamed r w)) (sym h.place) (resources_forth s.place d.resources_differ);
+          subst (λ p. ResourcesDiffer p t.kinds (renamed r w)) (sym h.place)
+          (resources_forth s.place d.resources_differ);
       deployments_differ =
           subst (λ p. DeploymentsDiffer p t.kinds (renamed r w)) (sym h.place)
           (deployments_forth s.place d.deployments_differ);
       others_are_held =
-          subst (λ p. OthersAreHeld t.held p t.kinds (renamed r w)) (sym h.place) (held_forth s.place d.others_are_held);
+          subst (λ p. OthersAreHeld t.held p t.kinds (renamed r w)) (sym h.place)
+          (held_forth s.place d.others_are_held);
     }
 
     pub back : IsDesired t (renamed r w) → IsDesired s w

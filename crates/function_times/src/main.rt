@@ -17,8 +17,8 @@ use std::rt::{Clock, Env};
 use std::time::Instant;
 use std::{env, io};
 
-// How often each call is timed at each size, at least and at most. Above the least number it is timed again until so many
-// seconds have passed.
+// How often each call is timed at each size, at least and at most. Above the least number it is timed again until so
+// many seconds have passed.
 const LEAST_TURNS: u32 = 11;
 
 const MOST_TURNS: u32 = 101;

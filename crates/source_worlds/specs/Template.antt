@@ -15,7 +15,8 @@ pub record IsTemplateOf (z : Form) (d : SourceProgram) (opening : ResourceId →
   pub place : t.place ≡ d.place
   pub held : (key : ResourceId) → t.held key ≡ opening key
   -- each cell of the program has the same value, or none, as its cell of the template, and so has each body
-  pub means : (w : World) → IsRenamable (numbering z d.files) w → (c e : Cell) → to_cell (numbering z d.files) c ≡ Some e
+  pub means : (w : World) → IsRenamable (numbering z d.files) w → (c e : Cell)
+      → to_cell (numbering z d.files) c ≡ Some e
       → value_in (renamed (numbering z d.files) w) (t.meaning e) ≡ value_in w (meaning d c)
   pub bodies : (w : World) → IsRenamable (numbering z d.files) w → (p q : Position) (n m i : ℕ)
       → to_position (numbering z d.files) p ≡ Some q → (numbering z d.files).number p n ≡ Some m

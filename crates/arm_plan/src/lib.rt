@@ -1,9 +1,10 @@
 //! Plans: what a deployment of a template does, or why it can do nothing.
 //!
 //! `plan` returns the plan of a deployment, with its tasks, the keys of its puts and its needs, or a `PlanFault`.
-//! `plan_assembly` says what a plan has (`specs/Plans`), `plan_faults` when a fault is true (`specs/Faults`).
+//! `specs/Accepted` says what holds of a plan, `plan_faults` when a fault is true (`specs/Faults`).
 #![tactic(auto)]
 
+mod checking;
 mod numbering;
 mod planning;
 

@@ -1,5 +1,5 @@
 // The plan of a deployment, or why there is none.
-ghost use Rattle.std.specs.Prelude.{◌≡◌, ◌≤◌, List, length, map, IfOk, IfErr, MatchOption};
+ghost use Rattle.std.specs.Prelude.{◌≡◌, List, map, IfOk, IfErr, MatchOption};
 ghost use Rattle.arm_ids.specs.Held.{HeldResource};
 ghost use Rattle.template_parameters.specs.Binding.{bound_view};
 ghost use Rattle.template_parts.specs.declared.mode.Mode.{Mode};
@@ -10,12 +10,16 @@ ghost use Rattle.plan_filling.specs.Limits.{IsHalted};
 ghost use Rattle.plan_filling.specs.Sound.{Sound};
 ghost use Rattle.plan_filling.specs.Steps.{Filled, IsCircle};
 ghost use Rattle.plan_table.specs.Whole.{whole_of, rows_in, IsLaid};
-ghost use Rattle.plan_tasks.specs.Start.{IsStartTable};
+ghost use Rattle.plan_tasks.specs.Start.{start_of, IsStartTable};
 ghost use Rattle.plan_start.specs.Sheets.{IsSheet};
 ghost use Rattle.plan_elements.specs.Elements.{IsUnread};
-ghost use Rattle.plan_assembly.specs.Plans.{deployment_of, IsPlanned};
+ghost use Rattle.plan_assembly.specs.Plans.{deployment_of};
+ghost use Rattle.plan_settling.specs.Refused.{AreSettled};
 ghost use Rattle.plan_faults.specs.Faults.{IsFault};
+ghost use Rattle.fault_exactness.specs.Exact.{HaveOwnKeys};
+ghost use Rattle.arm_plan.specs.Accepted.{IsAccepted};
 
+use crate::checking::check_sheet;
 use crate::numbering::{failed, plan_with};
 use arm_ids::{Held, Place};
 use fault_finding::{circle_fault, line_fault};
@@ -59,6 +63,31 @@ fn unread_fault(alloc: Global, table: &Table, unread: Unread) -> PlanFault
     }
 }
 
+// The plan of a sheet that is not refused so far, or why there is none.
+fn plan_checked<'a>(
+    alloc: Global,
+    start: Start<'a>,
+    mode: Mode,
+    held: &Held,
+) -> Result<Plan<'a>, PlanFault>
+    requires sheet { IsSheet start.register }
+    requires table { IsStartTable start.register.table }
+    requires settled { AreSettled (rows_in start.register.table) }
+    requires keys { HaveOwnKeys (whole_of start.register.table) (start_of start.register.table) }
+    ensures accepted { IfOk result (λ p. IsAccepted p held.now) }
+    ensures whole { IfOk result (λ p. deployment_of p ≡ whole_of start.entry.register.table) }
+    ensures mode { IfOk result (λ p. p.mode ≡ mode) }
+    ensures fault { IfErr result (IsFault (whole_of start.entry.register.table) mode held.now) }
+{
+    match make_parts(alloc, &start.register, mode, held) {
+        Ok(parts) => plan_with(start, mode, parts),
+        Err(unread) => {
+            let fault = unread_fault(alloc, &start.register.table, unread);
+            failed(fault, start)
+        }
+    }
+}
+
 // The plan of a sheet that was filled and has all values that a plan needs, or why there is none.
 fn plan_settled<'a>(
     alloc: Global,
@@ -68,18 +97,15 @@ fn plan_settled<'a>(
 ) -> Result<Plan<'a>, PlanFault>
     requires sheet { IsSheet start.register }
     requires table { IsStartTable start.register.table }
-    ensures planned { IfOk result (λ p. IsPlanned p held.now) }
+    requires settled { AreSettled (rows_in start.register.table) }
+    ensures accepted { IfOk result (λ p. IsAccepted p held.now) }
     ensures whole { IfOk result (λ p. deployment_of p ≡ whole_of start.entry.register.table) }
     ensures mode { IfOk result (λ p. p.mode ≡ mode) }
-    ensures few { IfOk result (λ p. length p.tasks.items ≤ 4294967295) }
     ensures fault { IfErr result (IsFault (whole_of start.entry.register.table) mode held.now) }
 {
-    match make_parts(alloc, &start.register, mode, held) {
-        Ok(parts) => plan_with(start, mode, parts),
-        Err(unread) => {
-            let fault = unread_fault(alloc, &start.register.table, unread);
-            failed(fault, start)
-        }
+    match check_sheet(alloc, &start.register.table) {
+        Ok(()) => plan_checked(alloc, start, mode, held),
+        Err(fault) => failed(fault, start),
     }
 }
 
@@ -92,10 +118,9 @@ fn plan_filled<'a>(
 ) -> Result<Plan<'a>, PlanFault>
     requires sheet { IsSheet start.register }
     requires filled { Filled (whole_of start.register.table) (rows_in start.register.table) }
-    ensures planned { IfOk result (λ p. IsPlanned p held.now) }
+    ensures accepted { IfOk result (λ p. IsAccepted p held.now) }
     ensures whole { IfOk result (λ p. deployment_of p ≡ whole_of start.entry.register.table) }
     ensures mode { IfOk result (λ p. p.mode ≡ mode) }
-    ensures few { IfOk result (λ p. length p.tasks.items ≤ 4294967295) }
     ensures fault { IfErr result (IsFault (whole_of start.entry.register.table) mode held.now) }
 {
     match find_refused(&start.register.table) {
@@ -120,10 +145,9 @@ fn plan_known<'a>(
         (Filled (whole_of start.register.table) (rows_in start.register.table))
         (λ c. IsCircle (whole_of start.register.table) (rows_in start.register.table) c.places.items c.last c.back) }
     requires sound { Sound (whole_of start.register.table) (rows_in start.register.table) }
-    ensures planned { IfOk result (λ p. IsPlanned p held.now) }
+    ensures accepted { IfOk result (λ p. IsAccepted p held.now) }
     ensures whole { IfOk result (λ p. deployment_of p ≡ whole_of start.entry.register.table) }
     ensures mode { IfOk result (λ p. p.mode ≡ mode) }
-    ensures few { IfOk result (λ p. length p.tasks.items ≤ 4294967295) }
     ensures fault { IfErr result (IsFault (whole_of start.entry.register.table) mode held.now) }
 {
     match circle {
@@ -146,14 +170,13 @@ pub fn plan<'a>(
     held: &Held,
 ) -> Result<Plan<'a>, PlanFault>
     requires names_differ { NamesDiffer (template_tree template.now) }
-    ensures planned { IfOk result (λ p. IsPlanned p held.now) }
+    ensures accepted { IfOk result (λ p. IsAccepted p held.now) }
     ensures whole { IfOk result (λ p. deployment_of p ≡ record {
       template = template_tree template.now;
       bound = map bound_view bound.now;
       place = place.now;
     }) }
     ensures mode { IfOk result (λ p. p.mode ≡ mode) }
-    ensures few { IfOk result (λ p. length p.tasks.items ≤ 4294967295) }
     ensures fault { IfErr result (IsFault (record {
       template = template_tree template.now;
       bound = map bound_view bound.now;

@@ -4,6 +4,7 @@ use Rattle.plan_table.specs.Whole.{whole_of}
 use Rattle.plan_assembly.specs.Plans.{ArePlanned}
 use Rattle.plan_faults.specs.Faults.{IsFault}
 use Rattle.plan_assembly.specs.declared.plan.Task.{Task}
+use Rattle.arm_plan.proofs.AcceptedLemmas.{accepted}
 use Rattle.arm_plan.proofs.TaskLemmas.{failed_by, too_many}
 use Rattle.arm_plan.proofs.numbering.plan_with.Goals as goal
 
@@ -18,9 +19,10 @@ returns-then-tasks-gt-MAX_TASKS-clause-fault c =
     too_many t c.requires.table c.args.mode held c.args.parts.tasks.items c.args.parts.keys.items
     c.args.parts.needs.items _ a n c.if-tasks-gt-MAX_TASKS.true)
 
-pub returns-else-tasks-gt-MAX_TASKS-clause-few : goal.returns-else-tasks-gt-MAX_TASKS-clause-few
-returns-else-tasks-gt-MAX_TASKS-clause-few c =
+pub returns-else-tasks-gt-MAX_TASKS-clause-accepted : goal.returns-else-tasks-gt-MAX_TASKS-clause-accepted
+returns-else-tasks-gt-MAX_TASKS-clause-accepted c = λ held a.
     let n : c.len-tasks.result ≡ length c.args.parts.tasks.items = search rules in
     let h = c.if-tasks-gt-MAX_TASKS.false in
     let e = ap (λ (us : List Task). length us) c.assemble.ensures.tasks in
-    omega (arith, n, h, e)
+    accepted c.assemble.result held c.args.start.register.table (c.assemble.ensures.planned held a)
+    c.assemble.ensures.table c.requires.settled c.requires.keys (omega (arith, n, h, e))

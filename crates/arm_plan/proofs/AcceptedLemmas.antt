@@ -1,0 +1,73 @@
+-- A plan that nothing refuses.
+use Rattle.std.proofs.Common.{◌≡◌, ◌≤◌, inl, inr, ℕ, List, length, sym, ap, subst, arith}
+use Rattle.std.proofs.lemmas.List.{length-map}
+use Rattle.arm_ids.specs.Held.{HeldResource}
+use Rattle.reading.specs.Knowledge.{Told, value, told}
+use Rattle.template_parts.specs.declared.limit.Which.{Which}
+use Rattle.deploy_cells.specs.Cells.{Cell}
+use Rattle.plan_cells.specs.Known as known
+use Rattle.plan_cells.specs.Tasks.{Work, work}
+use Rattle.plan_cells.specs.Meaning.{Deployment}
+use Rattle.plan_table.specs.declared.table.Table.{Table}
+use Rattle.plan_table.specs.Whole.{whole_of, scopes_of, rows_in}
+use Rattle.plan_tasks.specs.Start.{start_of}
+use Rattle.plan_settling.specs.Refused.{AreSettled}
+use Rattle.plan_assembly.specs.declared.plan.Plan.{Plan}
+use Rattle.plan_assembly.specs.Plans.{deployment_of, known_in, work_with, task_in, IsPlanned}
+use Rattle.plan_assembly.proofs.WorkLemmas.{known_at_start}
+use Rattle.plan_faults.specs.Faults.{IsFault}
+use Rattle.plan_faults.specs.declared.fault.PlanFault.TheVariants as fault
+use Rattle.fault_exactness.specs.Exact.{HaveOwnKeys}
+use Rattle.fault_exactness.proofs.ExactLemmas.{same_never, limit_never}
+use Rattle.fault_exactness.proofs.KeyLemmas.{one_start}
+use Rattle.arm_plan.specs.Accepted.{IsAccepted}
+
+module _ (p : Plan) (held : List HeldResource) (planned : IsPlanned p held)
+    (settled : AreSettled (rows_in p.start.register.table))
+    (keys : HaveOwnKeys (whole_of p.start.register.table) (start_of p.start.register.table)) where
+  abbrev t : Table
+  t = p.start.register.table
+
+  no_same_key : (first second : List ℕ) → IsFault (deployment_of p) p.mode held (fault.SameKey first second) → ⊥
+  no_same_key first second h =
+      let g = subst (λ (d : Deployment). IsFault d p.mode held (fault.SameKey first second)) (sym planned.whole) h in
+      same_never t planned.table first second keys g.0 g.1.1.0 g.1.1.1
+
+  same_work : (x y : Work) (u : Told Cell Work) → u ≡ value x → u ≡ value y → length x.tasks ≡ length y.tasks
+  same_work x y u e g = let same : x ≡ y = cc in ap (λ (z : Work). length z.tasks) same
+
+  no_limit : length p.tasks.items ≤ 4294967295 → (w : Which) (n : ℕ)
+      → IsFault (deployment_of p) p.mode held (fault.Limit w n) → ⊥
+  no_limit few w n h =
+      by_case (subst (λ (d : Deployment). IsFault d p.mode held (fault.Limit w n)) (sym planned.whole) h)
+    where
+      by_case : IsFault (whole_of t) p.mode held (fault.Limit w n) → ⊥
+      by_case (inl o) = limit_never t planned.table w n settled planned.sheet.counted (inl o)
+      by_case (inr (inl a)) = limit_never t planned.table w n settled planned.sheet.counted (inr a)
+      by_case (inr (inr m)) =
+          let one = one_start (whole_of t) m.table (start_of t) m.is_start (known_at_start t planned.table) in
+          let told_so : told (start_of t) (work (whole_of t) p.mode held) ≡ value m.planned =
+          subst (λ (q : known.Table). told q (work (whole_of t) p.mode held) ≡ value m.planned) one m.has_tasks in
+          let as_many = same_work m.planned (work_with t p.tasks.items p.keys.items)
+          (told (start_of t) (work (whole_of t) p.mode held)) told_so planned.are_planned.has_work in
+          let mapped = length-map p.tasks.items (task_in (scopes_of t)) in
+          let above = m.is_above in
+          let number = m.is_number in
+          omega (arith, few, as_many, mapped, above, number)
+
+  is_accepted : length p.tasks.items ≤ 4294967295 → IsAccepted p held
+  is_accepted few = record {
+    is_planned = planned;
+    few = few;
+    own_keys = subst (λ (d : Deployment). HaveOwnKeys d (known_in p)) planned.whole keys;
+    no_same_key = no_same_key;
+    no_limit = no_limit few;
+  }
+
+-- by the table that a plan was made of
+pub accepted : (p : Plan) (held : List HeldResource) (t : Table) → IsPlanned p held → p.start.register.table ≡ t
+    → AreSettled (rows_in t) → HaveOwnKeys (whole_of t) (start_of t) → length p.tasks.items ≤ 4294967295
+    → IsAccepted p held
+accepted p held t planned e settled keys few =
+    is_accepted p held planned (subst (λ (u : Table). AreSettled (rows_in u)) (sym e) settled)
+    (subst (λ (u : Table). HaveOwnKeys (whole_of u) (start_of u)) (sym e) keys) few

@@ -1,6 +1,6 @@
 -- What the declarations of a sample become: parameters and variables by the names of their symbols, and for each
--- resource the same name and the same id, with the loop around it.
-use Rattle.std.specs.Prelude.{ℕ, false, List, [], map, Option, Some, None, codes, slice_get}
+-- resource the same name and the same id, with the loop around it. The modules of the second file have outputs.
+use Rattle.std.specs.Prelude.{ℕ, Bool, false, ◌==◌, List, [], ◌∷◌, map, Option, Some, None, codes, slice_get}
 use Rattle.arm_expr.specs.Tree.{Tree, text, call}
 use Rattle.bicep_names.specs.declared.kind.Kind.{Kind}
 use Rattle.bicep_names.specs.declared.kind.Kind.TheVariants as kind
@@ -12,16 +12,24 @@ use Rattle.emission_tests.specs.declared.sample.Sample.{Sample}
 abbrev pub symbol_of : List ℕ → ℕ × List ℕ × Kind
 symbol_of t = (0, t, kind.Parameter)
 
--- a file with symbols of these names and nothing else
-abbrev pub file_of : List (List ℕ) → SourceFile
-file_of names = record {
+-- a file with symbols and outputs of these names and nothing else
+abbrev pub file_with : List (List ℕ) → List (List ℕ) → SourceFile
+file_with names outputs = record {
   symbols = map symbol_of names;
   declared = record { declarations = []; outputs = [] };
-  outputs = [];
+  outputs = outputs;
   modules = [];
   has_entry = λ n. false;
   accepts = λ n j. false;
 }
+
+abbrev pub file_of : List (List ℕ) → SourceFile
+file_of names = file_with names []
+
+-- whether this is the number of the second file
+abbrev pub is_second : Option ℕ → Bool
+is_second None = false
+is_second (Some n) = n == 1
 
 abbrev pub variable_of : Option (List ℕ) → Tree
 variable_of None = no_value
@@ -30,7 +38,7 @@ variable_of (Some t) = call (codes "variables") (one (text t))
 abbrev pub sight_of : Sample → Sight
 sight_of x = record {
   file = file_of x.names.items;
-  files = [];
+  files = file_of [] ∷ file_with [] x.outputs.items ∷ [];
   scope = record {
     variable = λ n. variable_of (slice_get x.names.items n);
     items = λ n. call (codes "parameters") (one (text (codes "xs")));

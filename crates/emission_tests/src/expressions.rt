@@ -63,6 +63,10 @@ fn accesses_and_calls(rt: HostRuntime) -> Result<(), Fail> {
 }
 
 const RESOURCES: &str = r#"r.id -> resourceId('T.N/a', add())
+r.name -> add()
+r.apiVersion -> ''
+r.properties.a.b -> reference(resourceId('T.N/a', add()), '').a.b
+r.location -> reference(resourceId('T.N/a', add()), '', 'Full').location
 l[v].id -> resourceId('T.N/a', variables('v'))
 l[v].name -> parameters('xs')[variables('v')]
 l[v].type -> ''
@@ -71,9 +75,22 @@ l[0].properties.a -> reference(resourceId('T.N/a', 0), '').a
 l[0].tags -> reference(resourceId('T.N/a', 0), '', 'Full').tags
 [for x in xs: x.a] -> parameters('xs')[copyIndex()].a
 [for (x, i) in xs: i + 1] -> add(copyIndex(), 1)
-[for (x, i) in xs: l[i].name] -> parameters('xs')[copyIndex()]"#;
+[for (x, i) in xs: l[i].name] -> parameters('xs')[copyIndex()]
+[for (x, i) in xs: '${x}-${i}'] -> format('{0}-{1}', parameters('xs')[copyIndex()], copyIndex())
+[for x in xs: l[x.n].id] -> resourceId('T.N/a', parameters('xs')[copyIndex()].n)"#;
 
 #[test]
 fn resources_and_loops(rt: HostRuntime) -> Result<(), Fail> {
     check(rt.alloc(), RESOURCES)
+}
+
+const MODULES: &str = r#"m.name -> add()
+m.outputs.o -> reference(resourceId('Microsoft.Resources/deployments', add())).outputs.o.value
+m.outputs.last.n -> reference(resourceId('Microsoft.Resources/deployments', add())).outputs.last.value.n
+ms[v].name -> parameters('xs')[variables('v')]
+ms[0].outputs.o -> reference(resourceId('Microsoft.Resources/deployments', parameters('xs')[0])).outputs.o.value"#;
+
+#[test]
+fn modules(rt: HostRuntime) -> Result<(), Fail> {
+    check(rt.alloc(), MODULES)
 }

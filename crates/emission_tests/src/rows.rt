@@ -23,16 +23,39 @@ param xs array
 var v = 0
 resource r 'T.N/a@1' existing = { name: 'x' }
 resource l 'T.N/a@1' existing = [for x in xs: { name: x }]
+module m './m.bicep' = {}
+module ms './m.bicep' = [for x in xs: {}]
 "#;
 
-const NAMES: [&str; 5] = ["p", "xs", "v", "r", "l"];
+const NAMES: [&str; 7] = ["p", "xs", "v", "r", "l", "m", "ms"];
+
+// The outputs of the modules.
+const OUTPUTS: [&str; 2] = ["o", "last"];
+
+fn texts(alloc: Global, names: &[&str]) -> Result<Vec<Text>, AllocError> {
+    let mut texts = Vec::new(alloc);
+    for name in names {
+        texts.push(Text::of(alloc, name)?)?;
+    }
+    Ok(texts)
+}
+
+fn outputs(alloc: Global, names: &[&str]) -> Result<Outputs, Fail> {
+    let mut outputs = Outputs::new(alloc);
+    for name in names {
+        let name = Text::of(alloc, name)?;
+        match outputs.find(&name) {
+            Some(_) => return Err(Fail::new(format_args!("an output is given twice"))),
+            None => outputs.add(alloc, &name)?,
+        }
+    }
+    Ok(outputs)
+}
 
 fn sample(alloc: Global) -> Result<Sample, Fail> {
-    let mut names = Vec::new(alloc);
-    for name in NAMES {
-        names.push(Text::of(alloc, name)?)?;
-    }
-    Ok(Sample { names })
+    let names = texts(alloc, &NAMES)?;
+    let outputs = texts(alloc, &OUTPUTS)?;
+    Ok(Sample { names, outputs })
 }
 
 // A run of a loop over `xs` at `copyIndex()`.
@@ -72,16 +95,17 @@ fn last_emission(alloc: Global, declarations: &[Declared]) -> Result<String, Fai
 }
 
 fn declared_emission(alloc: Global, names: &FileNames, file: &File) -> Result<String, Fail> {
-    let mut outputs = Vec::new(alloc);
-    outputs.push(Outputs::new(alloc))?;
-    match declare_file(alloc, &names.symbols, outputs.as_slice(), file.as_slice()) {
+    let mut all = Vec::new(alloc);
+    all.push(Outputs::new(alloc))?;
+    all.push(outputs(alloc, &OUTPUTS)?)?;
+    match declare_file(alloc, &names.symbols, all.as_slice(), file.as_slice()) {
         Ok(declared) => last_emission(alloc, declared.declarations.as_slice()),
         Err(_) => Err(Fail::new(format_args!("a name means nothing"))),
     }
 }
 
 fn file_emission(alloc: Global, file: &File) -> Result<String, Fail> {
-    match names_of(alloc, &[], file.as_slice()) {
+    match names_of(alloc, &[1, 1], file.as_slice()) {
         Ok(names) => declared_emission(alloc, &names, file),
         Err(_) => Err(Fail::new(format_args!("a name is given twice"))),
     }

@@ -1,9 +1,10 @@
 // What the declarations of a file become whose variables and parameters have names.
-ghost use Rattle.std.specs.Prelude.{slice_get};
+ghost use Rattle.std.specs.Prelude.{◌≡◌, option_map, slice_get};
+ghost use Rattle.bicep_meaning.specs.Meaning.{file_of};
 ghost use Rattle.bicep_emission.specs.Emitted.{index_of as index_tree};
 ghost use Rattle.emitted_parts.specs.Built.{Is};
 ghost use Rattle.emitted_expressions.specs.Sight.{frames_of};
-ghost use Rattle.emission_tests.specs.Sample.{sight_of};
+ghost use Rattle.emission_tests.specs.Sample.{sight_of, is_second};
 
 use arm_expr::Expr;
 use arm_value::{OutOfMemory, Text};
@@ -14,11 +15,30 @@ use emitted_parts::copies::copied;
 use emitted_parts::literals::{no_value, text, word};
 use std::alloc::Global;
 
-/// The names of the symbols of a file.
+/// The names of the symbols of a file, and of the outputs of the second file of its program.
 #[derive(Drop)]
 pub struct Sample {
     /// The names by the numbers of the symbols.
     pub names: Vec<Text>,
+    /// The names of the outputs.
+    pub outputs: Vec<Text>,
+}
+
+// Whether a module is of the second file.
+fn is_of_second(target: Target) -> bool
+    ensures { result ≡ is_second (file_of target) }
+{
+    match target {
+        Target::Resource(_) | Target::ResourceLoop(_) => false,
+        Target::Module(_, file) | Target::ModuleLoop(_, file) => file == 1,
+    }
+}
+
+// The text at a place.
+fn text_at(texts: &[Text], number: usize) -> Option<&Text>
+    ensures { option_map (λ t. t.now) result ≡ slice_get texts.now number }
+{
+    texts.get(number)
 }
 
 fn index_of(alloc: Global, turns: &[Turn]) -> Result<Expr, OutOfMemory>
@@ -72,7 +92,11 @@ impl Declarations for Sample {
         Ok(Text::from_string(String::new(alloc)))
     }
 
-    fn output<'a>(&'a self, _target: Target, _number: usize) -> Option<&'a Text> {
-        None
+    fn output<'a>(&'a self, target: Target, number: usize) -> Option<&'a Text> {
+        if is_of_second(target) {
+            text_at(self.outputs.as_slice(), number)
+        } else {
+            None
+        }
     }
 }

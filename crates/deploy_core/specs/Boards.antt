@@ -1,0 +1,52 @@
+-- What a board does when it is asked for a job.
+use Rattle.std.specs.Prelude.{◌≡◌, ℕ, List, [], ◌∷◌, ◌++◌, Some}
+use Rattle.arm_value.specs.Json.{Json}
+use Rattle.provider_trait.specs.Work.{Work, work_for}
+use Rattle.dealer_trait.specs.declared.next.Next.{Next}
+use Rattle.dealer_trait.specs.declared.next.Next.TheVariants.{Begun, Wait, End}
+use Rattle.deploy_histories.specs.Planned.{Planned}
+use Rattle.deploy_histories.specs.Events.{Event, enter, begin, leave, Progress, progress, IsBegun}
+use Rattle.deploy_histories.specs.Legal.{May, HasEnded}
+use Rattle.deploy_histories.specs.Outcome.{Target, target_of}
+
+-- a scope is entered or left
+abbrev pub OfScope : Event → Type 0
+OfScope (enter u) = Unit {0}
+OfScope (leave u) = Unit {0}
+OfScope _ = ⊥
+
+abbrev pub OfScopes : List Event → Type 0
+OfScopes [] = Unit {0}
+OfScopes (e ∷ es) = OfScope e × OfScopes es
+
+-- scopes were entered and left, and nothing else happened
+pub record HasPassed (old new : List Event) : Type 0 where
+  pub events : List Event
+  pub of_scopes : OfScopes events
+  pub are : new ≡ old ++ events
+
+-- the job of the task with this body, which is given to this worker
+abbrev pub job_of : Target → ℕ → ℕ → Json → Work
+job_of t u worker body =
+    work_for t.act (record { api = t.api; body = body; id = t.id; task = u; worker = worker })
+
+-- no Begin may come
+abbrev pub NoneMayBegin : Planned → Progress → Type 0
+NoneMayBegin x p = (u worker : ℕ) (body : Json) → May x p (begin u worker body) → ⊥
+
+-- a task was begun after scopes were entered and left, and this is its job
+pub record IsBegunAs (x : Planned) (old : List Event) (worker : ℕ) (job : Work) (new : List Event) : Type 0 where
+  pub between : List Event
+  pub has_passed : HasPassed old between
+  pub begun : new ≡ between ++ begin job.task worker job.body ∷ []
+  pub aim : Target
+  pub has_aim : target_of x job.task ≡ Some aim
+  pub is_job : job ≡ job_of aim job.task worker job.body
+
+-- after the scopes that may be entered and left: a task was begun, and its job is given; or a Begin is open, and no
+-- task may begin; or the deployment has ended
+abbrev pub IsNext : Planned → List Event → ℕ → Next → List Event → Type 0
+IsNext x old worker (Begun job) new = IsBegunAs x old worker job new
+IsNext x old worker Wait new =
+    HasPassed old new × (((u : ℕ) × IsBegun (progress new) u) × NoneMayBegin x (progress new))
+IsNext x old worker End new = HasPassed old new × HasEnded x (progress new)

@@ -1,0 +1,3 @@
+mod PieceLemmas
+mod FrameLemmas
+pub mod ListLemmas

@@ -16,7 +16,7 @@ ghost use Rattle.plan_elements.specs.Elements.{IsUnread};
 ghost use Rattle.plan_assembly.specs.Plans.{deployment_of};
 ghost use Rattle.plan_settling.specs.Refused.{AreSettled};
 ghost use Rattle.plan_faults.specs.Faults.{IsFault};
-ghost use Rattle.fault_exactness.specs.Exact.{HaveOwnKeys};
+ghost use Rattle.fault_exactness.specs.Exact.{HaveOwnKeys, NoneExtra};
 ghost use Rattle.arm_plan.specs.Accepted.{IsAccepted};
 
 use crate::checking::check_sheet;
@@ -74,6 +74,7 @@ fn plan_checked<'a>(
     requires table { IsStartTable start.register.table }
     requires settled { AreSettled (rows_in start.register.table) }
     requires keys { HaveOwnKeys (whole_of start.register.table) (start_of start.register.table) }
+    requires none_extra { NoneExtra (whole_of start.register.table) (start_of start.register.table) }
     ensures accepted { IfOk result (λ p. IsAccepted p held.now) }
     ensures whole { IfOk result (λ p. deployment_of p ≡ whole_of start.entry.register.table) }
     ensures mode { IfOk result (λ p. p.mode ≡ mode) }

@@ -1,0 +1,3 @@
+pub mod Extremes
+pub mod Measures
+pub mod Limits

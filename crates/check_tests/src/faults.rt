@@ -1,6 +1,6 @@
 // Each fault, with its place.
 
-use crate::answers::answers;
+use crate::programs::{Question, check};
 use std::test::Fail;
 
 // Programs of one fault each, with empty lines between them.
@@ -125,60 +125,37 @@ module b 'm.bicep' = {
 
 #[test]
 fn a_name_that_means_nothing(rt: HostRuntime) -> Result<(), Fail> {
-    let found = answers(rt.alloc(), UNKNOWN)?;
-    assert_eq!(rt;
-        found.as_str(),
-        "UnknownName\nUnknownName\nUnknownName\nUnknownName\nUnknownName\n"
-    );
-    Ok(())
+    let wanted = "UnknownName\nUnknownName\nUnknownName\nUnknownName\nUnknownName\n";
+    check(rt.alloc(), Question::Faults, UNKNOWN, wanted)
 }
 
 #[test]
 fn a_name_that_is_given_twice(rt: HostRuntime) -> Result<(), Fail> {
-    let found = answers(rt.alloc(), TWICE)?;
-    assert_eq!(rt;
-        found.as_str(),
-        "NameTwice\nNameTwice\nNameTwice\nNameTwice\nNameTwice\n"
-    );
-    Ok(())
+    let wanted = "NameTwice\nNameTwice\nNameTwice\nNameTwice\nNameTwice\n";
+    check(rt.alloc(), Question::Faults, TWICE, wanted)
 }
 
 #[test]
 fn a_bad_decorator(rt: HostRuntime) -> Result<(), Fail> {
-    let found = answers(rt.alloc(), DECORATORS)?;
-    assert_eq!(rt;
-        found.as_str(),
-        "BadDecorator\nBadDecorator\nBadDecorator\n"
-    );
-    Ok(())
+    let wanted = "BadDecorator\nBadDecorator\nBadDecorator\n";
+    check(rt.alloc(), Question::Faults, DECORATORS, wanted)
 }
 
 #[test]
 fn what_may_not_be_where_it_is(rt: HostRuntime) -> Result<(), Fail> {
-    let found = answers(rt.alloc(), PLACES)?;
-    assert_eq!(rt;
-        found.as_str(),
-        "BadForPlace\nBadForPlace\nBadForPlace\nBadForPlace\nBadForPlace\n"
-    );
-    Ok(())
+    let wanted = "BadForPlace\nBadForPlace\nBadForPlace\nBadForPlace\nBadForPlace\n";
+    check(rt.alloc(), Question::Faults, PLACES, wanted)
 }
 
 #[test]
 fn arguments_that_do_not_fit(rt: HostRuntime) -> Result<(), Fail> {
-    let found = answers(rt.alloc(), ARGUMENTS)?;
-    assert_eq!(rt;
-        found.as_str(),
-        "MissingModuleParameter\nMissingModuleParameter\nExtraModuleParameter\nExtraModuleParameter\n"
-    );
-    Ok(())
+    let wanted =
+        "MissingModuleParameter\nMissingModuleParameter\nExtraModuleParameter\nExtraModuleParameter\n";
+    check(rt.alloc(), Question::Faults, ARGUMENTS, wanted)
 }
 
 #[test]
 fn circles_have_the_names_of_their_symbols(rt: HostRuntime) -> Result<(), Fail> {
-    let found = answers(rt.alloc(), CIRCLES)?;
-    assert_eq!(rt;
-        found.as_str(),
-        "SymbolCycle a b\nSymbolCycle v\nSymbolCycle a b\n"
-    );
-    Ok(())
+    let wanted = "SymbolCycle a b\nSymbolCycle v\nSymbolCycle a b\n";
+    check(rt.alloc(), Question::Faults, CIRCLES, wanted)
 }

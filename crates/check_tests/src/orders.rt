@@ -1,6 +1,6 @@
 // Programs without a fault, and programs with several.
 
-use crate::answers::answers;
+use crate::programs::{Question, check};
 use std::test::Fail;
 
 const WITHOUT: &str = "param p string
@@ -41,21 +41,18 @@ targetScope = ^'x'";
 
 #[test]
 fn a_program_without_a_fault_is_resolved(rt: HostRuntime) -> Result<(), Fail> {
-    let found = answers(rt.alloc(), WITHOUT)?;
-    assert_eq!(rt; found.as_str(), "5 1;2 1;\n");
-    Ok(())
+    let wanted = "5 1;2 1;\n";
+    check(rt.alloc(), Question::Faults, WITHOUT, wanted)
 }
 
 #[test]
 fn of_several_faults_the_first_kind_is_returned(rt: HostRuntime) -> Result<(), Fail> {
-    let found = answers(rt.alloc(), SEVERAL)?;
-    assert_eq!(rt; found.as_str(), "NameTwice\nUnknownName\nSymbolCycle a\n");
-    Ok(())
+    let wanted = "NameTwice\nUnknownName\nSymbolCycle a\n";
+    check(rt.alloc(), Question::Faults, SEVERAL, wanted)
 }
 
 #[test]
 fn a_decorator_is_before_a_place_and_an_argument(rt: HostRuntime) -> Result<(), Fail> {
-    let found = answers(rt.alloc(), LATER)?;
-    assert_eq!(rt; found.as_str(), "BadDecorator\nBadForPlace\n");
-    Ok(())
+    let wanted = "BadDecorator\nBadForPlace\n";
+    check(rt.alloc(), Question::Faults, LATER, wanted)
 }

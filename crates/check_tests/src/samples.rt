@@ -1,6 +1,6 @@
 // What names of everyday files stand for.
 
-use crate::programs::write_found;
+use crate::programs::{Question, compare, write_program};
 use bicep_files::sample::Sample;
 use bicep_files::{hosts, networks, plain, stored, wholes};
 use std::alloc::{AllocError, Global};
@@ -270,60 +270,67 @@ const UNKNOWN: [(&str, &str); 3] = [
     ),
 ];
 
+// Fails unless this is found for a file.
+fn check_first(alloc: Global, text: &str, wanted: &str) -> Result<(), Fail> {
+    let mut found = String::new(alloc);
+    write_program(alloc, &mut found, Question::Names, (text, "", 0))?;
+    compare(found.as_str(), wanted)
+}
+
 #[test]
 fn the_first_name_that_means_nothing(rt: HostRuntime) -> Result<(), Fail> {
     for (text, wanted) in UNKNOWN {
-        let mut out = String::new(rt.alloc());
-        write_found(rt.alloc(), &mut out, text, "")?;
-        assert_eq!(rt; out.as_str(), wanted);
+        check_first(rt.alloc(), text, wanted)?;
     }
     Ok(())
 }
 
-// What is found for the files, with an empty line between two.
-fn found(alloc: Global, samples: &[Sample], tables: &str) -> Result<String, AllocError> {
-    let mut out = String::new(alloc);
+// Writes what is found for the files, with an empty line between two.
+fn write_samples(
+    alloc: Global,
+    out: &mut String,
+    samples: &[Sample],
+    tables: &str,
+) -> Result<(), AllocError> {
     let mut rest = tables.split("\n\n");
     for sample in samples {
         if !out.is_empty() {
             out.push_str("\n")?;
         }
-        write_found(alloc, &mut out, sample.0, rest.next().unwrap_or(""))?;
+        let table = rest.next().unwrap_or("");
+        write_program(alloc, out, Question::Names, (sample.0, table, 0))?;
     }
-    Ok(out)
+    Ok(())
+}
+
+// Fails unless the names of the files stand for what the tables say.
+fn check_samples(alloc: Global, samples: &[Sample], tables: &str) -> Result<(), Fail> {
+    let mut found = String::new(alloc);
+    write_samples(alloc, &mut found, samples, tables)?;
+    compare(found.as_str(), tables)
 }
 
 #[test]
 fn names_of_what_is_stored(rt: HostRuntime) -> Result<(), Fail> {
-    let found = found(rt.alloc(), &stored::SAMPLES, STORED)?;
-    assert_eq!(rt; found.as_str(), STORED);
-    Ok(())
+    check_samples(rt.alloc(), &stored::SAMPLES, STORED)
 }
 
 #[test]
 fn names_of_networks(rt: HostRuntime) -> Result<(), Fail> {
-    let found = found(rt.alloc(), &networks::SAMPLES, NETWORKS)?;
-    assert_eq!(rt; found.as_str(), NETWORKS);
-    Ok(())
+    check_samples(rt.alloc(), &networks::SAMPLES, NETWORKS)
 }
 
 #[test]
 fn names_of_hosts(rt: HostRuntime) -> Result<(), Fail> {
-    let found = found(rt.alloc(), &hosts::SAMPLES, HOSTS)?;
-    assert_eq!(rt; found.as_str(), HOSTS);
-    Ok(())
+    check_samples(rt.alloc(), &hosts::SAMPLES, HOSTS)
 }
 
 #[test]
 fn names_of_wholes(rt: HostRuntime) -> Result<(), Fail> {
-    let found = found(rt.alloc(), &wholes::SAMPLES, WHOLES)?;
-    assert_eq!(rt; found.as_str(), WHOLES);
-    Ok(())
+    check_samples(rt.alloc(), &wholes::SAMPLES, WHOLES)
 }
 
 #[test]
 fn names_of_plain_values(rt: HostRuntime) -> Result<(), Fail> {
-    let found = found(rt.alloc(), &plain::SAMPLES, PLAIN)?;
-    assert_eq!(rt; found.as_str(), PLAIN);
-    Ok(())
+    check_samples(rt.alloc(), &plain::SAMPLES, PLAIN)
 }

@@ -1,16 +1,15 @@
-// Programs of everyday files, and what is said of their names.
+// What the names of programs stand for.
 
 use crate::meanings::write_source;
 use crate::parts::{output_at, symbol_at};
-use arm_edges::{MemFile, MemTree};
-use arm_value::Bytes;
-use bicep_program::{Program, load};
+use crate::programs::letting_go;
+use bicep_program::Program;
 use bicep_resolved::Source;
 use resolved_program::{ResolveFault, ResolvedFile, ResolvedProgram, resolve_names};
 use std::alloc::{AllocError, Global};
 
-// The modules that the files name.
-const MODULES: [(&str, &str); 5] = [
+/// The modules that the files name.
+pub static MODULES: [(&str, &str); 5] = [
     (
         "modules/network.bicep",
         "output id string = ''\noutput subnetIds array = []\n",
@@ -23,27 +22,6 @@ const MODULES: [(&str, &str); 5] = [
     ),
     ("peering.bicep", "output state string = ''\n"),
 ];
-
-// Drops a value, and returns the answer about it.
-fn answered<A: Drop>(_value: A, answer: Result<(), AllocError>) -> Result<(), AllocError> {
-    answer
-}
-
-fn file_of(alloc: Global, name: &str, text: &str) -> Result<MemFile, AllocError> {
-    Ok(MemFile {
-        name: String::from_str(alloc, name)?,
-        bytes: Bytes::from_vec(Vec::from_slice(alloc, text.as_bytes())?),
-    })
-}
-
-fn folder(alloc: Global, text: &str) -> Result<MemTree, AllocError> {
-    let mut files = Vec::new(alloc);
-    files.push(file_of(alloc, "main.bicep", text)?)?;
-    for (name, module) in MODULES {
-        files.push(file_of(alloc, name, module)?)?;
-    }
-    Ok(MemTree::new(alloc, files, Vec::new(alloc)))
-}
 
 // The expression of a place: a symbol, or `output` and the name of an output, and the path from its declaration.
 fn place_at<'a>(file: &'a ResolvedFile, place: &str) -> Option<&'a Source> {
@@ -75,10 +53,10 @@ fn write_places(
 }
 
 // The first six bytes of a name that means nothing.
-fn write_fault(out: &mut String, text: &str, fault: ResolveFault) -> Result<(), AllocError> {
+fn write_fault(out: &mut String, text: &str, fault: &ResolveFault) -> Result<(), AllocError> {
     match fault {
         ResolveFault::Unknown(0, at) => {
-            let word = text.get(at..at.saturating_add(6)).unwrap_or("");
+            let word = text.get(*at..at.saturating_add(6)).unwrap_or("");
             write!(out, "unknown {word}\n")
         }
         _ => out.push_str("another fault\n"),
@@ -92,35 +70,26 @@ fn write_main(out: &mut String, program: &ResolvedProgram, table: &str) -> Resul
     }
 }
 
-fn write_program(
+fn write_names(
+    out: &mut String,
+    resolved: &Result<ResolvedProgram, ResolveFault>,
+    text: &str,
+    table: &str,
+) -> Result<(), AllocError> {
+    match resolved {
+        Ok(resolved) => write_main(out, resolved, table),
+        Err(fault) => write_fault(out, text, fault),
+    }
+}
+
+/// Writes the places of the table of a main file with what their names stand for, or its first unknown name.
+pub fn write_named(
     alloc: Global,
     out: &mut String,
     program: &Program,
     text: &str,
     table: &str,
 ) -> Result<(), AllocError> {
-    match resolve_names(alloc, program.files.as_slice()) {
-        Ok(resolved) => {
-            let answer = write_main(out, &resolved, table);
-            answered(resolved, answer)
-        }
-        Err(fault) => write_fault(out, text, fault),
-    }
-}
-
-/// The places of the table of a main file with what their names stand for, or its first unknown name.
-pub fn write_found(
-    alloc: Global,
-    out: &mut String,
-    text: &str,
-    table: &str,
-) -> Result<(), AllocError> {
-    let mut tree = folder(alloc, text)?;
-    match load(alloc, &mut tree, "main.bicep") {
-        Ok(program) => {
-            let answer = write_program(alloc, out, &program, text, table);
-            answered((tree, program), answer)
-        }
-        Err(_) => answered(tree, out.push_str("not loaded\n")),
-    }
+    let resolved = resolve_names(alloc, program.files.as_slice());
+    letting_go(write_names(out, &resolved, text, table), resolved)
 }

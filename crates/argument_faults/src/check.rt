@@ -75,8 +75,8 @@ fn check_scope(alloc: Global, table: &Table, frame: usize) -> Result<(), PlanFau
     }
 }
 
-/// Nothing exactly where each nested deployment whose template has parameters of its own gives something for these
-/// alone; else why there is no plan, with the path of what is given for another name.
+/// Nothing only where each nested deployment whose template has parameters of its own gives something for these
+/// alone; else why there is no plan, as the path of what is given for another name.
 pub fn check_arguments(alloc: Global, table: &Table) -> Result<(), PlanFault>
     requires table { IsStartTable table.now }
     ensures none { IfOk result (λ _. (path : List ℕ) (f : bind.BindFault)

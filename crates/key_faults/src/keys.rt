@@ -106,8 +106,8 @@ fn check_nested(alloc: Global, table: &Table) -> Result<(), PlanFault>
     }
 }
 
-/// Nothing exactly where the instances that are put differ in their keys, and the nested deployments of each scope in
-/// theirs; else why there is no plan, with the positions of two that have one key.
+/// Nothing only where the instances that are put differ in their keys, and the nested deployments of each scope in
+/// theirs; else why there is no plan, as the positions of two that have one key.
 pub fn check_keys(alloc: Global, table: &Table) -> Result<(), PlanFault>
     requires table { IsStartTable table.now }
     ensures resources_differ { IfOk result (λ _. ResourcesDiffer (whole_of table.now).place

@@ -123,8 +123,9 @@ pub record Put : Type 0 where
 abbrev pub resource_kind : SourceFile → ℕ → Kind
 resource_kind f n = record { type = (type_of f n).kind; api = (type_of f n).version; is_deployment = false }
 
+-- a module is a nested deployment, whose version is always this one
 abbrev pub module_kind : Kind
-module_kind = record { type = deployment_type; api = []; is_deployment = true }
+module_kind = record { type = deployment_type; api = codes "2022-09-01"; is_deployment = true }
 
 abbrev pub unless_existing : Bool → Put → Option Put
 unless_existing true x = None

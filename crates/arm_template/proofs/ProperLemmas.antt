@@ -1,4 +1,4 @@
--- The fault of a value is never want of memory: no definition gives that.
+-- The fault of a value is never `OutOfMemory`: no definition gives that.
 use Rattle.std.proofs.Common.{◌≡◌, ◌||◌, ◌&&◌, ◌+◌, ◌++◌, ℕ, ℤ, pos, negsuc, zero, nat_lt, codes, Bool, true, false}
 use Rattle.std.proofs.Common.{List, [], ◌∷◌, Option, Some, None, option_map, if◌then◌else◌, subst}
 use Rattle.arm_expr.specs.Brackets.{Meaning, an_expression, plain, meaning, is_bracketed, is_copy}
@@ -52,7 +52,7 @@ use Rattle.template_values.specs.Order.{decided}
 use Rattle.template_values.specs.Values as values
 use Rattle.template_values.specs.declared.order.Faulty.{Faulty}
 
--- ---- faults that are not want of memory
+-- ---- faults that are not `OutOfMemory`
 
 abbrev Proper : Option TemplateFault → Type 0
 Proper None = Unit {0}
@@ -752,6 +752,6 @@ mutual
       (of_name k (template_in (seen_by here scope (sight_of j)) (properties.place_in scope) j)
       (of_template (seen_by here scope (sight_of j)) (properties.place_in scope) j)) (of_nested here scope ms)
 
--- the fault of a value is never want of memory
+-- the fault of a value is never `OutOfMemory`
 pub never_memory : (v : Json) → template_fault v ≡ Some fault.OutOfMemory → ⊥
 never_memory v e = subst Proper e (of_template (sight_of v) Variable v)

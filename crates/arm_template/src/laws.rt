@@ -24,7 +24,7 @@ pub fn written_values_are_read_back()
     ensures { (t u : TemplateTree) → IsStated t → States (written t) u → u ≡ t }
 {}
 
-/// The fault of a value is never want of memory.
+/// The fault of a value is never `OutOfMemory`.
 pub fn faults_are_of_values()
     ensures { (v : Json) → template_fault v ≡ Some OutOfMemory → ⊥ }
 {}

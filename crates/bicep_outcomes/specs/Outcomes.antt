@@ -72,7 +72,7 @@ listed o = option_map (λ v. v.items) o
 abbrev pub with_one : {X : Type 0} → Option (List X) → X → Option (List X)
 with_one o x = option_map (λ xs. xs ++ x ∷ []) o
 
--- nothing but for want of memory
+-- true of what is returned, unless it is `OutOfMemory`
 abbrev pub Lacks : {X : Type 0} → (X → Type 0) → Result X Stop → Type 0
 Lacks P (Ok x) = P x
 Lacks P (Err s) = s ≡ stop.OutOfMemory

@@ -26,6 +26,35 @@ Row = List ℕ × ℕ × Option ℕ × Option Plain
 -- the functions
 unfoldable pub table : List Row
 table =
+    (codes "parameters", 1, Some 1, None) ∷
+    (codes "variables", 1, Some 1, None) ∷
+    (codes "concat", 1, None, Some (Prints Concat)) ∷
+    (codes "resourceId", 1, None, None) ∷
+    (codes "format", 1, None, Some (Prints Format)) ∷
+    (codes "if", 3, Some 3, None) ∷
+    (codes "equals", 2, Some 2, Some (Logic Equals)) ∷
+    (codes "reference", 1, Some 3, None) ∷
+    (codes "copyIndex", 0, Some 2, None) ∷
+    (codes "resourceGroup", 0, Some 0, None) ∷
+    (codes "subscription", 0, Some 0, None) ∷
+    (codes "not", 1, Some 1, Some (Logic Not)) ∷
+    (codes "and", 2, None, None) ∷
+    (codes "or", 2, None, None) ∷
+    (codes "empty", 1, Some 1, Some (Lists Empty)) ∷
+    (codes "toLower", 1, Some 1, Some (Texts ToLower)) ∷
+    (codes "uniqueString", 1, None, Some (Names UniqueString)) ∷
+    (codes "length", 1, Some 1, Some (Lists Size)) ∷
+    (codes "contains", 2, Some 2, Some (Texts Contains)) ∷
+    (codes "createObject", 0, None, Some (Lists CreateObject)) ∷
+    (codes "createArray", 0, None, Some (Lists CreateArray)) ∷
+    (codes "union", 1, None, Some (Lists Union)) ∷
+    (codes "json", 1, Some 1, Some (Prints ReadJson)) ∷
+    (codes "string", 1, Some 1, Some (Prints ToText)) ∷
+    (codes "int", 1, Some 1, Some (Numbers ToInt)) ∷
+    (codes "null", 0, Some 0, Some (Logic AlwaysNull)) ∷
+    (codes "true", 0, Some 0, Some (Logic AlwaysTrue)) ∷
+    (codes "false", 0, Some 0, Some (Logic AlwaysFalse)) ∷
+    (codes "coalesce", 1, None, None) ∷
     (codes "add", 2, Some 2, Some (Numbers Add)) ∷
     (codes "sub", 2, Some 2, Some (Numbers Sub)) ∷
     (codes "mul", 2, Some 2, Some (Numbers Mul)) ∷
@@ -33,11 +62,7 @@ table =
     (codes "mod", 2, Some 2, Some (Numbers Remainder)) ∷
     (codes "min", 1, None, Some (Numbers Min)) ∷
     (codes "max", 1, None, Some (Numbers Max)) ∷
-    (codes "int", 1, Some 1, Some (Numbers ToInt)) ∷
     (codes "range", 2, Some 2, Some (Numbers Range)) ∷
-    (codes "concat", 1, None, Some (Prints Concat)) ∷
-    (codes "format", 1, None, Some (Prints Format)) ∷
-    (codes "toLower", 1, Some 1, Some (Texts ToLower)) ∷
     (codes "toUpper", 1, Some 1, Some (Texts ToUpper)) ∷
     (codes "trim", 1, Some 1, Some (Texts Trim)) ∷
     (codes "substring", 2, Some 3, Some (Texts Substring)) ∷
@@ -48,51 +73,26 @@ table =
     (codes "endsWith", 2, Some 2, Some (Texts EndsWith)) ∷
     (codes "indexOf", 2, Some 2, Some (Texts IndexOf)) ∷
     (codes "lastIndexOf", 2, Some 2, Some (Texts LastIndexOf)) ∷
-    (codes "length", 1, Some 1, Some (Lists Size)) ∷
-    (codes "empty", 1, Some 1, Some (Lists Empty)) ∷
-    (codes "contains", 2, Some 2, Some (Texts Contains)) ∷
     (codes "padLeft", 2, Some 3, Some (Prints PadLeft)) ∷
-    (codes "string", 1, Some 1, Some (Prints ToText)) ∷
     (codes "base64", 1, Some 1, Some (Names ToBase64)) ∷
     (codes "base64ToString", 1, Some 1, Some (Names FromBase64)) ∷
     (codes "array", 1, Some 1, Some (Lists ToArray)) ∷
-    (codes "createArray", 0, None, Some (Lists CreateArray)) ∷
     (codes "first", 1, Some 1, Some (Lists First)) ∷
     (codes "last", 1, Some 1, Some (Lists Last)) ∷
     (codes "skip", 2, Some 2, Some (Lists Skip)) ∷
     (codes "take", 2, Some 2, Some (Lists Take)) ∷
-    (codes "union", 1, None, Some (Lists Union)) ∷
     (codes "intersection", 1, None, Some (Lists Intersection)) ∷
     (codes "flatten", 1, Some 1, Some (Lists Flatten)) ∷
-    (codes "createObject", 0, None, Some (Lists CreateObject)) ∷
-    (codes "json", 1, Some 1, Some (Prints ReadJson)) ∷
     (codes "items", 1, Some 1, Some (Lists ObjectItems)) ∷
     (codes "objectKeys", 1, Some 1, Some (Lists ObjectKeys)) ∷
-    (codes "not", 1, Some 1, Some (Logic Not)) ∷
-    (codes "true", 0, Some 0, Some (Logic AlwaysTrue)) ∷
-    (codes "false", 0, Some 0, Some (Logic AlwaysFalse)) ∷
-    (codes "null", 0, Some 0, Some (Logic AlwaysNull)) ∷
     (codes "bool", 1, Some 1, Some (Logic ToBool)) ∷
-    (codes "equals", 2, Some 2, Some (Logic Equals)) ∷
     (codes "less", 2, Some 2, Some (Logic Less)) ∷
     (codes "lessOrEquals", 2, Some 2, Some (Logic LessOrEquals)) ∷
     (codes "greater", 2, Some 2, Some (Logic Greater)) ∷
     (codes "greaterOrEquals", 2, Some 2, Some (Logic GreaterOrEquals)) ∷
     (codes "tryGet", 2, None, Some (Lists TryGet)) ∷
-    (codes "uniqueString", 1, None, Some (Names UniqueString)) ∷
     (codes "guid", 1, None, Some (Names Guid)) ∷
-    (codes "if", 3, Some 3, None) ∷
-    (codes "and", 2, None, None) ∷
-    (codes "or", 2, None, None) ∷
-    (codes "coalesce", 1, None, None) ∷
-    (codes "parameters", 1, Some 1, None) ∷
-    (codes "variables", 1, Some 1, None) ∷
-    (codes "copyIndex", 0, Some 2, None) ∷
-    (codes "reference", 1, Some 3, None) ∷
-    (codes "resourceId", 1, None, None) ∷
     (codes "subscriptionResourceId", 1, None, None) ∷
-    (codes "resourceGroup", 0, Some 0, None) ∷
-    (codes "subscription", 0, Some 0, None) ∷
     (codes "deployment", 0, Some 0, None) ∷ []
 
 -- the first row of this name, whatever the case of its letters

@@ -134,6 +134,7 @@ fn follow<S: Sheet>(alloc: Global, sheet: &mut S, start: usize) -> Result<Option
     ensures visited { IfOk result (λ c. MatchOption c
         (Visited (S.whole sheet.old) (S.rows sheet.old) (S.rows sheet.new) start)
         (λ c. IsCircle (S.whole sheet.old) (S.rows sheet.new) c.places.items c.last c.back)) }
+    ensures sound { IfOk result (λ _. Sound (S.whole sheet.old) (S.rows sheet.new)) }
     ensures halted { IfErr result (IsHalted (S.whole sheet.old)) }
 {
     let mut stack = Vec::new(alloc);
@@ -165,6 +166,7 @@ fn visit<S: Sheet>(alloc: Global, sheet: &mut S, start: usize) -> Result<Option<
     ensures visited { IfOk result (λ c. MatchOption c
         (Visited (S.whole sheet.old) (S.rows sheet.old) (S.rows sheet.new) start)
         (λ c. IsCircle (S.whole sheet.old) (S.rows sheet.new) c.places.items c.last c.back)) }
+    ensures sound { IfOk result (λ _. Sound (S.whole sheet.old) (S.rows sheet.new)) }
     ensures halted { IfErr result (IsHalted (S.whole sheet.old)) }
 {
     match sheet.stage(start) {
@@ -178,7 +180,7 @@ fn visit<S: Sheet>(alloc: Global, sheet: &mut S, start: usize) -> Result<Option<
     }
 }
 
-/// Fills a sheet as far as it goes, or finds cells that wait for one another.
+/// Fills a sheet as far as it goes, or finds cells that wait for one another. The sheet stays sound in both cases.
 pub fn fill_all<S: Sheet>(alloc: Global, sheet: &mut S) -> Result<Option<Circle>, Halt>
     requires sound { Sound (S.whole sheet.old) (S.rows sheet.old) }
     requires laid { S.laid sheet.old }
@@ -187,6 +189,7 @@ pub fn fill_all<S: Sheet>(alloc: Global, sheet: &mut S) -> Result<Option<Circle>
     ensures laid { IfOk result (λ _. S.laid sheet.new) }
     ensures filled { IfOk result (λ c. MatchOption c (Filled (S.whole sheet.old) (S.rows sheet.new))
         (λ c. IsCircle (S.whole sheet.old) (S.rows sheet.new) c.places.items c.last c.back)) }
+    ensures sound { IfOk result (λ _. Sound (S.whole sheet.old) (S.rows sheet.new)) }
     ensures halted { IfErr result (IsHalted (S.whole sheet.old)) }
 {
     let mut at = 0;

@@ -1,5 +1,5 @@
 -- The extents of what surrounds an expression, and of what it becomes.
-use Rattle.std.specs.Prelude.{ℕ, List, [], ◌∷◌, Option, option_to_list, Result, IfOk}
+use Rattle.std.specs.Prelude.{List, [], ◌∷◌, Option, option_to_list, Result, IfOk}
 use Rattle.std.specs.declared.alloc.AllocError.{AllocError}
 use Rattle.arm_expr.specs.Tree.{Tree, Trees}
 use Rattle.bicep_emission.specs.Emitted.{Frame}

@@ -46,7 +46,11 @@ nothing = record { longest = 0; deepest = 0; depth = 0 }
 
 -- what two take together
 abbrev pub joined : Extremes → Extremes → Extremes
-joined x y = record { longest = max x.longest y.longest; deepest = max x.deepest y.deepest; depth = max x.depth y.depth }
+joined x y = record {
+  longest = max x.longest y.longest;
+  deepest = max x.deepest y.deepest;
+  depth = max x.depth y.depth;
+}
 
 -- what an array or an object takes, by what its parts take
 abbrev pub enclosed : Extremes → Extremes

@@ -5,8 +5,8 @@ ghost use Rattle.bicep_tree.specs.declared.leaf.Literal.{Literal};
 ghost use Rattle.emitted_sizes.specs.Extent.{IsOf as IsExtent};
 ghost use Rattle.emitted_trees.specs.Templates.{TemplateTree};
 ghost use Rattle.emitted_trees.specs.Templates as t;
-ghost use Rattle.measured_trees.specs.Extremes.{Extremes, nothing as no_extremes, joined, enclosed as enclosed_extremes};
-ghost use Rattle.measured_trees.specs.Extremes.{tree_extremes, value_extremes};
+ghost use Rattle.measured_trees.specs.Extremes.{Extremes, nothing as no_extremes, enclosed as enclosed_extremes};
+ghost use Rattle.measured_trees.specs.Extremes.{joined, tree_extremes, value_extremes};
 ghost use Rattle.measured_trees.specs.Measures.{IsOf, Begins};
 
 use emitted_sizes::Extent;

@@ -7,7 +7,8 @@ use std::test::Fail;
 const INNER: &str =
     r#"{§,"parameters":{"p":{"type":"string","defaultValue":"out"}},"variables":{"v":"around"},"resources":[
 {¶,"name":"m","properties":{«,"parameters":{"q":{"value":"[concat(parameters('p'), variables('v'))]"}},
-"template":{§,"parameters":{"q":{"type":"string"},"d":{"type":"string","defaultValue":"[concat(parameters('q'), '!')]"}},
+"template":{§,"parameters":{"q":{"type":"string"},
+"d":{"type":"string","defaultValue":"[concat(parameters('q'), '!')]"}},
 "variables":{"v":"[parameters('d')]"},"resources":[{¤,"name":"[variables('v')]"}],
 "outputs":{"o":{"type":"string","value":"[parameters('q')]"}}}}}]}
 > parameter / p = "out"

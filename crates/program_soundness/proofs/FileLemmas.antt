@@ -106,7 +106,8 @@ sound_by files r ts here w many h typed =
     record {
       declarations = λ n k fs x c is.
           let g = one_fits files ts r.symbols r.declared.declarations n x many is both.0 in
-          subst (λ o. AllByRecursion (IsPartSound ts here w k fs) (declaration_parts (module_file files o) x)) (sym g.is)
+          subst (λ o. AllByRecursion (IsPartSound ts here w k fs) (declaration_parts (module_file files o) x))
+          (sym g.is)
           (declaration_sound ts here w typed k fs c files g.symbol.2 x g.fits);
       outputs = λ n k fs o c is.
           output_sound ts here w typed k fs c o (one_output ts r.declared.outputs n o is both.1);

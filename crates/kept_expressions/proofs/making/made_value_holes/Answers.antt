@@ -27,5 +27,6 @@ returns-in-Ok g c = λ h.
     (c.keep_holes.ensures t
     (c.in_ok-holed.ensures t (λ f. subst (λ r. spec.value r x (f ∷ []) ≡ fill f t) (sym c.requires) (h f)))
     (sym (ap is_within c.least_extent.ensures) ∙ sym c.is_within.ensures ∙ c.if-not-is_within.false)
-    (subst (λ fs. Is (spec.value s x fs) c.emitted_value-made.result) (ap frames_of c.as_slice.ensures.value ∙ c.in-Ok.ensures)
+    (subst (λ fs. Is (spec.value s x fs) c.emitted_value-made.result)
+    (ap frames_of c.as_slice.ensures.value ∙ c.in-Ok.ensures)
     c.emitted_value-made.ensures))

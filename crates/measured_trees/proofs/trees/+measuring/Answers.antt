@@ -85,7 +85,8 @@ measured_tree-returns-in_ok-members-in-Object g t c = λ fs h.
     ap (λ xs. has_copy (properties (map property_of xs))) (sym c.as_slice.ensures.value) ∙ sym c.if-has_copy.ensures in
     let m = subst
     (λ xs. IsOf (members_extremes (spec.members w (properties (map property_of xs)) fs))
-    c.in_ok-members-in-Object.field-0) c.as_slice-else-has_copy.ensures.value (c.in_ok-members-in-Object.ensures fs h) in
+    c.in_ok-members-in-Object.field-0) c.as_slice-else-has_copy.ensures.value
+    (c.in_ok-members-in-Object.ensures fs h) in
     subst (λ x. IsOf (tree_extremes (spec.tree w x fs)) c.enclosed.result)
     (sym (ap source_of c.in-Object.is ∙ source_of-Object at c.in-Object.properties))
     (subst

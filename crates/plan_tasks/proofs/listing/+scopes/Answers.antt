@@ -7,7 +7,8 @@ use Rattle.plan_tasks.proofs.ListLemmas.{resources_more, resources_end}
 use Rattle.plan_tasks.proofs.listing.+scopes.Goals as goal
 use Rattle.foundation.proofs.Options.{if_ok}
 
-pub list_instance-returns-in_ok-push-in-Resource-clause-listed : goal.list_instance-returns-in_ok-push-in-Resource-clause-listed
+pub list_instance-returns-in_ok-push-in-Resource-clause-listed :
+    goal.list_instance-returns-in_ok-push-in-Resource-clause-listed
 list_instance-returns-in_ok-push-in-Resource-clause-listed t c =
     λ x e.
     put_listed c.args.table.now c.args.frame c.args.resource c.args.copy c.args.tasks.now.items c.push.new.self.items x

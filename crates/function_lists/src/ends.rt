@@ -5,7 +5,7 @@ ghost use Rattle.function_lists.specs.Values.{array_of, or_null};
 ghost use Rattle.function_lists.specs.Ends as row;
 ghost use Rattle.function_lists.specs.Ends.{amount, first_part, last_part, without_front, front_alone};
 
-use crate::characters::{characters_of, text_of_characters};
+use crate::characters::{after_front, front_of, last_of};
 use crate::values::{array_of, copies, copy_or_null};
 use arm_value::{Items, OutOfMemory, Text, Value};
 use std::alloc::Global;
@@ -40,8 +40,7 @@ fn before<T>(elements: &[T], count: u64) -> &[T]
 fn first_character(alloc: Global, text: &Text) -> Result<Text, OutOfMemory>
     ensures { IfOk result (λ t. t ≡ take 1 text.now) }
 {
-    let characters = characters_of(alloc, text)?;
-    text_of_characters(alloc, before(characters.as_slice(), 1))
+    Text::of(alloc, front_of(text.as_str(), 1))
 }
 
 #[tactic(auto, using(function_numbers::proofs::RowLemmas::items_of_row))]
@@ -65,21 +64,10 @@ pub fn first(alloc: Global, args: &[Value]) -> Result<Option<Value>, OutOfMemory
     }
 }
 
-// The elements but for the last.
-fn last_alone<T>(elements: &[T]) -> &[T]
-    ensures { result.now ≡ drop (length elements.now - 1) elements.now }
-{
-    if elements.is_empty() {
-        return elements;
-    }
-    &elements[elements.len() - 1..]
-}
-
 fn last_character(alloc: Global, text: &Text) -> Result<Text, OutOfMemory>
     ensures { IfOk result (λ t. t ≡ drop (length text.now - 1) text.now) }
 {
-    let characters = characters_of(alloc, text)?;
-    text_of_characters(alloc, last_alone(characters.as_slice()))
+    Text::of(alloc, last_of(text.as_str()))
 }
 
 fn last_item(items: &Items) -> Option<&Value>
@@ -115,8 +103,7 @@ pub fn last(alloc: Global, args: &[Value]) -> Result<Option<Value>, OutOfMemory>
 fn text_after(alloc: Global, text: &Text, count: u64) -> Result<Text, OutOfMemory>
     ensures { IfOk result (λ t. t ≡ drop count text.now) }
 {
-    let characters = characters_of(alloc, text)?;
-    text_of_characters(alloc, after(characters.as_slice(), count))
+    Text::of(alloc, after_front(text.as_str(), count))
 }
 
 fn items_after(alloc: Global, items: &Items, count: u64) -> Result<Option<Value>, OutOfMemory>
@@ -156,8 +143,7 @@ pub fn skip(alloc: Global, args: &[Value]) -> Result<Option<Value>, OutOfMemory>
 fn text_before(alloc: Global, text: &Text, count: u64) -> Result<Text, OutOfMemory>
     ensures { IfOk result (λ t. t ≡ take count text.now) }
 {
-    let characters = characters_of(alloc, text)?;
-    text_of_characters(alloc, before(characters.as_slice(), count))
+    Text::of(alloc, front_of(text.as_str(), count))
 }
 
 fn items_before(alloc: Global, items: &Items, count: u64) -> Result<Option<Value>, OutOfMemory>

@@ -71,8 +71,8 @@ fn is_array(value: &Value) -> bool
     }
 }
 
-// Whether the value is of the type.
-fn is_of(kind: ValueType, value: &Value) -> bool
+/// Whether the value is of the type.
+pub fn is_of(kind: ValueType, value: &Value) -> bool
     ensures { result ≡ is_of kind (json value.now) }
 {
     match kind {

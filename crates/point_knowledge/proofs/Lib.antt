@@ -1,3 +1,3 @@
 mod StartLemmas
-mod BlankLemmas
-mod StepLemmas
+pub mod BlankLemmas
+pub mod StepLemmas

@@ -10,7 +10,7 @@ use Rattle.deploy_cells.specs.Puts.{HaveBodies, ResourcesDiffer, DeploymentsDiff
 use Rattle.deploy_cells.specs.Puts.{body_in, key_at, id_at}
 use Rattle.cell_renaming.specs.Renaming.{Renaming, IsOneToOne, to_position, from_position, resource_at}
 use Rattle.cell_renaming.specs.Renaming.{to_cell, from_cell, renamed, unrenamed, IsRenamable}
-use Rattle.cell_renaming.specs.Renamed.{IsRenamed, Stored, stored_by, IsStored}
+use Rattle.cell_renaming.specs.Renamed.{IsRenamed, IsEither, as_it_is, as_renamed, Stored, stored_by, IsStored}
 use Rattle.cell_renaming.proofs.OptionLemmas.{Either, there, nowhere, either, none_some, of_both, to_both, of_then}
 use Rattle.cell_renaming.proofs.CellLemmas.{from-to_position, to-from_position, resource_known}
 use Rattle.cell_renaming.proofs.ParentLemmas.{renamed_is}
@@ -134,23 +134,24 @@ module _ (r : Renaming) (i : IsOneToOne r) where
 
     -- ---- bodies
 
-    body_same : (p q : Position) (a u : Step) → Pair p a q u
+    body_same : IsEither r s t w → (p q : Position) (a u : Step) → Pair p a q u → w (included p a) ≡ Some (bool true)
         → body_in (renamed r w) (t.bodies q u) ≡ body_in w (s.bodies p a)
-    body_same p q a u g =
+    body_same v p q a u g e =
         ap (λ c. body_in (renamed r w) (t.bodies q (step u.resource c))) (sym g.copy)
-        ∙ h.bodies w n p q a.resource u.resource a.copy g.at g.number
+        ∙ h.bodies w n v p q a.resource u.resource a.copy g.at g.number e
 
-    bodies_forth : HaveBodies s.kinds s.bodies w → HaveBodies t.kinds t.bodies (renamed r w)
-    bodies_forth b q u k x c =
+    bodies_forth : IsEither r s t w → HaveBodies s.kinds s.bodies w → HaveBodies t.kinds t.bodies (renamed r w)
+    bodies_forth v b q u k x c =
         let o = put_old q u k x c in
-        let g = b o.at o.instance k x (put_back o.at q o.instance u k x o.pair c) in
-        (g.0, body_same o.at q o.instance u o.pair ∙ g.1)
+        let e = put_back o.at q o.instance u k x o.pair c in
+        let g = b o.at o.instance k x e in
+        (g.0, body_same v o.at q o.instance u o.pair e.is_included.has_condition ∙ g.1)
 
-    bodies_back : HaveBodies t.kinds t.bodies (renamed r w) → HaveBodies s.kinds s.bodies w
-    bodies_back b p a k x c =
+    bodies_back : IsEither r s t w → HaveBodies t.kinds t.bodies (renamed r w) → HaveBodies s.kinds s.bodies w
+    bodies_back v b p a k x c =
         let o = put_new p a k x c in
         let g = b o.at o.instance k x (put_forth p o.at a o.instance k x o.pair c) in
-        (g.0, sym (body_same p o.at a o.instance o.pair) ∙ g.1)
+        (g.0, sym (body_same v p o.at a o.instance o.pair c.is_included.has_condition) ∙ g.1)
 
     -- ---- keys
 
@@ -249,8 +250,8 @@ module _ (r : Renaming) (i : IsOneToOne r) where
 
     pub forth : IsDesired s w → IsDesired t (renamed r w)
     forth d = record {
-      is_world = world_forth r i s t h w n d.is_world;
-      have_bodies = bodies_forth d.have_bodies;
+      is_world = world_forth r i s t h w n (as_it_is d) d.is_world;
+      have_bodies = bodies_forth (as_it_is d) d.have_bodies;
       resources_differ =
           subst (λ p. ResourcesDiffer p t.kinds (renamed r w)) (sym h.place)
           (resources_forth s.place d.resources_differ);
@@ -264,8 +265,8 @@ module _ (r : Renaming) (i : IsOneToOne r) where
 
     pub back : IsDesired t (renamed r w) → IsDesired s w
     back d = record {
-      is_world = world_back r i s t h w n d.is_world;
-      have_bodies = bodies_back d.have_bodies;
+      is_world = world_back r i s t h w n (as_renamed d) d.is_world;
+      have_bodies = bodies_back (as_renamed d) d.have_bodies;
       resources_differ =
           subst (λ p. ResourcesDiffer p s.kinds w) h.place (resources_back t.place d.resources_differ);
       deployments_differ =
@@ -278,15 +279,15 @@ module _ (r : Renaming) (i : IsOneToOne r) where
     abbrev at_place : Kind → List ℕ → Option Json → Place → Stored
     at_place k x b p = record { id = id_at p k.type x; api = k.api; body = b; state = w (state (key_at p k.type x)) }
 
-    stored_same : (p q : Position) (a u : Step) (k : Kind) (x : List ℕ) → Pair p a q u
-        → stored_by t (renamed r w) k x (body_in (renamed r w) (t.bodies q u))
+    stored_same : IsDesired s w → (p q : Position) (a u : Step) (k : Kind) (x : List ℕ) → Pair p a q u
+        → w (included p a) ≡ Some (bool true) → stored_by t (renamed r w) k x (body_in (renamed r w) (t.bodies q u))
         ≡ stored_by s w k x (body_in w (s.bodies p a))
-    stored_same p q a u k x g =
-        ap (λ b. at_place k x b t.place) (body_same p q a u g)
+    stored_same d p q a u k x g e =
+        ap (λ b. at_place k x b t.place) (body_same (as_it_is d) p q a u g e)
         ∙ ap (at_place k x (body_in w (s.bodies p a))) h.place
 
-    pub stored_forth : (y : Stored) → IsStored s w y → IsStored t (renamed r w) y
-    stored_forth y c =
+    pub stored_forth : IsDesired s w → (y : Stored) → IsStored s w y → IsStored t (renamed r w) y
+    stored_forth d y c =
         let o = put_new c.at c.instance c.kind c.title c.is_put in
         record {
           at = o.at;
@@ -294,19 +295,26 @@ module _ (r : Renaming) (i : IsOneToOne r) where
           kind = c.kind;
           title = c.title;
           is_put = put_forth c.at o.at c.instance o.instance c.kind c.title o.pair c.is_put;
-          is_so = stored_same c.at o.at c.instance o.instance c.kind c.title o.pair ∙ c.is_so;
+          is_so =
+              stored_same d c.at o.at c.instance o.instance c.kind c.title o.pair
+              c.is_put.is_included.has_condition
+              ∙ c.is_so;
         }
 
-    pub stored_back : (y : Stored) → IsStored t (renamed r w) y → IsStored s w y
-    stored_back y c =
+    pub stored_back : IsDesired s w → (y : Stored) → IsStored t (renamed r w) y → IsStored s w y
+    stored_back d y c =
         let o = put_old c.at c.instance c.kind c.title c.is_put in
+        let e = put_back o.at c.at o.instance c.instance c.kind c.title o.pair c.is_put in
         record {
           at = o.at;
           instance = o.instance;
           kind = c.kind;
           title = c.title;
-          is_put = put_back o.at c.at o.instance c.instance c.kind c.title o.pair c.is_put;
-          is_so = sym (stored_same o.at c.at o.instance c.instance c.kind c.title o.pair) ∙ c.is_so;
+          is_put = e;
+          is_so =
+              sym
+              (stored_same d o.at c.at o.instance c.instance c.kind c.title o.pair e.is_included.has_condition)
+              ∙ c.is_so;
         }
 
 module _ (r : Renaming) (i : IsOneToOne r) (s t : Desired) (h : IsRenamed r s t) where

@@ -8,7 +8,7 @@ use Rattle.deploy_cells.specs.Guarded.{Meaning, IsWorld}
 use Rattle.deploy_cells.specs.Puts.{Desired}
 use Rattle.deploy_cells.proofs.CellLemmas.{parent_above}
 use Rattle.cell_renaming.specs.Renaming.{Renaming, IsOneToOne, to_cell, from_cell, renamed, unrenamed, IsRenamable}
-use Rattle.cell_renaming.specs.Renamed.{AreUndeclared, IsRenamed}
+use Rattle.cell_renaming.specs.Renamed.{AreUndeclared, IsRenamed, IsEither}
 use Rattle.cell_renaming.proofs.OptionLemmas.{Either, there, nowhere, either}
 use Rattle.cell_renaming.proofs.CellLemmas.{from-to_cell}
 use Rattle.cell_renaming.proofs.ParentLemmas.{renamed_is}
@@ -29,24 +29,26 @@ module _ (r : Renaming) (i : IsOneToOne r) (s t : Desired) (h : IsRenamed r s t)
   pub renamable : (w : World) → IsWorld s.meaning w → IsRenamable r w
   renamable w a c e = only_declared (to_cell r) s.meaning w h.undeclared a (suc (depth c)) c (omega arith) e
 
-  world_by : (w : World) → IsRenamable r w → IsWorld s.meaning w → (d : Cell) → Either (from_cell r d)
-      → value_in (renamed r w) (t.meaning d) ≡ Some (renamed r w d)
-  world_by w n a d (there c e) =
-      h.means w n c d (from-to_cell r i d c e) ∙ a c ∙ sym (ap (λ o. Some (option_and_then w o)) e)
-  world_by w n a d (nowhere e) =
-      h.undeclared_renamed (renamed r w) d e (λ p above g. ap (option_and_then w) g)
+  world_by : (w : World) → IsRenamable r w → IsEither r s t w → IsWorld s.meaning w → (d : Cell)
+      → Either (from_cell r d) → value_in (renamed r w) (t.meaning d) ≡ Some (renamed r w d)
+  world_by w n g a d (there c e) =
+      h.means w n g c d (from-to_cell r i d c e) ∙ a c ∙ sym (ap (λ o. Some (option_and_then w o)) e)
+  world_by w n g a d (nowhere e) =
+      h.undeclared_renamed (renamed r w) d e (λ p above k. ap (option_and_then w) k)
       ∙ sym (ap (λ o. Some (option_and_then w o)) e)
 
-  pub world_forth : (w : World) → IsRenamable r w → IsWorld s.meaning w → IsWorld t.meaning (renamed r w)
-  world_forth w n a d = world_by w n a d (either (from_cell r d))
+  pub world_forth : (w : World) → IsRenamable r w → IsEither r s t w → IsWorld s.meaning w
+      → IsWorld t.meaning (renamed r w)
+  world_forth w n g a d = world_by w n g a d (either (from_cell r d))
 
-  back_by : (w : World) → IsRenamable r w → IsWorld t.meaning (renamed r w) → (c : Cell) → Either (to_cell r c)
-      → value_in w (s.meaning c) ≡ Some (w c)
-  back_by w n a c (there d e) = sym (h.means w n c d e) ∙ a d ∙ ap (λ v. Some v) (renamed_is r i w c d e)
-  back_by w n a c (nowhere e) = h.undeclared w c e (λ p above g. n p g) ∙ ap (λ v. Some v) (sym (n c e))
+  back_by : (w : World) → IsRenamable r w → IsEither r s t w → IsWorld t.meaning (renamed r w) → (c : Cell)
+      → Either (to_cell r c) → value_in w (s.meaning c) ≡ Some (w c)
+  back_by w n g a c (there d e) = sym (h.means w n g c d e) ∙ a d ∙ ap (λ v. Some v) (renamed_is r i w c d e)
+  back_by w n g a c (nowhere e) = h.undeclared w c e (λ p above k. n p k) ∙ ap (λ v. Some v) (sym (n c e))
 
-  pub world_back : (w : World) → IsRenamable r w → IsWorld t.meaning (renamed r w) → IsWorld s.meaning w
-  world_back w n a c = back_by w n a c (either (to_cell r c))
+  pub world_back : (w : World) → IsRenamable r w → IsEither r s t w → IsWorld t.meaning (renamed r w)
+      → IsWorld s.meaning w
+  world_back w n g a c = back_by w n g a c (either (to_cell r c))
 
   renaming_by : (v : World) → IsWorld t.meaning v → (d : Cell) → Either (from_cell r d)
       → renamed r (unrenamed r v) d ≡ v d

@@ -1,1 +1,2 @@
+pub mod FollowedLemmas
 pub mod ReadLemmas

@@ -11,6 +11,6 @@ returns c = λ z d held t h w a x.
     let i = one_to_one z d.files in
     let s = is_renamed z d held t h in
     let n = desired_renamable r i (desired d held) t s w a in (
-      (λ g. stored_forth r i (desired d held) t s w n x g),
-      λ g. stored_back r i (desired d held) t s w n x g,
+      (λ g. stored_forth r i (desired d held) t s w n a x g),
+      λ g. stored_back r i (desired d held) t s w n a x g,
     )

@@ -1,0 +1,3 @@
+pub mod AbsentLemmas
+pub mod KindLemmas
+pub mod InnerLemmas

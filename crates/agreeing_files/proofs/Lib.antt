@@ -1,0 +1,4 @@
+pub mod TypeLemmas
+pub mod EmittedLemmas
+pub mod DeclaredLemmas
+pub mod AgreeLemmas

@@ -1,0 +1,3 @@
+pub mod AskLemmas
+pub mod SeenLemmas
+pub mod ValueLemmas

@@ -27,7 +27,7 @@ outright_or a o u e f = cc
 
 -- ---- the table of both
 
-abbrev known_or : Known Json → Known Json → Known Json
+abbrev pub known_or : Known Json → Known Json → Known Json
 known_or (known v) e = known v
 known_or absent e = absent
 known_or missing e = e

@@ -1,18 +1,18 @@
 -- What a task waits for stays until that is done, and a value that is none stays none.
-use Rattle.std.proofs.Common.{◌≡◌, inl, inr, ℕ, Bool, true, false, true≢false, List, [], ◌∷◌, Option, Some}
+use Rattle.std.proofs.Common.{◌≡◌, inl, inr, ℕ, Bool, true, false, true≢false, List, [], ◌∷◌, Option, Some, None}
 use Rattle.std.proofs.Common.{refl, sym, ap, subst, ◌∙◌}
 use Rattle.std.specs.Prelude.{◌||◌, slice_get}
 use Rattle.std.specs.List.{list_any}
 use Rattle.arm_value.specs.Json.{Json}
 use Rattle.reading.specs.World.{reads_in}
 use Rattle.reading.specs.Knowledge as knowledge
-use Rattle.reading.specs.Knowledge.{Told, value, no_value, waits, told, blanked, Completes, Grows, IsFinal, Means}
-use Rattle.reading.specs.Knowledge.{IsToldStill}
+use Rattle.reading.specs.Knowledge.{Known, known, absent, missing, Told, value, no_value, waits, told, blanked}
+use Rattle.reading.specs.Knowledge.{Completes, Grows, Stays, IsThere, IsFinal, IsAwaited, Means, IsToldStill}
 use Rattle.reading.proofs.Completion.{told_means}
 use Rattle.reading.proofs.Growth.{told_still}
-use Rattle.deploy_cells.specs.Cells.{Cell}
+use Rattle.deploy_cells.specs.Cells.{Cell, offered, output}
 use Rattle.deploy_cells.specs.Guarded.{Reads}
-use Rattle.plan_cells.specs.Known.{Table}
+use Rattle.plan_cells.specs.Known.{Table, entry_of}
 use Rattle.plan_cells.specs.Meaning.{meaning}
 use Rattle.plan_cells.specs.Start.{start_world, at_point}
 use Rattle.plan_cells.specs.Tasks.{Task}
@@ -26,8 +26,9 @@ use Rattle.deploy_histories.specs.Readiness.{ready, readiness, needs_first, need
 use Rattle.deploy_histories.proofs.ReadinessLemmas.{ready_says, table_grows}
 use Rattle.history_laws.specs.Past.{StaysDone}
 use Rattle.history_replays.proofs.Later.{known_later}
-use Rattle.task_standings.specs.Standings.{WaitsFor, LacksValue, Needs, IsStuck}
-use Rattle.task_standings.proofs.Agreement.{joined, AreOne, grows_left, grows_right, one_known, more_completes}
+use Rattle.task_standings.specs.Standings.{WaitsFor, IsNone, Needs, IsStuck}
+use Rattle.task_standings.specs.Standings.{IsScopeSeen}
+use Rattle.task_standings.proofs.Agreement.{known_or, joined, AreOne, grows_left, grows_right, one_known, more_completes}
 use Rattle.task_standings.proofs.Agreement.{awaited_is_read}
 
 or_second : (a b : Bool) → b ≡ true → (a || b) ≡ true
@@ -82,10 +83,6 @@ module _ (x : Planned) (p : Progress) (s t : Table) (i : IsKnownThen x p s) (j :
       (any_known (is_given_by x.deployment (start_world x.known) giver) w.cell
       (reads_in (blanked t) w.awaiting.reading) read w.is_given))
 
-  still_none : (r : Reads (Option Json)) (z : Told Cell (Option Json)) → IsToldStill (joined s t) r z → z ≡ no_value
-      → told (joined s t) r ≡ no_value
-  still_none r z h e = subst (λ (z : Told Cell (Option Json)). IsToldStill (joined s t) r z) e h
-
   still_value : (r : Reads (Option Json)) (z : Told Cell (Option Json)) (o : Option Json)
       → IsToldStill (joined s t) r z → z ≡ value o → told (joined s t) r ≡ value o
   still_value r z o h e = subst (λ (z : Told Cell (Option Json)). IsToldStill (joined s t) r z) e h
@@ -93,13 +90,44 @@ module _ (x : Planned) (p : Progress) (s t : Table) (i : IsKnownThen x p s) (j :
   never_both : (z : Told Cell (Option Json)) (o : Option Json) → z ≡ no_value → z ≡ value o → ⊥
   never_both z o e f = let g = sym e ∙ f in cc
 
-  not_none : (task : Task) (l : LacksValue x s task) (o : Option Json) → told t l.lacking.reading ≡ value o → ⊥
-  not_none task l o e =
-      never_both (told (joined s t) l.lacking.reading) o
-      (still_none l.lacking.reading (told s l.lacking.reading)
-      (told_still Cell Json (Option Json) s (joined s t) (grows_left s t) l.lacking.reading) l.is_none)
-      (still_value l.lacking.reading (told t l.lacking.reading) o
-      (told_still Cell Json (Option Json) t (joined s t) (grows_right s t are_one) l.lacking.reading) e)
+  never_waits : (z : Told Cell (Option Json)) (o : Option Json) (c : Cell) → z ≡ waits c → z ≡ value o → ⊥
+  never_waits z o c e f = let g = sym e ∙ f in cc
+
+  entry_is : (c : Cell) (e : Known Json) → t c ≡ e → (e ≡ missing → ⊥) → (o : Option Json) × (t c ≡ entry_of o)
+  entry_is c (known v) f h = (Some v, f)
+  entry_is c absent f h = (None, f)
+  entry_is c missing f h = absurd (h refl)
+
+  missing_both : (e f : Known Json) → e ≡ missing → f ≡ missing → known_or e f ≡ missing
+  missing_both missing missing g h = refl
+  missing_both missing (known v) g h = absurd (cc)
+  missing_both missing absent g h = absurd (cc)
+  missing_both (known v) f g h = absurd (cc)
+  missing_both absent f g h = absurd (cc)
+
+  -- a reading that has a value by the one table waits by the other for nothing that the one has not
+  awaited_there : (r : Reads (Option Json)) (c : Cell) (o : Option Json) → s c ≡ missing → told s r ≡ waits c
+      → told t r ≡ value o → t c ≡ missing → ⊥
+  awaited_there r c o m e f g =
+      never_waits (told (joined s t) r) o c
+      (subst (λ (z : Told Cell (Option Json)). IsToldStill (joined s t) r z) e
+      (told_still Cell Json (Option Json) s (joined s t) (grows_left s t) r)
+      (missing_both (s c) (t c) m g))
+      (still_value r (told t r) o (told_still Cell Json (Option Json) t (joined s t) (grows_right s t are_one) r) f)
+
+  not_none : (r : Reads (Option Json)) (z : Told Cell (Option Json)) → told s r ≡ z → IsNone x p z → (o : Option Json)
+      → told t r ≡ value o → ⊥
+  not_none r (value u) e n o f = n
+  not_none r no_value e n o f =
+      never_both (told (joined s t) r) o
+      (subst (λ (z : Told Cell (Option Json)). IsToldStill (joined s t) r z) e
+      (told_still Cell Json (Option Json) s (joined s t) (grows_left s t) r))
+      (still_value r (told t r) o (told_still Cell Json (Option Json) t (joined s t) (grows_right s t are_one) r) f)
+  not_none r (waits c) e n o f =
+      let w : IsAwaited s r c
+      = subst (λ (z : Told Cell (Option Json)). Means s r z) e (told_means Cell Json (Option Json) s r) in
+      let k = entry_is c (t c) refl (awaited_there r c o w.is_missing e f) in
+      n p k.0 (λ v u i. i) (j c k.0 k.1)
 
 -- ---- a task that waits for another is not ready before that is done
 
@@ -127,7 +155,8 @@ pub stuck_is_not_ready : (x : Planned) (p : Progress) (t : Table) → IsKnownThe
 stuck_is_not_ready x p t j u task body h e =
     let r = ready_says x t p u task body e in
     let a = r.has_values h.lacks.lacking h.lacks.is_value in
-    not_none x p h.known t h.is_known j task h.lacks a.0 a.1
+    not_none x p h.known t h.is_known j h.lacks.lacking.reading (told h.known h.lacks.lacking.reading) refl
+    h.lacks.is_none a.0 a.1
 
 -- ---- later
 
@@ -137,10 +166,40 @@ needs_later x p q task giver more (inl n) = inl n
 needs_later x p q task giver more (inr h) =
     inr (record { known = h.known; is_known = known_later x p q h.known more h.is_known; waits_for = h.waits_for })
 
+none_later : (x : Planned) (p q : Progress) → StaysDone p.status q.status → (z : Told Cell (Option Json))
+    → IsNone x p z → IsNone x q z
+none_later x p q more (value u) n = n
+none_later x p q more no_value n = tt
+none_later x p q more (waits c) n = λ r o later k. n r o (λ v u i. later v u (more v u i)) k
+
 pub stuck_later : (x : Planned) (p q : Progress) (task : Task) → StaysDone p.status q.status → IsStuck x p task
     → IsStuck x q task
 stuck_later x p q task more h =
-    record { known = h.known; is_known = known_later x p q h.known more h.is_known; lacks = h.lacks }
+    record {
+      known = h.known;
+      is_known = known_later x p q h.known more h.is_known;
+      lacks = record {
+        lacking = h.lacks.lacking;
+        is_value = h.lacks.is_value;
+        is_none = none_later x p q more (told h.known h.lacks.lacking.reading) h.lacks.is_none;
+      };
+    }
+
+there_still : (e f : Known Json) → Stays e f → IsThere e → IsThere f
+there_still (known v) f s i = subst IsThere (sym s) tt
+there_still absent f s i = subst IsThere (sym s) tt
+there_still missing f s i = absurd i
+
+pub scopes_stay : (x : Planned) (s t : Table) → Grows s t → (u : ℕ) → IsScopeSeen x s u → IsScopeSeen x t u
+scopes_stay x s t g u h =
+    record {
+      entered = λ q e c i. there_still (s c) (t c) (g c) (h.entered q e c i);
+      left = λ q n r e f i.
+          let b = h.left q n r e f i in (
+            there_still (s (offered q n)) (t (offered q n)) (g (offered q n)) b.0,
+            there_still (s (output q n)) (t (output q n)) (g (output q n)) b.1,
+          );
+    }
 
 -- by all that is known a task needs what it waits for
 pub needed_by_all : (x : Planned) (p : Progress) (t : Table) → IsTableOf x p t → (task giver : Task)

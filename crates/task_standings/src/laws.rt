@@ -1,6 +1,7 @@
 // What holds of tasks that wait for others. A law has no body: its contract is the law.
 ghost use Rattle.std.specs.Prelude.{◌≡◌, ℕ, Some, true, slice_get};
 ghost use Rattle.arm_value.specs.Json.{Json};
+ghost use Rattle.reading.specs.Knowledge.{Grows};
 ghost use Rattle.plan_cells.specs.Known.{Table};
 ghost use Rattle.plan_cells.specs.Tasks.{Task};
 ghost use Rattle.deploy_histories.specs.Planned.{Planned};
@@ -8,7 +9,7 @@ ghost use Rattle.deploy_histories.specs.Events.{Progress, IsDone};
 ghost use Rattle.deploy_histories.specs.Points.{IsKnownThen, IsTableOf};
 ghost use Rattle.deploy_histories.specs.Readiness.{ready, readiness, needs_now};
 ghost use Rattle.history_laws.specs.Past.{StaysDone};
-ghost use Rattle.task_standings.specs.Standings.{Needs, IsStuck};
+ghost use Rattle.task_standings.specs.Standings.{Needs, IsStuck, IsScopeSeen};
 
 /// A task that needs another, or waits for it, is ready only where that is done, whatever is known.
 pub fn needs_come_first()
@@ -35,4 +36,9 @@ pub fn standings_last()
 pub fn needed_by_all()
     ensures { (x : Planned) (p : Progress) (t : Table) → IsTableOf x p t → (task giver : Task)
         → Needs x p task giver → needs_now x t task giver ≡ true }
+{}
+
+/// What a table has of a scope a larger table has.
+pub fn scopes_stay()
+    ensures { (x : Planned) (s t : Table) → Grows s t → (u : ℕ) → IsScopeSeen x s u → IsScopeSeen x t u }
 {}

@@ -8,16 +8,18 @@ use std::alloc::Global;
 /// What says how the tasks of a plan stand at each point of a deployment, by what it knows of it.
 ///
 /// What it knows is true at the point that it was asked at, and at each later one.
-pub trait Standings {
+pub trait Standings: Drop {
     ghost use Rattle.std.specs.Prelude.{◌≡◌, ◌<◌, ℕ, Some, length, IfOk, slice_get, option_map};
+    ghost use Rattle.reading.specs.Knowledge.{Grows};
     ghost use Rattle.plan_cells.specs.Known.{Table};
     ghost use Rattle.plan_cells.specs.Tasks.{Task};
     ghost use Rattle.deploy_histories.specs.Planned.{Planned};
     ghost use Rattle.deploy_histories.specs.Events.{is_waiting, progress, IsDone};
-    ghost use Rattle.deploy_histories.specs.Legal.{IsAct};
+    ghost use Rattle.deploy_histories.specs.Legal.{IsAct, IsLegal};
     ghost use Rattle.deploy_histories.specs.Outcome.{target_of};
     ghost use Rattle.point_values.specs.Seen.{IsSeen};
-    ghost use Rattle.task_standings.specs.Standings.{IsStanding, AreStartNeedsDone, kind_of, Leaves};
+    ghost use Rattle.task_standings.specs.Standings.{IsStanding, AreStartNeedsDone, kind_of, Enters, Leaves};
+    ghost use Rattle.task_standings.specs.Standings.{IsScopeSeen, AreScopesSeen};
 
     /// What is deployed.
     ghost planned: { Self → Planned };
@@ -25,46 +27,64 @@ pub trait Standings {
     /// What it knows.
     ghost known: { Self → Table };
 
+    /// What it keeps is as it has to be.
+    ghost sound: { Self → Type 0 };
+
     /// The outputs of the scope that this task leaves are noted, and are known once it is left.
     ghost noted: { Self → ℕ → Type 0 };
 
     /// The number of tasks.
     fn count(&self) -> u32
+        requires { sound self.now }
         ensures { result ≡ length (planned self.now).tasks };
 
     /// What the task does.
     fn kind(&self, task: u32) -> Kind
-        requires { task < length (planned self.now).tasks }
+        requires sound { sound self.now }
+        requires within { task < length (planned self.now).tasks }
         ensures { option_map kind_of (slice_get (planned self.now).tasks task) ≡ Some result };
 
     /// What the put or the deletion is for.
     fn aim(&self, alloc: Global, task: u32) -> Result<Aim, OutOfMemory>
-        requires { (t : Task) × ((slice_get (planned self.now).tasks task ≡ Some t) × IsAct t) }
+        requires sound { sound self.now }
+        requires act { (t : Task) × ((slice_get (planned self.now).tasks task ≡ Some t) × IsAct t) }
         ensures { IfOk result (λ a. target_of (planned self.now) task
             ≡ Some (record { act = a.act; id = a.id; api = a.api })) };
 
-    /// How the task stands after this history. It may look at the states that are stored in it.
+    /// How the task stands after this history. It may look at the states that are stored in it. What is known of the
+    /// scopes that were entered and left stays known.
     fn standing(
         &mut self,
         alloc: Global,
         history: &History,
         task: u32,
     ) -> Result<Standing, OutOfMemory>
+        requires sound { sound self.old }
         requires within { task < length (planned self.old).tasks }
+        requires legal { IsLegal (planned self.old) history.now.events }
         requires waits { (progress history.now.events).status task ≡ is_waiting }
         requires needs { AreStartNeedsDone (planned self.old) (progress history.now.events) task }
         requires seen { IsSeen (planned self.old) (progress history.now.events) (known self.old) }
+        requires scopes { AreScopesSeen (planned self.old) (progress history.now.events) (known self.old) }
+        ensures sound { sound self.new }
         ensures planned { planned self.new ≡ planned self.old }
         ensures seen { IsSeen (planned self.old) (progress history.now.events) (known self.new) }
+        ensures grows { Grows (known self.old) (known self.new) }
         ensures stands { IfOk result
             (IsStanding (planned self.old) (progress history.now.events) (known self.new) task) }
+        ensures entered { IfOk result (λ s. Enters (planned self.old) task s
+            → IsScopeSeen (planned self.old) (known self.new) task) }
         ensures noted { IfOk result (λ s. Leaves (planned self.old) task s → noted self.new task) };
 
     /// The scope that this task leaves was left.
     fn left(&mut self, history: &History, task: u32)
+        requires sound { sound self.old }
         requires noted { noted self.old task }
         requires done { IsDone (progress history.now.events) task }
         requires seen { IsSeen (planned self.old) (progress history.now.events) (known self.old) }
+        ensures sound { sound self.new }
         ensures planned { planned self.new ≡ planned self.old }
-        ensures seen { IsSeen (planned self.old) (progress history.now.events) (known self.new) };
+        ensures seen { IsSeen (planned self.old) (progress history.now.events) (known self.new) }
+        ensures grows { Grows (known self.old) (known self.new) }
+        ensures left { IsScopeSeen (planned self.old) (known self.new) task };
 }

@@ -63,10 +63,9 @@ module _ (file : SourceFile) (files : List SourceFile) (order : List ℕ) (paire
       × (known_condition p (whole file files) n fs ≡ (whole file files).condition n fs)
   heads_known sound all n fs r =
       let w = whole file files in
-      let h = has_heads file files sound (length file.symbols) n in
-      (
+      let h = has_heads file files sound (length file.symbols) n in (
         head_known n (p n) refl (every all n) (fill (nearest fs) (w.full_name n (holes ∷ []))) (w.full_name n fs)
-        (h.full_name fs r) (λ k. (nothing file files (length file.symbols) n k).full_name fs r),
+            (h.full_name fs r) (λ k. (nothing file files (length file.symbols) n k).full_name fs r),
         head_known n (p n) refl (every all n) (fill (nearest fs) (w.condition n (holes ∷ []))) (w.condition n fs)
-        (h.condition fs r) (λ k. (nothing file files (length file.symbols) n k).condition fs r),
+            (h.condition fs r) (λ k. (nothing file files (length file.symbols) n k).condition fs r),
       )

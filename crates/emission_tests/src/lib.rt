@@ -1,9 +1,10 @@
 //! Tests of what Bicep expressions become in templates, over public items.
 //!
 //! A table is one text with a row in each line: an expression, and after an arrow the template expression that it
-//! becomes. `sample` has what declarations become.
+//! becomes. `sample` has what declarations become there. `declarations` has examples of what they become in a template.
 #![tactic(auto)]
 
+pub mod declarations;
 #[cfg(test)]
 mod expressions;
 #[cfg(test)]

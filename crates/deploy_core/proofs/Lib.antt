@@ -2,4 +2,8 @@ pub mod Undone
 pub mod Edges
 pub mod Covering
 pub mod Pausing
+pub mod Agendas
 pub mod Stepping
+pub mod Happening
+pub mod LookLemmas
+pub mod WakeLemmas

@@ -65,7 +65,7 @@ undone_need g u h =
     let r = first_false (λ v. slice_index_or g.done v false) (needs_of g u) h in
     record { need = r.number; is_need = r.is_there; is_undone = r.is_false }
 
-done_other : (ds : List Bool) (u v : ℕ) → (v ≡ u → ⊥)
+pub done_other : (ds : List Bool) (u v : ℕ) → (v ≡ u → ⊥)
     → slice_index_or (slice_set ds u true) v false ≡ slice_index_or ds v false
 done_other [] u v e = refl
 done_other (d ∷ ds) zero zero e = absurd (e refl)

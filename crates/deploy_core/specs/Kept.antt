@@ -10,7 +10,7 @@ use Rattle.deploy_histories.specs.Events.{Event, Progress, progress, is_waiting,
 use Rattle.deploy_histories.specs.Legal.{IsLegal}
 use Rattle.deploy_histories.specs.Readiness.{needs_first}
 use Rattle.point_values.specs.Seen.{IsSeen}
-use Rattle.task_standings.specs.Standings.{Needs, IsStuck}
+use Rattle.task_standings.specs.Standings.{Needs, IsStuck, AreScopesSeen}
 use Rattle.task_agenda.specs.declared.agenda.Agenda.{Agenda}
 use Rattle.task_agenda.specs.Agendas.{count, is_scope, IsSeenTo}
 
@@ -61,9 +61,11 @@ module _ (x : Planned) (h : List Event) (a : Agenda) where
 pub record IsKept (x : Planned) (t : Table) (tasks : ℕ) (h : List Event) (a : Agenda) (seen : ℕ) : Type 0 where
   pub is_legal : IsLegal x h
   pub is_seen : IsSeen x (progress h) t
+  pub scopes : AreScopesSeen x (progress h) t
   pub tasks_are : tasks ≡ length x.tasks
   pub agenda_of : count a ≡ length x.tasks
   pub kinds_are : (u : ℕ) (task : Task) → slice_get x.tasks u ≡ Some task → is_scope a u ≡ enters_or_leaves task
+  pub sized : length a.graph.done ≡ length x.tasks
   pub done_are : (u : ℕ) → u < length x.tasks → graph.is_done a.graph u ≡ done_status ((progress h).status u)
   pub start_needs : (u v : ℕ) (task other : Task) → slice_get x.tasks u ≡ Some task → slice_get x.tasks v ≡ Some other
       → needs_first x task other ≡ true → graph.Needs a.graph u v
@@ -75,3 +77,9 @@ pub record IsKept (x : Planned) (t : Table) (tasks : ℕ) (h : List Event) (a : 
 pub record Concerns (h : List Event) (e : Event) (u : ℕ) : Type 0 where
   pub others : (v : ℕ) → (v ≡ u → ⊥) → (progress (h ++ e ∷ [])).status v ≡ (progress h).status v
   pub itself : (progress (h ++ e ∷ [])).status u ≡ is_waiting → waker e ≡ Some u
+
+-- the task is done by the event, and no other task changes
+pub record Does (h : List Event) (e : Event) (u : ℕ) : Type 0 where
+  pub others : (v : ℕ) → (v ≡ u → ⊥) → (progress (h ++ e ∷ [])).status v ≡ (progress h).status v
+  pub itself : done_status ((progress (h ++ e ∷ [])).status u) ≡ true
+  pub wakes : waker e ≡ Some u

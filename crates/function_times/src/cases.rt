@@ -31,7 +31,7 @@ const ONE: Shape = Text("a", "", "");
 const NONE: Shape = Text("none", "", "");
 
 /// All that is timed.
-pub static CASES: [Case; 50] = [
+pub static CASES: [Case; 51] = [
     ("toLower", "n capitals", &[Text("", "A", "")], LONG),
     ("toUpper", "n letters", &[A], LONG),
     ("trim", "n blanks and a letter", &[Text("", " ", "a")], LONG),
@@ -138,6 +138,21 @@ pub static CASES: [Case; 50] = [
             Numbers(7),
         ],
         EACH,
+    ),
+    (
+        "union",
+        "eight ranges of n numbers",
+        &[
+            Numbers(0),
+            Numbers(1),
+            Numbers(2),
+            Numbers(3),
+            Numbers(4),
+            Numbers(5),
+            Numbers(6),
+            Numbers(7),
+        ],
+        FEW,
     ),
     (
         "union",

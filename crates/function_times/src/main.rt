@@ -26,8 +26,8 @@ const MOST_TURNS: u32 = 101;
 const SECONDS: u64 = 4;
 
 // How often this line is in a text that is built before each call, so that the processor's caches have little of the
-// arguments.
-const COLD: u64 = 125_000;
+// arguments: 64 MB, more than they hold.
+const COLD: u64 = 1_000_000;
 
 const LINE: &str = "cccccccccccccccccccccccccccccccccccccccccccccccccccccccccccccccc";
 
@@ -59,24 +59,21 @@ fn has_value(alloc: Global, name: &str, args: &[Value]) -> bool {
     }
 }
 
-// The microseconds of one call of the function at size n, and whether it gave a value.
-fn micros<R: Clock + Alloc<A = Global>>(rt: &R, case: &Case, n: u64) -> io::Result<(u64, bool)> {
+// The nanoseconds of one call of the function at size n, and whether it gave a value.
+fn nanos<R: Clock + Alloc<A = Global>>(rt: &R, case: &Case, n: u64) -> io::Result<(u64, bool)> {
     let args = arguments_of(rt.alloc(), case.2, n)?;
     let _cold = argument(rt.alloc(), Shape::Text("", LINE, ""), COLD)?;
     let start = Instant::now(rt)?;
     let found = has_value(rt.alloc(), case.0, args.as_slice());
     let elapsed = start.elapsed(rt)?;
-    Ok((
-        u64::try_from(elapsed.as_micros()).unwrap_or(u64::MAX),
-        found,
-    ))
+    Ok((u64::try_from(elapsed.as_nanos()).unwrap_or(u64::MAX), found))
 }
 
 fn none_said(found: bool) -> &'static str {
     if found { "" } else { " no value" }
 }
 
-// The least microseconds of some calls of the function at size n and of as many at 2n, by turns, and whether all of
+// The least nanoseconds of some calls of the function at size n and of as many at 2n, by turns, and whether all of
 // them gave a value.
 fn least<R: Clock + Alloc<A = Global>>(rt: &R, case: &Case) -> io::Result<(u64, u64, bool)> {
     let mut once = u64::MAX;
@@ -87,8 +84,8 @@ fn least<R: Clock + Alloc<A = Global>>(rt: &R, case: &Case) -> io::Result<(u64, 
         if turn >= LEAST_TURNS && start.elapsed(rt)?.as_secs() >= SECONDS {
             break;
         }
-        let (smaller, is_found) = micros(rt, case, case.3)?;
-        let (larger, is_larger_found) = micros(rt, case, case.3.saturating_mul(2))?;
+        let (smaller, is_found) = nanos(rt, case, case.3)?;
+        let (larger, is_larger_found) = nanos(rt, case, case.3.saturating_mul(2))?;
         once = once.min(smaller);
         twice = twice.min(larger);
         found = found && is_found && is_larger_found;
@@ -101,7 +98,7 @@ fn measure<R: Clock + Print + Alloc<A = Global>>(rt: &R, case: &Case) -> io::Res
     let (once, twice, found) = least(rt, case)?;
     let percent = twice.saturating_mul(100) / once.max(1);
     let none = none_said(found);
-    println!(rt; "{name}, {words}: n {n} in {once} us, 2n in {twice} us, {percent} percent{none}")
+    println!(rt; "{name}, {words}: n {n} in {once} ns, 2n in {twice} ns, {percent} percent{none}")
 }
 
 fn list<R: Print>(rt: &R, case: &Case) -> io::Result<()> {

@@ -1,0 +1,124 @@
+// A parameter or a variable is told once, and its value is kept.
+ghost use Rattle.std.specs.Prelude.{◌≡◌, ◌<◌, length, true, false, IfOk, Some};
+ghost use Rattle.arm_value.specs.View.{json};
+ghost use Rattle.reading.specs.Knowledge.{value};
+ghost use Rattle.plan_table.specs.Lines.{line_at};
+ghost use Rattle.plan_sight.specs.Ready.{IsReady};
+ghost use Rattle.plan_telling.specs.Symbols.{IsComplete};
+ghost use Rattle.point_rows.specs.Rows.{entry_at, IsFit, IsEntrySpot};
+ghost use Rattle.point_knowledge.specs.Steps.{AddsValue};
+ghost use Rattle.scope_entries.specs.Entries.{line_cell, plain_now, has_value, is_own_spot, AreTold, Goes, IsOwnLine};
+ghost use Rattle.scope_entries.specs.Entries.{IsAnswerNow, IsSettled, IsTurn};
+
+use crate::answer::entry_told;
+use crate::settling::Settling;
+use arm_value::{OutOfMemory, Value};
+use plan_filling::sheet::Answer;
+use plan_table::line::Spot;
+use plan_table::table::Table;
+use plan_telling::register::Register;
+use point_rows::later::{Entry, Later};
+use std::alloc::Global;
+
+/// What telling a line once comes to.
+#[derive(Drop)]
+pub enum Turn {
+    /// Its value is kept.
+    Kept,
+    /// It waits for another line of its scope.
+    Waiting,
+    /// The scope is not settled.
+    Stopped(Settling),
+}
+
+// Whether the line is that of a parameter or a variable of the scope.
+fn is_own(table: &Table, frame: usize, at: usize) -> bool
+    requires { at < length table.now.lines.items }
+    ensures { result ≡ is_own_spot frame (line_at table.now.lines.items at).spot }
+{
+    match table.lines[at].spot {
+        Spot::Parameter(of, _) => of == frame,
+        Spot::Variable(of, _) => of == frame,
+        _ => false,
+    }
+}
+
+// Whether the entry of the line has a value.
+fn is_kept(later: &Later, at: usize) -> bool
+    requires { at < length later.now.entries.items }
+    ensures { result ≡ has_value (entry_at later.now.entries.items at) }
+{
+    match &later.entries[at] {
+        Entry::Value(_) => true,
+        Entry::Missing => false,
+        Entry::Away => false,
+    }
+}
+
+// Keeps the value of a line.
+fn keep(later: &mut Later, at: usize, value: Value)
+    requires { at < length later.old.entries.items }
+    ensures { AddsValue at value later.old later.new }
+{
+    later.entries[at] = Entry::Value(value);
+}
+
+// What it comes to that the line waits for the other.
+fn waiting(table: &Table, frame: usize, other: usize) -> Turn
+    requires { other < length table.now.lines.items }
+    ensures own { is_own_spot frame (line_at table.now.lines.items other).spot ≡ true → result ≡ Turn.Waiting }
+    ensures other { is_own_spot frame (line_at table.now.lines.items other).spot ≡ false
+        → result ≡ Turn.Stopped (Settling.Line other) }
+{
+    if is_own(table, frame, other) {
+        Turn::Waiting
+    } else {
+        Turn::Stopped(Settling::Line(other))
+    }
+}
+
+// Keeps the value that a line was told to have, or returns why it has none yet.
+fn keep_answer(table: &Table, later: &mut Later, frame: usize, at: usize, answer: Answer) -> Turn
+    requires ready { IsReady table.now }
+    requires fit { IsFit table.now later.old }
+    requires told { AreTold table.now later.old }
+    requires there { frame < length table.now.frames.items }
+    requires own { IsOwnLine table.now frame at }
+    requires vacant { has_value (entry_at later.old.entries.items at) ≡ false }
+    requires answer { IsAnswerNow table.now later.old (line_cell table.now at) answer }
+    ensures goes { Goes table.now later.old later.new }
+    ensures turned { IsTurn table.now later.old later.new frame at result }
+{
+    match answer {
+        Answer::Value(value) => {
+            keep(later, at, value);
+            Turn::Kept
+        }
+        Answer::Empty => Turn::Stopped(Settling::Nothing(at)),
+        Answer::State(key) => Turn::Stopped(Settling::State(key)),
+        Answer::Waits(other) => waiting(table, frame, other),
+    }
+}
+
+/// Tells the parameter or variable of a line, if it has no entry, and keeps its value.
+pub fn tell_line(
+    alloc: Global,
+    register: &Register,
+    later: &mut Later,
+    frame: usize,
+    at: usize,
+) -> Result<Turn, OutOfMemory>
+    requires complete { IsComplete register.now }
+    requires fit { IsFit register.now.table later.old }
+    requires told { AreTold register.now.table later.old }
+    requires there { frame < length register.now.table.frames.items }
+    requires own { IsOwnLine register.now.table frame at }
+    ensures goes { Goes register.now.table later.old later.new }
+    ensures turned { IfOk result (IsTurn register.now.table later.old later.new frame at) }
+{
+    if is_kept(later, at) {
+        return Ok(Turn::Kept);
+    }
+    let answer = entry_told(alloc, register, later, at)?;
+    Ok(keep_answer(&register.table, later, frame, at, answer))
+}

@@ -1,0 +1,5 @@
+mod GivenLemmas
+mod LeaveLemmas
+pub mod KeepLemmas
+mod TellLemmas
+mod OfferLemmas

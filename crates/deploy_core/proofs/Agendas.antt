@@ -27,7 +27,7 @@ use Rattle.deploy_core.proofs.Edges.{undone_there, edge_to, edge_from, edge_hold
 one_event : (e f : Event) → Some e ≡ Some f → e ≡ f
 one_event e f i = cc
 
-later_than : (s p : ℕ) → s ≤ p → (p ≡ s → ⊥) → s + 1 ≤ p
+pub later_than : (s p : ℕ) → s ≤ p → (p ≡ s → ⊥) → s + 1 ≤ p
 later_than zero zero g n = absurd (n refl)
 later_than zero (suc p) g n = omega arith
 later_than (suc s) zero g n = absurd (omega (arith, g))

@@ -7,3 +7,5 @@ pub mod Stepping
 pub mod Happening
 pub mod LookLemmas
 pub mod WakeLemmas
+pub mod PassLemmas
+pub mod DealLemmas

@@ -1,11 +1,12 @@
 -- What a board does when it is asked for a job.
-use Rattle.std.specs.Prelude.{◌≡◌, ℕ, List, [], ◌∷◌, ◌++◌, Some}
+use Rattle.std.specs.Prelude.{◌≡◌, ℕ, List, [], ◌∷◌, ◌++◌, Some, Result, Ok, Err}
+use Rattle.std.specs.declared.alloc.AllocError.{AllocError}
 use Rattle.arm_value.specs.Json.{Json}
 use Rattle.provider_trait.specs.Work.{Work, work_for}
 use Rattle.dealer_trait.specs.declared.next.Next.{Next}
 use Rattle.dealer_trait.specs.declared.next.Next.TheVariants.{Begun, Wait, End}
 use Rattle.deploy_histories.specs.Planned.{Planned}
-use Rattle.deploy_histories.specs.Events.{Event, enter, begin, leave, Progress, progress, IsBegun}
+use Rattle.deploy_histories.specs.Events.{Event, enter, begin, leave, Progress, progress, IsBegun, NoneBegun}
 use Rattle.deploy_histories.specs.Legal.{May, HasEnded}
 use Rattle.deploy_histories.specs.Outcome.{Target, target_of}
 
@@ -25,10 +26,19 @@ pub record HasPassed (old new : List Event) : Type 0 where
   pub of_scopes : OfScopes events
   pub are : new ≡ old ++ events
 
+-- one scope was entered or left; after an error nothing happened
+abbrev pub HasPassedOne : List Event → List Event → Result (Unit {0}) AllocError → Type 0
+HasPassedOne old new (Ok done) = (e : Event) × (OfScope e × (new ≡ old ++ e ∷ []))
+HasPassedOne old new (Err f) = new ≡ old
+
 -- the job of the task with this body, which is given to this worker
 abbrev pub job_of : Target → ℕ → ℕ → Json → Work
 job_of t u worker body =
     work_for t.act (record { api = t.api; body = body; id = t.id; task = u; worker = worker })
+
+-- the job of a task: that of its target
+abbrev pub IsJobOf : Planned → ℕ → ℕ → Json → Work → Type 0
+IsJobOf x u worker body job = (aim : Target) × ((target_of x u ≡ Some aim) × (job ≡ job_of aim u worker body))
 
 -- no Begin may come
 abbrev pub NoneMayBegin : Planned → Progress → Type 0
@@ -50,3 +60,15 @@ IsNext x old worker (Begun job) new = IsBegunAs x old worker job new
 IsNext x old worker Wait new =
     HasPassed old new × (((u : ℕ) × IsBegun (progress new) u) × NoneMayBegin x (progress new))
 IsNext x old worker End new = HasPassed old new × HasEnded x (progress new)
+
+-- the task is begun by the worker with this body, and its job is given
+abbrev pub IsStarted : Planned → List Event → ℕ → ℕ → Json → Next → List Event → Type 0
+IsStarted x old u worker body (Begun job) new = IsJobOf x u worker body job × (new ≡ old ++ begin u worker body ∷ [])
+IsStarted x old u worker body Wait new = ⊥
+IsStarted x old u worker body End new = ⊥
+
+-- no job: a Begin is open, or none is
+abbrev pub IsPause : Progress → Next → Type 0
+IsPause p (Begun job) = ⊥
+IsPause p Wait = (u : ℕ) × IsBegun p u
+IsPause p End = NoneBegun p

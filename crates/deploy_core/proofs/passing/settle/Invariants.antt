@@ -1,0 +1,21 @@
+use Rattle.std.proofs.Common.{◌≡◌, ℕ, None, length}
+use Rattle.deploy_histories.specs.Events.{progress}
+use Rattle.deploy_core.specs.Boards.{HasPassed}
+use Rattle.deploy_core.specs.Kept.{IsKept}
+use Rattle.deploy_core.specs.Passes.{undone_in}
+use Rattle.deploy_core.proofs.passing.settle.Given as goal
+
+abbrev pub invariant-scopes : goal.invariant-scopes
+invariant-scopes g l = record {
+  sound : g.S.Standings.sound l.standings;
+  planned : g.S.Standings.planned l.standings ≡ g.S.Standings.planned l.fn.standings;
+  kept : IsKept (g.S.Standings.planned l.fn.standings) (g.S.Standings.known l.standings) l.history.count
+      l.history.events l.agenda l.seen;
+  unrefused : (progress l.history.events).refusal ≡ None;
+  passed : HasPassed l.fn.history.events l.history.events;
+  caught : l.seen ≡ length l.history.events;
+}
+
+abbrev pub decreases-scopes : goal.decreases-scopes
+decreases-scopes g l =
+    undone_in (length (g.S.Standings.planned l.fn.standings).tasks) (progress l.history.events).status

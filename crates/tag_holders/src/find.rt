@@ -6,18 +6,14 @@ ghost use Rattle.tag_holders.specs.Holders.{classes_in, AreKept, AreHolders, fou
 use crate::holders::{Found, Holders, joined};
 
 // Who has the tag.
-fn find_one<'a>(holders: &Holders<'a>, tag: &'a [usize]) -> Option<Found>
+fn find_one(holders: &Holders, tag: &[usize]) -> Option<Found>
     ensures { result ≡ found_at holders.now tag.now }
 {
-    holders.get(&tag).copied()
+    holders.get(tag).copied()
 }
 
 /// Who has one of the tags for which is asked: nobody, things of one class, or two of different classes.
-pub fn find_holders<'a>(
-    holders: &Holders<'a>,
-    classes: &[Vec<usize>],
-    asks: &'a [Vec<usize>],
-) -> Option<Found>
+pub fn find_holders(holders: &Holders, classes: &[Vec<usize>], asks: &[Vec<usize>]) -> Option<Found>
     ensures { (tags : List (List Tag)) → AreKept holders.now tags (classes_in classes.now)
         → AreHolders tags (classes_in classes.now) (map (λ t. t.items) asks.now) result }
 {

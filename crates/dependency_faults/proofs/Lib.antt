@@ -1,0 +1,5 @@
+mod LineLemmas
+mod NameLemmas
+mod HolderLemmas
+mod FaultLemmas
+mod CheckLemmas

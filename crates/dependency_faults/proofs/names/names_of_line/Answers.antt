@@ -1,0 +1,12 @@
+use Rattle.std.proofs.Common.{ap, ◌∙◌}
+use Rattle.plan_table.specs.declared.line.Line.{Line}
+use Rattle.plan_tasks.proofs.TableLemmas.{line_is}
+use Rattle.dependency_faults.proofs.LineLemmas.{name_instance}
+use Rattle.dependency_faults.proofs.names.names_of_line.Goals as goal
+
+pub names_of-requires-clause-instance : goal.names_of-requires-clause-instance
+names_of-requires-clause-instance c =
+    name_instance c.args.table.now c.requires.table c.args.at c.in-Name.frame c.in-Name.resource c.in-Name.copy
+    c.requires.listed
+    (ap (λ (l : Line). l.spot) (line_is c.args.table.now.lines.items c.args.at c.index.result.now c.requires.listed
+    c.index.ensures) ∙ c.in-Name.is)

@@ -24,5 +24,5 @@ mod token;
 pub use brackets::{Meaning, escaped, is_bracketed, meaning_of};
 pub use expr::{Expr, Exprs};
 pub use fault::ExprFault;
-pub use printer::print;
+pub use printer::{print, text_in_brackets};
 pub use reader::read;

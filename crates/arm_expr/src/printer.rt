@@ -140,9 +140,15 @@ fn put_arguments(out: &mut String, arguments: &[Expr]) -> Result<(), OutOfMemory
     put(out, ')')
 }
 
-// The text of an expression, however long or deep.
+/// The text of an expression in brackets, as `print` writes it, however long the text and however deep the expression.
+///
+/// It refuses nothing. So it is for an expression whose length and depth are known; `print` is for any other.
+///
+/// # Errors
+///
+/// `OutOfMemory`.
 #[tactic(auto, using(crate::proofs::PrintLemmas::print_views))]
-fn text_in_brackets(alloc: Global, e: &Expr) -> Result<Text, OutOfMemory>
+pub fn text_in_brackets(alloc: Global, e: &Expr) -> Result<Text, OutOfMemory>
     ensures text { IfOk result (λ t. t ≡ printed (tree_of e.now)) }
     ensures ints { OnOk result (HasInts (tree_of e.now)) }
 {

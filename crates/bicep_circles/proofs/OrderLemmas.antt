@@ -3,10 +3,11 @@ use Rattle.std.proofs.Common.{◌≡◌, ◌+◌, ◌⊎◌, inl, inr, ℕ, true
 use Rattle.std.proofs.Common.{◌∷◌, length, refl, sym, subst, ◌∙◌, arith}
 use Rattle.std.specs.Prelude.{Result, Ok, Err, IfOk}
 use Rattle.depend_graph.specs.Shape.{Shape, is_done}
-use Rattle.depend_graph.specs.Orders.{IsOrder, IsSorted, IsAmong}
+use Rattle.depend_graph.specs.Orders.{IsOrder, IsSorted, IsAmong, marked}
 use Rattle.depend_graph.specs.declared.order.Sorted.{Sorted}
 use Rattle.depend_graph.specs.declared.order.Sorted.TheVariants as sorted
 use Rattle.depend_graph.proofs.Keeping.{length-replicate}
+use Rattle.depend_graph.proofs.Walking.{none_marked}
 use Rattle.bicep_program.specs.Graphs.{with_needs, with_links, unlinked}
 use Rattle.bicep_program.proofs.FileLemmas.{length-map}
 use Rattle.bicep_program.proofs.GraphLemmas.{graph_of_lists, size_needs, circle_from}
@@ -32,7 +33,7 @@ among lists order count u (inr p) = p
 order_is : (lists : List (List ℕ)) (order : List ℕ) → IsOrder (graph_of_lists (all_below lists)) order
     → IsLinkOrder lists order
 order_is lists order o = record {
-  few = omega (arith, size, o.few);
+  counted = omega (arith, size, o.counted, unmarked);
   nodes = λ i h. let node = o.nodes i h in omega (arith, size, node);
   in_turn = λ i m h c w.
       among (all_below lists) order i m
@@ -42,6 +43,9 @@ order_is lists order o = record {
   where
     size : length (graph_of_lists (all_below lists)).needs ≡ length lists
     size = size_of_graph (all_below lists) ∙ length-map (below (length lists)) lists
+
+    unmarked : marked (graph_of_lists (all_below lists)).done ≡ 0
+    unmarked = none_marked 0 (graph_of_lists (all_below lists)).done (none_done (all_below lists))
 
 sorted_is : (lists : List (List ℕ)) (s : Sorted) → IsSorted (graph_of_lists (all_below lists)) s → AreSorted lists s
 sorted_is lists (sorted.Order xs) h = order_is lists xs.items h

@@ -31,7 +31,7 @@ ranks xs ds order o = record { falls = link_falls (links xs ds) order o; few = f
     few n here =
         let within = place_within (links xs ds) order o n here in
         let all = links_few xs ds in
-        let count = o.few in
+        let count = o.counted in
         omega (arith, within, all, count)
 
 -- the declarations say of each symbol what is known of it, and what it mentions

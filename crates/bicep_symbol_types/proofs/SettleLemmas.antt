@@ -118,7 +118,7 @@ module _ (os : List (List ValueType)) (ks : List Kind) (ds : List DeclaredTree) 
         let size = length-links ks ds many in
         let among = o.all n (omega (arith, h, size)) in
         let within = among.1 in
-        let few = o.few in
+        let few = o.counted in
         subst (AgreeAt (Y (length ds)) (Z (length ds))) among.2
         (run (length ds) among.0 (omega (arith, within, few, size)) within)
 

@@ -6,8 +6,8 @@ use Rattle.std.proofs.lemmas.Bool.{cases_eq}
 use Rattle.std.proofs.lemmas.List.{get_or-set_other}
 use Rattle.std.proofs.lemmas.Grind.{common_steps}
 use Rattle.depend_graph.specs.Shape.{Shape, needs_of, is_done, Needs}
-use Rattle.depend_graph.specs.Orders.{IsAmong}
-use Rattle.depend_graph.specs.Circles.{HasCome, InOrder, marked}
+use Rattle.depend_graph.specs.Orders.{IsAmong, marked}
+use Rattle.depend_graph.specs.Circles.{HasCome, InOrder}
 use Rattle.depend_graph.proofs.Peeling.{empty_all_done}
 use Rattle.depend_graph.proofs.Walking.{marked-set}
 

@@ -2,7 +2,7 @@
 use Rattle.std.specs.Prelude.{◌≡◌, ◌≢◌, ◌<◌, ◌≤◌, ◌+◌, ◌==◌, ◌&&◌, ◌⊎◌, ℕ, Bool, true, false, not, List, [], ◌∷◌}
 use Rattle.std.specs.Prelude.{length, slice_index_or, if◌then◌else◌}
 use Rattle.depend_graph.specs.Shape.{Shape, times, undone, is_done, IsCircle, Chain}
-use Rattle.depend_graph.specs.Orders.{IsAmong, AreInTurn, AreNodes}
+use Rattle.depend_graph.specs.Orders.{IsAmong, AreInTurn, AreNodes, marked}
 
 -- whether a node is undone and has no undone need
 abbrev pub can_start : List Bool → List ℕ → ℕ → Bool
@@ -12,11 +12,6 @@ can_start done unmet node = not (slice_index_or done node false) && (slice_index
 abbrev pub IsBlocked : List (List ℕ) → List Bool → Type 0
 IsBlocked needs done = (u : ℕ) → u < length needs → slice_index_or done u false ≡ false
     → undone done (slice_index_or needs u []) ≢ []
-
--- how many are marked
-abbrev pub marked : List Bool → ℕ
-marked [] = 0
-marked (b ∷ bs) = (if b then 1 else 0) + marked bs
 
 -- each circle of the graph is one still where these are done
 abbrev pub KeepsCircles : Shape → List Bool → Type 0

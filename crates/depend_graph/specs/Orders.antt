@@ -1,6 +1,7 @@
 -- Orders in which the nodes of a graph may be done.
-use Rattle.std.specs.Prelude.{◌≡◌, ◌<◌, ◌≤◌, ◌⊎◌, ℕ, true, List, length, slice_index, slice_index_or, All}
-use Rattle.depend_graph.specs.Shape.{Shape, is_done, Needs, IsCircle}
+use Rattle.std.specs.Prelude.{◌≡◌, ◌<◌, ◌≤◌, ◌⊎◌, ◌+◌, ◌∷◌, ℕ, Bool, true, List, [], length, slice_index, slice_index_or, All}
+use Rattle.std.specs.Prelude.{if◌then◌else◌}
+use Rattle.depend_graph.specs.Shape.{Shape, is_done, Needs, IsCircle, times}
 use Rattle.depend_graph.specs.declared.order.Sorted.{Sorted}
 use Rattle.depend_graph.specs.declared.order.Sorted.TheVariants as sorted
 
@@ -16,14 +17,21 @@ AreInTurn g order = (i need : ℕ) → i < length order → Needs g (slice_index
 abbrev pub AreNodes : Shape → List ℕ → Type 0
 AreNodes g order = (i : ℕ) → i < length order → slice_index_or order i 0 < length g.needs
 
--- an order: every undone node, each after the undone nodes that it needs, and no more than there are nodes
+-- how many are marked
+abbrev pub marked : List Bool → ℕ
+marked [] = 0
+marked (b ∷ bs) = (if b then 1 else 0) + marked bs
+
+-- an order: every undone node, each after the undone nodes that it needs; as many as are undone, so each of them once
+-- and no other
 pub record IsOrder (g : Shape) (order : List ℕ) : Type 0 where
-  pub few : length order ≤ length g.needs
+  pub counted : length order + marked g.done ≡ length g.needs
   pub nodes : AreNodes g order
   pub in_turn : AreInTurn g order
   pub all : (u : ℕ) → u < length g.needs → (is_done g u ≡ true) ⊎ IsAmong order (length order) u
 
--- an order, or a circle that begins with its least node
+-- an order, or a circle that begins with its least node and has no node twice
 abbrev pub IsSorted : Shape → Sorted → Type 0
 IsSorted g (sorted.Order xs) = IsOrder g xs.items
-IsSorted g (sorted.Circle xs) = IsCircle g xs.items × All (λ v. slice_index xs.items 0 ≤ v) xs.items
+IsSorted g (sorted.Circle xs) =
+    IsCircle g xs.items × All (λ v. slice_index xs.items 0 ≤ v) xs.items × ((u : ℕ) → times xs.items u ≤ 1)

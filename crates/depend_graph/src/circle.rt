@@ -2,7 +2,7 @@
 ghost use Rattle.std.specs.Prelude.{◌≡◌, ◌≢◌, ◌<◌, ◌≤◌, ◌++◌, ◌∷◌, ◌^◌, ℕ, List, [], length, false, true, filter};
 ghost use Rattle.std.specs.Prelude.{slice_index_or, slice_index, All, IfOk, IfSome, IfNone, OnOk, if◌then◌else◌};
 ghost use Rattle.depend_graph.specs.Shape.{Shape, times, undone, needs_of, is_done, IsCircle};
-ghost use Rattle.depend_graph.specs.Circles.{can_start, IsBlocked, KeepsCircles, marked, InOrder};
+ghost use Rattle.depend_graph.specs.Circles.{can_start, IsBlocked, KeepsCircles, InOrder};
 ghost use Rattle.depend_graph.specs.Orders.{IsOrder};
 
 use crate::graph::Graph;

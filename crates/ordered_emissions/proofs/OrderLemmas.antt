@@ -147,7 +147,7 @@ module _ (file : SourceFile) (paired : IsPaired file) where
             → SameEmission (whole file files) (next file files (whole file files)) n
         by (inl here) =
             let within = place_within lists order o n here in
-            let few = o.few in
+            let few = o.counted in
             let all = count in
             stays (length file.symbols) n here (omega (arith, within, few, all))
         by (inr far) = nothing_stays file files (length file.symbols) (suc (length file.symbols)) n (beyond n far)

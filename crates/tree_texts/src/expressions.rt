@@ -4,9 +4,8 @@ ghost use Rattle.arm_expr.specs.Print.{printed};
 ghost use Rattle.arm_expr.specs.Tree.{Tree};
 ghost use Rattle.emitted_parts.specs.Built.{Is, IsText};
 
-use crate::printing::expression_text;
 use crate::turns::{copy_index, followed, run};
-use arm_expr::Expr;
+use arm_expr::{Expr, text_in_brackets};
 use arm_value::{OutOfMemory, Text};
 use bicep_resolved::Source;
 use emitted_expressions::{Declarations, Turn, emitted};
@@ -27,7 +26,7 @@ fn printed_text(alloc: Global, made: Result<Expr, OutOfMemory>) -> Result<Text, 
     ensures { (t : Tree) → Is t made → IsText (printed t) result }
 {
     match made {
-        Ok(e) => letting_go(expression_text(alloc, &e), e),
+        Ok(e) => letting_go(text_in_brackets(alloc, &e), e),
         Err(error) => Err(error),
     }
 }

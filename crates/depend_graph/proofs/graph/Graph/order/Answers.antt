@@ -1,6 +1,6 @@
 use Rattle.std.proofs.Common.{length, ap, arith}
 use Rattle.depend_graph.specs.Shape.{Shape}
-use Rattle.depend_graph.proofs.Walking.{marked-le}
+use Rattle.depend_graph.proofs.Walking.{all_marked}
 use Rattle.depend_graph.proofs.graph.Graph.order.Goals as goal
 
 pub first_left-requires : goal.first_left-requires
@@ -17,12 +17,12 @@ pub returns : goal.returns
 returns c =
     let all = rw c.deref.ensures.value at c.in-None.ensures.none in
     record {
-      few =
+      counted =
           omega (
             arith,
             c.in_ok-done.ensures.size,
             c.in_ok-done.ensures.order.counted,
-            marked-le c.in_ok-done.done.items,
+            all_marked c.in_ok-done.done.items all,
           );
       nodes = c.in_ok-done.ensures.order.nodes;
       in_turn = c.in_ok-done.ensures.order.in_turn;

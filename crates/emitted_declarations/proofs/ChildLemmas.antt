@@ -1,16 +1,19 @@
 -- The id of a child is that of its parent with one segment more.
 use Rattle.std.proofs.Common.{◌≡◌, ◌<◌, ℕ, suc, length, List, [], ◌∷◌, ◌++◌, Option, Some, None, Bool, true}
 use Rattle.std.proofs.Common.{false}
-use Rattle.std.proofs.Common.{length-append, refl, sym, ap, ◌∙◌, subst, arith, ◌||◌, ◌&&◌, not}
+use Rattle.std.proofs.Common.{length-append, map, ◌+◌, refl, sym, ap, ◌∙◌, arith, ◌||◌, ◌&&◌, not}
+use Rattle.std.proofs.lemmas.List.{length-map}
 use Rattle.std.proofs.lemmas.Bool.Decides.{nat_tests}
 use Rattle.std.specs.Prelude.{◌==◌, nat_lt, option_map, option_and_then, if◌then◌else◌}
 use Rattle.std.specs.List.{list_any}
 use Rattle.foundation.proofs.TruthValues.{both, and_true, both_ways, or_left, or_right, nor, of_not}
 use Rattle.arm_value.specs.Json.{Json, null, bool, int, text, array, object}
+use Rattle.arm_value.specs.Look.{fold}
 use Rattle.arm_ids.specs.Id.{is_whole, has_empty_segment}
 use Rattle.arm_ids.specs.Segments.{segments, is_empty, has_slash}
 use Rattle.arm_ids.specs.declared.id.Place.{Place}
 use Rattle.arm_ids.specs.declared.id.ResourceId.{ResourceId}
+use Rattle.arm_ids.proofs.SegmentLemmas.{any_empty-fold}
 use Rattle.function_texts.specs.Cuts.{texts_in}
 use Rattle.function_numbers.specs.Kinds.{text_of}
 use Rattle.bicep_meaning.specs.Declared.{id_after, id_with}
@@ -90,6 +93,22 @@ is_whole_of place kind ns w =
     (equal_lengths (length (segments kind)) (suc (length ns)) w.paired) (is_positive (length ns) w.some))
 
 module _ (place : Place) (kind upper : List ℕ) (c : IsChildType kind upper) where
+  -- a child has one segment more than its parent, none of which is empty where none of its own is
+  longer : length (segments kind) ≡ suc (length (segments upper))
+  longer =
+      sym (length-map (segments kind) fold) ∙ ap length c.is ∙ length-append (map fold (segments upper)) (c.last ∷ [])
+      ∙ one_more (length-map (segments upper) fold)
+    where
+      one_more : length (map fold (segments upper)) ≡ length (segments upper)
+          → length (map fold (segments upper)) + 1 ≡ suc (length (segments upper))
+      one_more e = omega (arith, e)
+
+  upper_filled : list_any is_empty (segments kind) ≡ false → list_any is_empty (segments upper) ≡ false
+  upper_filled e =
+      sym (any_empty-fold (segments upper))
+      ∙ any_front is_empty (map fold (segments upper)) (c.last ∷ [])
+      (sym (ap (list_any is_empty) c.is) ∙ any_empty-fold (segments kind) ∙ e)
+
   -- a child that is made has a parent that is made
   parent_made : (ns : List (List ℕ)) (n : List ℕ) → is_made place kind (ns ++ n ∷ []) ≡ true
       → is_made place upper ns ≡ true
@@ -100,22 +119,21 @@ module _ (place : Place) (kind upper : List ℕ) (c : IsChildType kind upper) wh
       (is_whole_of place upper ns (record {
         subscription = w.subscription;
         group = w.group;
-        types = any_front is_empty (segments upper) (c.last ∷ []) (subst (λ ts. list_any is_empty ts
-            ≡ false) c.is w.types);
+        types = upper_filled w.types;
         names = any_front is_empty ns (n ∷ []) w.names;
-        paired = one_less (ap length (sym c.is) ∙ w.paired);
-        some = some_names (ap length (sym c.is) ∙ w.paired) c.parent;
+        paired = one_less (sym longer ∙ w.paired);
+        some = some_names (sym longer ∙ w.paired) c.parent;
       }))
       (true_not (list_any has_slash ns) (any_front has_slash ns (n ∷ []) (of_not (list_any has_slash (ns ++ n
       ∷ [])) a.1)))
     where
-      one_less : length (segments upper ++ c.last ∷ []) ≡ suc (length (ns ++ n ∷ []))
+      one_less : suc (length (segments upper)) ≡ suc (length (ns ++ n ∷ []))
           → length (segments upper) ≡ suc (length ns)
-      one_less e = omega (arith, length-append (segments upper) (c.last ∷ []), length-append ns (n ∷ []))
+      one_less e = omega (arith, length-append ns (n ∷ []))
 
-      some_names : length (segments upper ++ c.last ∷ []) ≡ suc (length (ns ++ n ∷ []))
+      some_names : suc (length (segments upper)) ≡ suc (length (ns ++ n ∷ []))
           → 1 < length (segments upper) → 0 < length ns
-      some_names e h = omega (arith, length-append (segments upper) (c.last ∷ []), length-append ns (n ∷ []))
+      some_names e h = omega (arith, length-append ns (n ∷ []))
 
   last_cut : (ns : List (List ℕ)) (n : List ℕ) → list_any has_slash (ns ++ n ∷ []) ≡ false → has_slash n ≡ false
   last_cut ns n e = or_left (has_slash n) false (any_back has_slash ns (n ∷ []) e)

@@ -50,7 +50,7 @@ order_is lists order o = record {
 sorted_is : (lists : List (List ℕ)) (s : Sorted) → IsSorted (graph_of_lists (all_below lists)) s → AreSorted lists s
 sorted_is lists (sorted.Order xs) h = order_is lists xs.items h
 sorted_is lists (sorted.Circle xs) h =
-    (circle_was lists xs.items (circle_from (all_below lists) xs.items h.0), h.1)
+    (circle_was lists xs.items (circle_from (all_below lists) xs.items h.0), h.1, h.2)
 
 pub all_sorted : {E : Type 0} (r : Result Sorted E) (g : Shape) (now lists : List (List ℕ)) → now ≡ all_below lists
     → g ≡ graph_of_lists now → IfOk r (IsSorted g) → IfOk r (AreSorted lists)

@@ -79,7 +79,7 @@ no_circle_in f es ds xs p q s h =
     subst (λ l. AreSorted l (sorted.Circle xs)) (same_file links f es ds p q) s
     in
     h (map (name_at (file_view f).symbols) xs.items)
-    (record { numbers = xs.items; names_are = refl; circle = c.0; least = c.1.0 })
+    (record { numbers = xs.items; names_are = refl; circle = c.0; least = c.1 })
 
 -- an order of the symbols of a file
 pub order_in : (f : ResolvedFile) (es : List Entry) (ds : List Declared) (xs : Vec ℕ Global) (order : List ℕ)

@@ -134,24 +134,25 @@ module _ (r : Renaming) (i : IsOneToOne r) where
 
     -- ---- bodies
 
-    body_same : IsEither r s t w → (p q : Position) (a u : Step) → Pair p a q u → w (included p a) ≡ Some (bool true)
-        → body_in (renamed r w) (t.bodies q u) ≡ body_in w (s.bodies p a)
-    body_same v p q a u g e =
+    body_same : IsEither r s t w → (p q : Position) (a u : Step) (k : Kind) (x : List ℕ) → Pair p a q u
+        → IsPut s.kinds w p a k x → body_in (renamed r w) (t.bodies q u) ≡ body_in w (s.bodies p a)
+    body_same v p q a u k x g e =
         ap (λ c. body_in (renamed r w) (t.bodies q (step u.resource c))) (sym g.copy)
-        ∙ h.bodies w n v p q a.resource u.resource a.copy g.at g.number e
+        ∙ h.bodies w n v p q a.resource u.resource a.copy k g.at g.number e.is_included.is_declared e.is_resource
+        e.is_included.has_condition
 
     bodies_forth : IsEither r s t w → HaveBodies s.kinds s.bodies w → HaveBodies t.kinds t.bodies (renamed r w)
     bodies_forth v b q u k x c =
         let o = put_old q u k x c in
         let e = put_back o.at q o.instance u k x o.pair c in
         let g = b o.at o.instance k x e in
-        (g.0, body_same v o.at q o.instance u o.pair e.is_included.has_condition ∙ g.1)
+        (g.0, body_same v o.at q o.instance u k x o.pair e ∙ g.1)
 
     bodies_back : IsEither r s t w → HaveBodies t.kinds t.bodies (renamed r w) → HaveBodies s.kinds s.bodies w
     bodies_back v b p a k x c =
         let o = put_new p a k x c in
         let g = b o.at o.instance k x (put_forth p o.at a o.instance k x o.pair c) in
-        (g.0, sym (body_same v p o.at a o.instance o.pair c.is_included.has_condition) ∙ g.1)
+        (g.0, sym (body_same v p o.at a o.instance k x o.pair c) ∙ g.1)
 
     -- ---- keys
 
@@ -280,10 +281,10 @@ module _ (r : Renaming) (i : IsOneToOne r) where
     at_place k x b p = record { id = id_at p k.type x; api = k.api; body = b; state = w (state (key_at p k.type x)) }
 
     stored_same : IsDesired s w → (p q : Position) (a u : Step) (k : Kind) (x : List ℕ) → Pair p a q u
-        → w (included p a) ≡ Some (bool true) → stored_by t (renamed r w) k x (body_in (renamed r w) (t.bodies q u))
+        → IsPut s.kinds w p a k x → stored_by t (renamed r w) k x (body_in (renamed r w) (t.bodies q u))
         ≡ stored_by s w k x (body_in w (s.bodies p a))
     stored_same d p q a u k x g e =
-        ap (λ b. at_place k x b t.place) (body_same (as_it_is d) p q a u g e)
+        ap (λ b. at_place k x b t.place) (body_same (as_it_is d) p q a u k x g e)
         ∙ ap (at_place k x (body_in w (s.bodies p a))) h.place
 
     pub stored_forth : IsDesired s w → (y : Stored) → IsStored s w y → IsStored t (renamed r w) y
@@ -296,9 +297,7 @@ module _ (r : Renaming) (i : IsOneToOne r) where
           title = c.title;
           is_put = put_forth c.at o.at c.instance o.instance c.kind c.title o.pair c.is_put;
           is_so =
-              stored_same d c.at o.at c.instance o.instance c.kind c.title o.pair
-              c.is_put.is_included.has_condition
-              ∙ c.is_so;
+              stored_same d c.at o.at c.instance o.instance c.kind c.title o.pair c.is_put ∙ c.is_so;
         }
 
     pub stored_back : IsDesired s w → (y : Stored) → IsStored t (renamed r w) y → IsStored s w y
@@ -312,9 +311,7 @@ module _ (r : Renaming) (i : IsOneToOne r) where
           title = c.title;
           is_put = e;
           is_so =
-              sym
-              (stored_same d o.at c.at o.instance c.instance c.kind c.title o.pair e.is_included.has_condition)
-              ∙ c.is_so;
+              sym (stored_same d o.at c.at o.instance c.instance c.kind c.title o.pair e) ∙ c.is_so;
         }
 
 module _ (r : Renaming) (i : IsOneToOne r) (s t : Desired) (h : IsRenamed r s t) where

@@ -1,5 +1,5 @@
 -- What is desired of worlds, and the same of worlds whose cells are renamed.
-use Rattle.std.specs.Prelude.{◌≡◌, ℕ, true, List, Option, Some, None}
+use Rattle.std.specs.Prelude.{◌≡◌, ℕ, true, false, List, Option, Some, None}
 use Rattle.arm_value.specs.Json.{Json, bool}
 use Rattle.arm_ids.specs.declared.id.ResourceId.{ResourceId}
 use Rattle.reading.specs.World.{value_in}
@@ -22,11 +22,12 @@ pub data IsEither (r : Renaming) (s t : Desired) (w : World) : Type 0 where
 pub record IsRenamed (r : Renaming) (s t : Desired) : Type 0 where
   pub place : t.place ≡ s.place
   pub held : (key : ResourceId) → t.held key ≡ s.held key
-  -- each cell has the same value or none, and so has the body of each instance that is included
+  -- each cell has the same value or none, and so has the body of each instance that is put
   pub means : (w : World) → IsRenamable r w → IsEither r s t w → (c d : Cell) → to_cell r c ≡ Some d
       → value_in (renamed r w) (t.meaning d) ≡ value_in w (s.meaning c)
   pub bodies : (w : World) → IsRenamable r w → IsEither r s t w → (p q : Position) (n m i : ℕ)
-      → to_position r p ≡ Some q → r.number p n ≡ Some m → w (included p (step n i)) ≡ Some (bool true)
+      (k : Kind) → to_position r p ≡ Some q → r.number p n ≡ Some m → s.kinds p n ≡ Some k
+      → k.is_deployment ≡ false → w (included p (step n i)) ≡ Some (bool true)
       → body_in (renamed r w) (t.bodies q (step m i)) ≡ body_in w (s.bodies p (step n i))
   -- and each resource is of the same kind
   pub kinds : (p q : Position) (n m : ℕ) → to_position r p ≡ Some q → r.number p n ≡ Some m

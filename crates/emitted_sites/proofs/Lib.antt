@@ -1,0 +1,5 @@
+pub mod FollowLemmas
+pub mod PlaceLemmas
+pub mod EntryLemmas
+pub mod ListingLemmas
+pub mod SiteLemmas

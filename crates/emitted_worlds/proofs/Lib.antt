@@ -1,0 +1,6 @@
+pub mod ListLemmas
+pub mod SourceLemmas
+pub mod TemplateLemmas
+pub mod ProgramLemmas
+pub mod RenamedLemmas
+pub mod FactLemmas

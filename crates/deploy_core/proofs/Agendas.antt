@@ -1,7 +1,8 @@
 -- What a board keeps once its agenda has changed and nothing has happened.
-use Rattle.std.proofs.Common.{◌≡◌, ◌⊎◌, inl, inr, ℕ, zero, suc, ◌<◌, ◌≤◌, ◌+◌, ◌==◌, Bool, true, false, true≢false, List, length}
+use Rattle.std.proofs.Common.{◌≡◌, ◌⊎◌, inl, inr, ℕ, zero, suc, ◌<◌, ◌≤◌, ◌+◌, Bool, false}
+use Rattle.std.proofs.Common.{List, length}
 use Rattle.std.proofs.Common.{Some, refl, sym, ap, subst, ◌∙◌, arith}
-use Rattle.std.specs.Prelude.{slice_get, slice_index_or}
+use Rattle.std.specs.Prelude.{slice_get}
 use Rattle.std.specs.BTreeSet.{BTreeSet}
 use Rattle.std.proofs.lemmas.Option.{slice_get_within}
 use Rattle.std.proofs.lemmas.Bool.{cases_eq}
@@ -9,17 +10,16 @@ use Rattle.depend_graph.specs.Shape as graph
 use Rattle.depend_graph.specs.Shape.{Shape, with_edge, with_done}
 use Rattle.depend_graph.proofs.Keeping.{other_test}
 use Rattle.plan_cells.specs.Known.{Table}
-use Rattle.plan_cells.specs.Tasks.{Task}
 use Rattle.deploy_histories.specs.Planned.{Planned}
 use Rattle.deploy_histories.specs.Events.{Event, progress, is_waiting}
 use Rattle.point_values.specs.Seen.{IsSeen}
 use Rattle.reading.specs.Knowledge.{Grows}
 use Rattle.task_standings.proofs.Lasting.{scopes_stay}
 use Rattle.task_agenda.specs.declared.agenda.Agenda.{Agenda}
-use Rattle.task_agenda.specs.Agendas.{count, is_scope, is_listed, IsSame, IsSeenTo, Keeps, HasGraph, TakesOff}
+use Rattle.task_agenda.specs.Agendas.{is_listed, IsSame, IsSeenTo, Keeps, HasGraph, TakesOff}
 use Rattle.task_agenda.specs.Lists as lists
 use Rattle.task_agenda.specs.Lists.{IsHeldUp}
-use Rattle.deploy_core.specs.Kept.{waker, enters_or_leaves, IsNeeded, IsWoken, IsStuckTask, IsCovered, IsKept}
+use Rattle.deploy_core.specs.Kept.{waker, IsNeeded, IsWoken, IsStuckTask, IsCovered, IsKept}
 use Rattle.deploy_core.specs.Looks.{IsHeard}
 use Rattle.deploy_core.proofs.Undone.{undone_need}
 use Rattle.deploy_core.proofs.Edges.{undone_there, edge_to, edge_from, edge_holds}

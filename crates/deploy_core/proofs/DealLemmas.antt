@@ -1,7 +1,8 @@
 -- What a board answers where it is asked for a job.
-use Rattle.std.proofs.Common.{◌≡◌, ◌≢◌, ◌⊎◌, inl, inr, ℕ, Bool, true, false, true≢false, List, [], ◌∷◌, ◌++◌, length}
+use Rattle.std.proofs.Common.{◌≡◌, ◌≢◌, ℕ, Bool, true, false, true≢false, List, length}
 use Rattle.std.proofs.Common.{Option, Some, None, refl, sym, ap, subst, ◌∙◌}
-use Rattle.std.specs.Prelude.{slice_get, option_and_then, is_some, option_map, Result, Ok, Err, IfOk, OnErr, is_ok, if◌then◌else◌}
+use Rattle.std.specs.Prelude.{slice_get, option_and_then, is_some, option_map, Result, Ok, Err, IfOk, OnErr, is_ok}
+use Rattle.std.specs.Prelude.{if◌then◌else◌}
 use Rattle.std.specs.declared.alloc.AllocError.{AllocError}
 use Rattle.arm_value.specs.Json.{Json, null, bool, int, text, array, object}
 use Rattle.arm_value.specs.View.{json}
@@ -35,7 +36,7 @@ use Rattle.task_agenda.specs.declared.agenda.Agenda.{Agenda}
 use Rattle.task_agenda.specs.Agendas.{is_scope, HasGraph, is_listed}
 use Rattle.depend_graph.specs.Shape.{with_done}
 use Rattle.deploy_core.specs.Boards.{HasPassed, job_of, IsJobOf, IsBegunAs, NoneMayBegin, IsNext, IsStarted, IsPause}
-use Rattle.deploy_core.specs.Kept.{enters_or_leaves, IsKept}
+use Rattle.deploy_core.specs.Kept.{IsKept}
 use Rattle.deploy_core.specs.Looks.{IsReady, IsReadyAct, NoScopeListed, NoActListed}
 use Rattle.deploy_core.specs.Passes.{GoesOn}
 use Rattle.deploy_core.proofs.Happening.{answered, begun_concerns, begun_same, back_concerns, back_same}
@@ -48,7 +49,8 @@ use Rattle.deploy_core.proofs.Stepping.{same_agenda, done_agenda}
 one_target : (a b : Target) → Some a ≡ Some b → a ≡ b
 one_target a b e = cc
 
-pub put_act : (place : Place) (k : Option Kind) (n : Option Json) (g : Target) → put_target place k n ≡ Some g → g.act ≡ Put
+pub put_act : (place : Place) (k : Option Kind) (n : Option Json) (g : Target) → put_target place k n ≡ Some g → g.act
+    ≡ Put
 put_act place (Some k) (Some (text n)) g e = sym (ap (λ (t : Target). t.act) (one_target _ g e))
 put_act place (Some k) (Some null) g e = let f : None ≡ Some g = e in absurd (cc)
 put_act place (Some k) (Some (bool b)) g e = let f : None ≡ Some g = e in absurd (cc)

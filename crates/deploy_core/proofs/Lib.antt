@@ -6,6 +6,8 @@ pub mod Agendas
 pub mod Stepping
 pub mod Happening
 pub mod LookLemmas
-pub mod WakeLemmas
 pub mod PassLemmas
 pub mod DealLemmas
+pub mod OpenLemmas
+pub mod StepLemmas
+pub mod WakeLemmas

@@ -1,5 +1,6 @@
 -- What a board keeps where it looks at a task.
-use Rattle.std.proofs.Common.{◌≡◌, ◌⊎◌, inl, inr, ℕ, zero, suc, ◌<◌, ◌≤◌, ◌+◌, ◌==◌, Bool, true, false, true≢false, List, length}
+use Rattle.std.proofs.Common.{◌≡◌, ◌⊎◌, inl, inr, ℕ, ◌<◌, ◌+◌, Bool, true, false, true≢false}
+use Rattle.std.proofs.Common.{List, length}
 use Rattle.std.proofs.Common.{Option, Some, None, refl, sym, ap, subst, ◌∙◌, arith}
 use Rattle.std.specs.Prelude.{not, slice_get, Result, Ok, Err, IfOk, is_ok, if◌then◌else◌}
 use Rattle.std.specs.declared.alloc.AllocError.{AllocError}
@@ -17,14 +18,10 @@ use Rattle.plan_cells.specs.Tasks as task
 use Rattle.plan_cells.specs.Tasks.{Task}
 use Rattle.deploy_histories.specs.Planned.{Planned}
 use Rattle.deploy_histories.specs.Events.{Event, Progress, progress, Status, is_waiting, is_begun, is_done, done_status}
-use Rattle.deploy_histories.specs.Events.{IsDone}
-use Rattle.deploy_histories.specs.Points.{IsKnownThen}
-use Rattle.deploy_histories.specs.Readiness.{readiness, ready, needs_first}
-use Rattle.deploy_histories.specs.Legal.{MayStart, IsAct}
+use Rattle.deploy_histories.specs.Readiness.{readiness, ready}
 use Rattle.deploy_histories.specs.Values.{body_of}
 use Rattle.deploy_histories.proofs.ReadinessLemmas.{ready_says}
 use Rattle.board_history.specs.Stages.{begun_status}
-use Rattle.point_values.specs.Seen.{IsSeen}
 use Rattle.task_standings.specs.declared.standing.Standing.{Standing}
 use Rattle.task_standings.specs.declared.standing.Standing.TheVariants.{Ready, Waits, Stuck}
 use Rattle.task_standings.specs.Standings.{IsStanding, AreStartNeedsDone, FitsTask, Enters, Leaves, IsScopeSeen}
@@ -32,11 +29,11 @@ use Rattle.task_agenda.specs.declared.agenda.Agenda.{Agenda}
 use Rattle.task_agenda.specs.Agendas.{count, is_scope, is_listed, listed_count, IsFirst, HasGraph, TakesOff}
 use Rattle.task_agenda.specs.Lists as lists
 use Rattle.task_agenda.specs.Lists.{IsHeldUp}
-use Rattle.deploy_core.specs.Kept.{enters_or_leaves, IsNeeded, IsStuckTask, IsKept}
+use Rattle.deploy_core.specs.Kept.{enters_or_leaves, IsNeeded, IsKept}
 use Rattle.deploy_core.specs.Looks.{IsReady, IsPrepared, IsFree, IsOff, NeedsAnother, IsPutOff, IsLooked}
 use Rattle.deploy_core.specs.Looks.{IsReadyFirst, NoScopeListed, StaysKept}
 use Rattle.deploy_core.proofs.Edges.{undone_there}
-use Rattle.deploy_core.proofs.Agendas.{kept_knowing, kept_without, kept_needing, kept_same, held_so, held_now}
+use Rattle.deploy_core.proofs.Agendas.{kept_without, kept_needing, kept_same, held_so, held_now}
 use Rattle.deploy_core.proofs.Agendas.{same_listed}
 
 -- a task that is neither done nor begun waits

@@ -1,7 +1,8 @@
 -- What a board keeps where scopes are entered and left.
 use Rattle.std.proofs.Common.{◌≡◌, ◌⊎◌, inl, inr, ℕ, zero, suc, ◌<◌, ◌≤◌, ◌+◌, Bool, true, false, true≢false}
 use Rattle.std.proofs.Common.{List, [], ◌∷◌, ◌++◌, length, Option, Some, None, refl, sym, ap, subst, ◌∙◌, arith}
-use Rattle.std.specs.Prelude.{slice_get, slice_index_or, slice_set, option_map, if◌then◌else◌, Result, Ok, Err, OnOk, is_ok}
+use Rattle.std.specs.Prelude.{slice_get, option_map, if◌then◌else◌, Result, Ok, Err, OnOk}
+use Rattle.std.specs.Prelude.{is_ok}
 use Rattle.std.specs.Prelude.{OnErr}
 use Rattle.std.specs.declared.alloc.AllocError.{AllocError}
 use Rattle.std.proofs.lemmas.Option.{slice_get_within}
@@ -9,15 +10,14 @@ use Rattle.std.proofs.lemmas.List.{append_assoc, append-nil}
 use Rattle.arm_value.specs.Json.{Json, null}
 use Rattle.reading.specs.Knowledge.{Known, known, absent, missing, Stays, Grows}
 use Rattle.std.proofs.lemmas.Bool.{cases_eq}
-use Rattle.depend_graph.specs.Shape as graph
-use Rattle.depend_graph.specs.Shape.{Shape, with_done}
 use Rattle.deploy_cells.specs.Cells.{Position}
 use Rattle.plan_cells.specs.Known.{Table}
 use Rattle.plan_cells.specs.Tasks as task
 use Rattle.plan_cells.specs.Tasks.{Task}
 use Rattle.deploy_histories.specs.Planned.{Planned}
 use Rattle.deploy_histories.specs.Events as event
-use Rattle.deploy_histories.specs.Events.{Event, Progress, Status, progress, after, after_all, is_waiting, done_status, IsDone}
+use Rattle.deploy_histories.specs.Events.{Event, Progress, Status, progress, after, after_all, is_waiting}
+use Rattle.deploy_histories.specs.Events.{done_status, IsDone}
 use Rattle.deploy_histories.specs.Legal.{MayStart, May, IsAct, IsLegalFrom}
 use Rattle.deploy_histories.proofs.ReadinessLemmas.{ready_says}
 use Rattle.board_history.specs.Past.{Past, with_event}
@@ -27,7 +27,7 @@ use Rattle.task_standings.specs.declared.standing.Kind.TheVariants.{Enter, Put, 
 use Rattle.task_standings.specs.Standings.{kind_of, IsScopeSeen, AreScopesSeen}
 use Rattle.task_standings.proofs.Lasting.{scopes_stay}
 use Rattle.task_agenda.specs.declared.agenda.Agenda.{Agenda}
-use Rattle.task_agenda.specs.Agendas.{count, is_scope, is_listed, HasGraph}
+use Rattle.task_agenda.specs.Agendas.{count, is_scope}
 use Rattle.deploy_core.specs.Boards.{OfScope, OfScopes, HasPassed, HasPassedOne}
 use Rattle.deploy_core.specs.Kept.{enters_or_leaves, Does, IsKept}
 use Rattle.deploy_core.specs.Looks.{IsReady, IsPrepared, IsReadyFirst, IsReadyScope, NoScopeListed}

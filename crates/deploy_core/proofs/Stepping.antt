@@ -13,10 +13,10 @@ use Rattle.deploy_histories.specs.Legal.{May}
 use Rattle.point_values.specs.Seen.{IsSeen}
 use Rattle.task_standings.specs.Standings.{AreScopesSeen}
 use Rattle.task_agenda.specs.declared.agenda.Agenda.{Agenda}
-use Rattle.task_agenda.specs.Agendas.{HasGraph, is_listed}
+use Rattle.task_agenda.specs.Agendas.{HasGraph}
 use Rattle.task_agenda.specs.Lists as lists
 use Rattle.task_agenda.specs.Lists.{IsHeldUp}
-use Rattle.deploy_core.specs.Kept.{IsNeeded, IsWoken, IsCovered, IsKept, Concerns, Does}
+use Rattle.deploy_core.specs.Kept.{IsWoken, IsCovered, IsKept, Concerns, Does}
 use Rattle.deploy_core.proofs.Undone.{done_other, held_or_needs}
 use Rattle.deploy_core.proofs.Agendas.{same_listed}
 use Rattle.deploy_core.proofs.Covering.{legal_more, needed_still, woken_now, covered_still}
@@ -74,7 +74,8 @@ not_waiting (is_done o) d e = let f : is_done o ≡ is_waiting = e in cc
 -- a task is done by the event, and it is noted in the agenda
 module _ (x : Planned) (t : Table) (tasks : ℕ) (h : List Event) (a : Agenda) (seen : ℕ)
     (k : IsKept x t tasks h a seen) (e : Event) (m : May x (progress h) e) (s : Table)
-    (seen_more : IsSeen x (progress (h ++ e ∷ [])) s) (scopes_more : AreScopesSeen x (progress (h ++ e ∷ [])) s) (u : ℕ) (in_plan : u < length x.tasks) (d : Does h e u)
+    (seen_more : IsSeen x (progress (h ++ e ∷ [])) s) (scopes_more : AreScopesSeen x (progress (h ++ e ∷ [])) s) (u :
+    ℕ) (in_plan : u < length x.tasks) (d : Does h e u)
     (b : Agenda) (g : HasGraph a b (with_done a.graph u)) where
   needs_more : (v w : ℕ) → graph.Needs a.graph v w → graph.Needs b.graph v w
   needs_more v w n = subst (λ (z : Shape). graph.Needs z v w) (sym g.is_graph) n

@@ -10,6 +10,8 @@ use Rattle.deploy_histories.specs.Events.{Event, Progress, progress, is_waiting,
 use Rattle.deploy_histories.specs.Legal.{IsLegal}
 use Rattle.deploy_histories.specs.Readiness.{needs_first}
 use Rattle.point_values.specs.Seen.{IsSeen}
+use Rattle.task_standings.specs.declared.standing.Kind.{Kind}
+use Rattle.task_standings.specs.declared.standing.Kind.TheVariants.{Enter, Put, Delete, Leave}
 use Rattle.task_standings.specs.Standings.{Needs, IsStuck, AreScopesSeen}
 use Rattle.task_agenda.specs.declared.agenda.Agenda.{Agenda}
 use Rattle.task_agenda.specs.Agendas.{count, is_scope, IsSeenTo}
@@ -19,6 +21,13 @@ enters_or_leaves (enter p) = true
 enters_or_leaves (leave p) = true
 enters_or_leaves (put p s) = false
 enters_or_leaves (delete k) = false
+
+-- the same by its kind
+abbrev pub kind_of_scope : Kind → Bool
+kind_of_scope Enter = true
+kind_of_scope Leave = true
+kind_of_scope Put = false
+kind_of_scope Delete = false
 
 -- the task after whose event others are looked at
 abbrev pub waker : Event → Option ℕ

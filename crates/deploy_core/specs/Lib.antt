@@ -2,3 +2,5 @@ pub mod Boards
 pub mod Kept
 pub mod Looks
 pub mod Passes
+pub mod Opens
+pub mod Steps

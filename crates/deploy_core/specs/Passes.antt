@@ -32,7 +32,8 @@ abbrev pub Fewer : Planned → List Event → List Event → Type 0
 Fewer x old new =
     undone_in (length x.tasks) (progress new).status < undone_in (length x.tasks) (progress old).status
 
--- one scope more was entered or left, and all events were looked at; or no task of scopes is listed, and nothing happened
+-- one scope more was entered or left, and all events were looked at; or no task of scopes is listed, and nothing
+-- happened
 abbrev pub IsSettledOnce : Planned → List Event → List Event → Agenda → ℕ → ℕ → Bool → Type 0
 IsSettledOnce x old new b was seen true = Fewer x old new × (seen ≡ length new)
 IsSettledOnce x old new b was seen false = NoScopeListed b × ((new ≡ old) × (seen ≡ was))

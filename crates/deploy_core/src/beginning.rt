@@ -1,6 +1,6 @@
 // A ready task is begun: its job, and its Begin in the history.
 
-ghost use Rattle.std.specs.Prelude.{◌≡◌, ◌<◌, ℕ, IfOk, Some, is_ok, false, if◌then◌else◌, slice_get};
+ghost use Rattle.std.specs.Prelude.{◌≡◌, ◌<◌, ℕ, IfOk, Some, is_ok, if◌then◌else◌, slice_get};
 ghost use Rattle.arm_value.specs.View.{json};
 ghost use Rattle.provider_trait.specs.Act.{FitsAct};
 ghost use Rattle.provider_trait.specs.Work.{work_for};
@@ -12,18 +12,12 @@ ghost use Rattle.board_history.specs.Past.{with_event};
 ghost use Rattle.deploy_core.specs.Boards.{job_of, IsJobOf};
 ghost use Rattle.deploy_core.specs.Looks.{IsReady};
 
+use crate::opening::run_out;
 use arm_value::{OutOfMemory, Value};
 use board_history::History;
 use provider_trait::{Job, JobParts};
-use std::alloc::{AllocError, Global};
+use std::alloc::Global;
 use task_standings::{Aim, Standings};
-
-// Fails; the part is dropped.
-fn run_out<T: Drop, R: Drop>(_part: T) -> Result<R, OutOfMemory>
-    ensures { is_ok result ≡ false }
-{
-    Err(AllocError)
-}
 
 // The job of the task with this body.
 fn job(alloc: Global, aim: Aim, task: u32, worker: u32, body: &Value) -> Result<Job, OutOfMemory>

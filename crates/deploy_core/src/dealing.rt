@@ -26,7 +26,7 @@ use task_agenda::Agenda;
 use task_standings::Standings;
 
 /// Whether an answer has refused.
-pub fn is_refused(history: &History) -> bool
+pub(crate) fn is_refused(history: &History) -> bool
     ensures refused { result ≡ true → (progress history.now.events).refusal ≢ None }
     ensures unrefused { result ≡ false → (progress history.now.events).refusal ≡ None }
 {
@@ -37,7 +37,7 @@ pub fn is_refused(history: &History) -> bool
 }
 
 /// No job: where a Begin is open, its end is waited for.
-pub fn pause(history: &History) -> Next
+pub(crate) fn pause(history: &History) -> Next
     ensures { IsPause (progress history.now.events) result }
 {
     if history.is_idle() {
@@ -48,7 +48,7 @@ pub fn pause(history: &History) -> Next
 }
 
 /// Begins the first task that is ready, after the scopes that may be entered or left.
-pub fn deal<S: Standings>(
+pub(crate) fn deal<S: Standings>(
     alloc: Global,
     standings: &mut S,
     history: &mut History,
@@ -114,7 +114,7 @@ fn is_refusal(answer: &Answer) -> bool
 }
 
 /// The open Begin of the task has this answer.
-pub fn take<S: Standings>(
+pub(crate) fn take<S: Standings>(
     standings: &S,
     history: &mut History,
     agenda: &mut Agenda,
@@ -175,7 +175,12 @@ fn finish<S: Standings>(
 }
 
 /// The job of the open Begin of the task is given back.
-pub fn give_back<S: Standings>(standings: &S, history: &mut History, agenda: &Agenda, task: u32)
+pub(crate) fn give_back<S: Standings>(
+    standings: &S,
+    history: &mut History,
+    agenda: &Agenda,
+    task: u32,
+)
     requires begun { IsBegun (progress history.old.events) task }
     ensures kept { GoesOn (S.planned standings.now) (S.known standings.now) (S.known standings.now)
         history.old history.new agenda.now agenda.now }

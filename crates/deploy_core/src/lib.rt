@@ -1,12 +1,16 @@
-//! What a board keeps of a plan under way, and how it finds and begins a task that is ready.
+//! The board of a deployment: which task may begin, and what has happened.
 //!
-//! `specs/Kept.antt` says what a board keeps: its history, and which tasks are to be looked at. `specs/Boards.antt`
-//! says what it does when it is asked for a job. Its parts are not put together in one type yet.
+//! `specs/Boards.antt` says what a board does when it is asked for a job, and `specs/Kept.antt` what it keeps.
 #![tactic(auto)]
 
 mod beginning;
-pub mod dealing;
+mod board;
+mod dealer;
+mod dealing;
 pub mod laws;
-pub mod looking;
+mod looking;
+mod opening;
 mod passing;
-pub mod waking;
+mod waking;
+
+pub use board::Board;

@@ -89,7 +89,7 @@ fn look<S: Standings>(
 }
 
 /// The first scope that may be entered or left, and none where no task of scopes is listed any more.
-pub fn ready_scope<S: Standings>(
+pub(crate) fn ready_scope<S: Standings>(
     alloc: Global,
     standings: &mut S,
     history: &History,
@@ -116,7 +116,7 @@ pub fn ready_scope<S: Standings>(
 }
 
 /// The first task that may be put or deleted, with its body, and none where no such task is listed any more.
-pub fn ready_act<S: Standings>(
+pub(crate) fn ready_act<S: Standings>(
     alloc: Global,
     standings: &mut S,
     history: &History,

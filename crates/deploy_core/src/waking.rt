@@ -39,7 +39,7 @@ fn hear(agenda: &mut Agenda, event: &Event) -> Result<(), OutOfMemory>
 }
 
 /// Lists those that wait for the events from the place on. After `OutOfMemory` the place may be a later one.
-pub fn catch_up<S: Standings>(
+pub(crate) fn catch_up<S: Standings>(
     standings: &S,
     history: &History,
     agenda: &mut Agenda,

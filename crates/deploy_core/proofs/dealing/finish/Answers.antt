@@ -18,6 +18,7 @@ returns-clause-kept g c =
     (g.S.Standings.known c.args._standings.now) c.args.history.now c.answer.new.self
     (with_event c.args.history.now (event.answer c.args.task c.args.answer)) c.args.agenda.now c.done.new.self
     c.answer.ensures
-    (kept_finished (g.S.Standings.planned c.args._standings.now) (g.S.Standings.known c.args._standings.now) c.seen_stays.ensures
+    (kept_finished (g.S.Standings.planned c.args._standings.now) (g.S.Standings.known c.args._standings.now)
+    c.seen_stays.ensures
     c.args.history.now c.args.agenda.now c.args.task c.args.answer c.requires.does c.requires.may c.done.new.self
     c.done.ensures)

@@ -9,5 +9,6 @@ returns-clause-kept g c =
     (g.S.Standings.known c.args._standings.now) c.args.history.now c.answer.new.self
     (with_event c.args.history.now (event.answer c.args.task c.args.answer)) c.args._agenda.now c.args._agenda.now
     c.answer.ensures
-    (kept_refused (g.S.Standings.planned c.args._standings.now) (g.S.Standings.known c.args._standings.now) c.seen_stays.ensures
+    (kept_refused (g.S.Standings.planned c.args._standings.now) (g.S.Standings.known c.args._standings.now)
+    c.seen_stays.ensures
     c.args.history.now c.args._agenda.now c.args.task c.args.answer c.requires.refuses c.requires.may)

@@ -19,13 +19,15 @@ begin-requires-clause-act g c =
 
 pub returns-in-Ok-clause-kept : goal.returns-in-Ok-clause-kept
 returns-in-Ok-clause-kept g c =
-    started_goes (g.S.Standings.planned c.args.standings.now) (g.S.Standings.known c.args.standings.now) c.seen_stays.ensures
+    started_goes (g.S.Standings.planned c.args.standings.now) (g.S.Standings.known c.args.standings.now)
+    c.seen_stays.ensures
     c.args.history.now c.begin.new.history c.args.agenda.now c.args.task c.args.worker (json c.args.body)
     c.begin.result c.begin.ensures.history c.requires.ready c.requires.act
 
 pub returns-in-Err-clause-kept : goal.returns-in-Err-clause-kept
 returns-in-Err-clause-kept g c =
-    started_goes (g.S.Standings.planned c.args.standings.now) (g.S.Standings.known c.args.standings.now) c.seen_stays.ensures
+    started_goes (g.S.Standings.planned c.args.standings.now) (g.S.Standings.known c.args.standings.now)
+    c.seen_stays.ensures
     c.args.history.now c.begin.new.history c.args.agenda.now c.args.task c.args.worker (json c.args.body)
     c.begin.result c.begin.ensures.history c.requires.ready c.requires.act
 

@@ -1,4 +1,4 @@
-use Rattle.std.proofs.Common.{sym, ◌∙◌, refl, subst, true, false}
+use Rattle.std.proofs.Common.{sym, refl, subst, true, false}
 use Rattle.deploy_histories.specs.Events.{progress}
 use Rattle.task_standings.specs.declared.standing.Standing.{Standing}
 use Rattle.task_standings.specs.declared.standing.Standing.TheVariants.{Ready, Waits, Stuck}
@@ -58,9 +58,11 @@ returns-in-Ready-clause-looked g c = (
       (g.S.Standings.known c.standing.new.self) c.args.task c.in_ok-body.field-0 (Ready c.in-Ready.body) c.in-Ready.is
       c.in_ok-body.ensures.stands)
       (λ e. c.in_ok-body.ensures.entered
-      (subst (λ (s : Standing). Enters (g.S.Standings.planned c.args.standings.now) c.args.task s) (sym c.in-Ready.is) e))
+      (subst (λ (s : Standing). Enters (g.S.Standings.planned c.args.standings.now) c.args.task s) (sym c.in-Ready.is)
+      e))
       (λ e. c.in_ok-body.ensures.noted
-      (subst (λ (s : Standing). Leaves (g.S.Standings.planned c.args.standings.now) c.args.task s) (sym c.in-Ready.is) e)),
+      (subst (λ (s : Standing). Leaves (g.S.Standings.planned c.args.standings.now) c.args.task s) (sym c.in-Ready.is)
+      e)),
   refl,
 )
 

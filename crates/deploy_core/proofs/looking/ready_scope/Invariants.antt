@@ -1,4 +1,4 @@
-use Rattle.std.proofs.Common.{◌≡◌, ℕ}
+use Rattle.std.proofs.Common.{◌≡◌}
 use Rattle.task_agenda.specs.Agendas.{listed_count}
 use Rattle.deploy_core.specs.Looks.{StaysKept}
 use Rattle.deploy_core.proofs.looking.ready_scope.Given as goal

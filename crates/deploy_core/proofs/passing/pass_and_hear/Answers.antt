@@ -1,4 +1,4 @@
-use Rattle.std.proofs.Common.{sym, ◌∙◌, refl}
+use Rattle.std.proofs.Common.{sym}
 use Rattle.deploy_core.proofs.PassLemmas.{none_passed, passed_by, kept_of, ok_of}
 use Rattle.deploy_core.proofs.passing.pass_and_hear.Goals as goal
 
@@ -8,7 +8,8 @@ pass-requires-clause-kept g c =
 
 pub catch_up-requires : goal.catch_up-requires
 catch_up-requires g c =
-    kept_of (g.S.Standings.planned c.args.standings.now) (g.S.Standings.planned c.pass.new.standings) (g.S.Standings.known c.pass.new.standings)
+    kept_of (g.S.Standings.planned c.args.standings.now) (g.S.Standings.planned c.pass.new.standings)
+    (g.S.Standings.known c.pass.new.standings)
     c.pass.new.history.count c.pass.new.history.events c.pass.new.agenda c.args.seen.now c.pass.ensures.planned
     (c.pass.ensures.kept c.args.seen.now c.requires.kept)
 
@@ -18,18 +19,22 @@ returns-in_err-pass-clause-kept g c =
 
 pub returns-in_err-pass-clause-passed : goal.returns-in_err-pass-clause-passed
 returns-in_err-pass-clause-passed g c =
-    passed_by c.args.history.now.events c.args.history.now.events c.pass.new.history.events c.pass.result (none_passed c.args.history.now.events)
+    passed_by c.args.history.now.events c.args.history.now.events c.pass.new.history.events c.pass.result (none_passed
+    c.args.history.now.events)
     c.pass.ensures.passed
 
 pub returns-clause-kept : goal.returns-clause-kept
 returns-clause-kept g c =
-    kept_of (g.S.Standings.planned c.pass.new.standings) (g.S.Standings.planned c.args.standings.now) (g.S.Standings.known c.pass.new.standings)
-    c.pass.new.history.count c.pass.new.history.events c.catch_up.new.agenda c.catch_up.new.seen (sym c.pass.ensures.planned)
+    kept_of (g.S.Standings.planned c.pass.new.standings) (g.S.Standings.planned c.args.standings.now)
+    (g.S.Standings.known c.pass.new.standings)
+    c.pass.new.history.count c.pass.new.history.events c.catch_up.new.agenda c.catch_up.new.seen (sym
+    c.pass.ensures.planned)
     c.catch_up.ensures.kept
 
 pub returns-clause-passed : goal.returns-clause-passed
 returns-clause-passed g c =
-    passed_by c.args.history.now.events c.args.history.now.events c.pass.new.history.events c.pass.result (none_passed c.args.history.now.events)
+    passed_by c.args.history.now.events c.args.history.now.events c.pass.new.history.events c.pass.result (none_passed
+    c.args.history.now.events)
     c.pass.ensures.passed
 
 pub returns-clause-fewer : goal.returns-clause-fewer

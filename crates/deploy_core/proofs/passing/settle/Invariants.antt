@@ -1,4 +1,4 @@
-use Rattle.std.proofs.Common.{◌≡◌, ℕ, None, length}
+use Rattle.std.proofs.Common.{◌≡◌, None, length}
 use Rattle.deploy_histories.specs.Events.{progress}
 use Rattle.deploy_core.specs.Boards.{HasPassed}
 use Rattle.deploy_core.specs.Kept.{IsKept}

@@ -19,14 +19,18 @@ returns-in_err-task-clause-passed g c =
 
 pub pass_and_hear-requires-clause-kept : goal.pass_and_hear-requires-clause-kept
 pass_and_hear-requires-clause-kept g c =
-    kept_of (g.S.Standings.planned c.args.standings.now) (g.S.Standings.planned c.ready_scope.new.standings) (g.S.Standings.known c.ready_scope.new.standings)
-    c.args.history.now.count c.args.history.now.events c.ready_scope.new.agenda c.args.seen.now c.ready_scope.ensures.planned
+    kept_of (g.S.Standings.planned c.args.standings.now) (g.S.Standings.planned c.ready_scope.new.standings)
+    (g.S.Standings.known c.ready_scope.new.standings)
+    c.args.history.now.count c.args.history.now.events c.ready_scope.new.agenda c.args.seen.now
+    c.ready_scope.ensures.planned
     (c.ready_scope.ensures.kept c.args.seen.now c.requires.kept)
 
 pub pass_and_hear-requires-clause-first : goal.pass_and_hear-requires-clause-first
 pass_and_hear-requires-clause-first g c =
     first_of_scopes (g.S.Standings.planned c.ready_scope.new.standings) (g.S.Standings.planned c.args.standings.now)
-    (progress c.args.history.now.events) (g.S.Standings.known c.ready_scope.new.standings) (g.S.Standings.noted c.ready_scope.new.standings) c.ready_scope.new.agenda c.in-Some.task c.in_ok-task.field-0 (sym c.ready_scope.ensures.planned)
+    (progress c.args.history.now.events) (g.S.Standings.known c.ready_scope.new.standings) (g.S.Standings.noted
+    c.ready_scope.new.standings) c.ready_scope.new.agenda c.in-Some.task c.in_ok-task.field-0 (sym
+    c.ready_scope.ensures.planned)
     c.in-Some.is c.in_ok-task.ensures.ready
 
 pub returns-in_err-pass_and_hear-in-Some-clause-planned : goal.returns-in_err-pass_and_hear-in-Some-clause-planned
@@ -35,7 +39,8 @@ returns-in_err-pass_and_hear-in-Some-clause-planned g c =
 
 pub returns-in_err-pass_and_hear-in-Some-clause-kept : goal.returns-in_err-pass_and_hear-in-Some-clause-kept
 returns-in_err-pass_and_hear-in-Some-clause-kept g c =
-    kept_of (g.S.Standings.planned c.ready_scope.new.standings) (g.S.Standings.planned c.args.standings.now) (g.S.Standings.known c.pass_and_hear.new.standings)
+    kept_of (g.S.Standings.planned c.ready_scope.new.standings) (g.S.Standings.planned c.args.standings.now)
+    (g.S.Standings.known c.pass_and_hear.new.standings)
     c.pass_and_hear.new.history.count c.pass_and_hear.new.history.events c.pass_and_hear.new.agenda
     c.pass_and_hear.new.seen (sym c.ready_scope.ensures.planned) c.pass_and_hear.ensures.kept
 
@@ -45,7 +50,8 @@ returns-in_ok-pass_and_hear-in-Some-clause-planned g c =
 
 pub returns-in_ok-pass_and_hear-in-Some-clause-kept : goal.returns-in_ok-pass_and_hear-in-Some-clause-kept
 returns-in_ok-pass_and_hear-in-Some-clause-kept g c =
-    kept_of (g.S.Standings.planned c.ready_scope.new.standings) (g.S.Standings.planned c.args.standings.now) (g.S.Standings.known c.pass_and_hear.new.standings)
+    kept_of (g.S.Standings.planned c.ready_scope.new.standings) (g.S.Standings.planned c.args.standings.now)
+    (g.S.Standings.known c.pass_and_hear.new.standings)
     c.pass_and_hear.new.history.count c.pass_and_hear.new.history.events c.pass_and_hear.new.agenda
     c.pass_and_hear.new.seen (sym c.ready_scope.ensures.planned) c.pass_and_hear.ensures.kept
 
@@ -66,7 +72,9 @@ returns-in-None-clause-passed g c =
 
 pub returns-in-None-clause-settled : goal.returns-in-None-clause-settled
 returns-in-None-clause-settled g c = (
-  no_scope_left (g.S.Standings.planned c.args.standings.now) (progress c.args.history.now.events) (g.S.Standings.known c.ready_scope.new.standings) (g.S.Standings.noted c.ready_scope.new.standings) c.ready_scope.new.agenda c.in_ok-task.field-0
+  no_scope_left (g.S.Standings.planned c.args.standings.now) (progress c.args.history.now.events) (g.S.Standings.known
+      c.ready_scope.new.standings) (g.S.Standings.noted c.ready_scope.new.standings) c.ready_scope.new.agenda
+      c.in_ok-task.field-0
       c.in-None.is c.in_ok-task.ensures.ready,
   (refl, refl),
 )

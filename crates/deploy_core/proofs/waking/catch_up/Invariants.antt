@@ -1,4 +1,4 @@
-use Rattle.std.proofs.Common.{◌≡◌, ◌-◌, ℕ, length}
+use Rattle.std.proofs.Common.{◌-◌, length}
 use Rattle.deploy_core.specs.Kept.{IsKept}
 use Rattle.deploy_core.proofs.waking.catch_up.Given as goal
 

@@ -1,0 +1,16 @@
+use Rattle.std.proofs.Common.{ap, ◌∙◌}
+use Rattle.deploy_histories.specs.Events as event
+use Rattle.deploy_core.specs.Steps.{steps_of}
+use Rattle.deploy_core.proofs.StepLemmas.{may_end_by, steps_more}
+use Rattle.deploy_core.proofs.dealer.BoardDealer.answer.Goals as goal
+
+pub answer-requires : goal.answer-requires
+answer-requires g c =
+    may_end_by (g.S.Standings.planned c.args.self.now.0) c.args.self.now.1.events c.history.ensures.legal c.args.task
+    c.args.answer c.requires
+
+pub returns : goal.returns
+returns g c =
+    ap (λ b. steps_of (g.S.Standings.planned b.0) b.1.events) c.answer.ensures
+    ∙ steps_more (g.S.Standings.planned c.args.self.now.0) c.args.self.now.1.events
+    (event.answer c.args.task c.args.answer)

@@ -1,0 +1,125 @@
+// The board.
+
+ghost use Rattle.std.specs.Prelude.{◌≡◌, ℕ, IfOk, OnErr, [], length, map};
+ghost use Rattle.point_values.specs.Seen.{IsSeen};
+ghost use Rattle.deploy_core.specs.Opens.{AreStartNeeds};
+ghost use Rattle.deploy_histories.specs.Events as event;
+ghost use Rattle.deploy_histories.specs.Events.{at_opening, progress, IsBegun};
+ghost use Rattle.deploy_histories.specs.Legal.{IsLegal, MayEnd};
+ghost use Rattle.board_history.specs.Past.{event_of, with_event};
+ghost use Rattle.deploy_core.specs.Boards.{IsNext, HasPassed};
+
+use crate::dealing::{deal, give_back, is_refused, pause, take};
+use crate::opening::{first_parts, run_out};
+use arm_value::OutOfMemory;
+use board_history::History;
+use dealer_trait::Next;
+use provider_trait::{Answer, Event};
+use std::alloc::Global;
+use std::marker::Model;
+use task_agenda::Agenda;
+use task_standings::Standings;
+
+/// The tasks of a plan under way.
+///
+/// Contracts see what says how its tasks stand, and what has happened.
+#[derive(Drop)]
+pub struct Board<S: Standings> {
+    standings: S,
+    history: History,
+    agenda: Agenda,
+    // The events before this place were looked at.
+    seen: usize,
+}
+
+impl<S: Standings> Model for Board<S> {
+    ghost use Rattle.std.specs.Coded.{coded×};
+    ghost use Rattle.board_history.specs.Past.{Past, past_code};
+
+    ghost Value = { S × Past };
+
+    ghost coded = { coded× S.code past_code };
+
+    ghost use Rattle.deploy_core.specs.Kept.{IsKept};
+
+    ghost view = { λ b. (b.standings, b.history) };
+
+    ghost invariant = { λ b. S.sound b.standings × IsKept (S.planned b.standings) (S.known b.standings)
+        b.history.count b.history.events b.agenda b.seen };
+}
+
+impl<S: Standings> Board<S> {
+    /// The board of a plan of which nothing has happened. The needs are the pairs of a task and of one that it needs by
+    /// what is known at the start; pairs of other numbers change nothing.
+    pub fn open(
+        alloc: Global,
+        standings: S,
+        needs: &[(usize, usize)],
+    ) -> Result<Board<S>, OutOfMemory>
+        requires sound { S.sound standings }
+        requires seen { IsSeen (S.planned standings) at_opening (S.known standings) }
+        requires needs { AreStartNeeds (S.planned standings) needs.now }
+        ensures { IfOk result (λ b. b
+            ≡ (standings, record { count = length (S.planned standings).tasks; events = [] })) }
+    {
+        match first_parts(alloc, &standings, needs) {
+            Ok(parts) => Ok(Board {
+                standings,
+                history: parts.history,
+                agenda: parts.agenda,
+                seen: 0,
+            }),
+            Err(_) => run_out(standings),
+        }
+    }
+
+    /// What has happened, oldest first. Each event came where it might.
+    pub fn history(&self) -> &[Event]
+        ensures events { map event_of result.now ≡ self.now.1.events }
+        ensures legal { IsLegal (S.planned self.now.0) self.now.1.events }
+    {
+        self.history.events()
+    }
+
+    /// The open Begin of the task has this answer. It takes no memory.
+    pub fn answer(&mut self, task: u32, answer: Answer)
+        requires { MayEnd (S.planned self.old.0) (progress self.old.1.events) task answer }
+        ensures { self.new ≡ (self.old.0, with_event self.old.1 (event.answer task answer)) }
+    {
+        take(
+            &self.standings,
+            &mut self.history,
+            &mut self.agenda,
+            task,
+            answer,
+        );
+    }
+
+    /// The job of the open Begin of the task is given back. It takes no memory.
+    pub fn back(&mut self, task: u32)
+        requires { IsBegun (progress self.old.1.events) task }
+        ensures { self.new ≡ (self.old.0, with_event self.old.1 (event.back task)) }
+    {
+        give_back(&self.standings, &mut self.history, &self.agenda, task);
+    }
+
+    /// What a worker is to do, after the scopes that may be entered or left.
+    pub fn next(&mut self, alloc: Global, worker: u32) -> Result<Next, OutOfMemory>
+        ensures planned { S.planned self.new.0 ≡ S.planned self.old.0 }
+        ensures legal { IsLegal (S.planned self.old.0) self.new.1.events }
+        ensures next { IfOk result (λ n. IsNext (S.planned self.old.0) self.old.1.events worker n self.new.1.events) }
+        ensures out { OnErr result (HasPassed self.old.1.events self.new.1.events) }
+    {
+        if is_refused(&self.history) {
+            return Ok(pause(&self.history));
+        }
+        deal(
+            alloc,
+            &mut self.standings,
+            &mut self.history,
+            &mut self.agenda,
+            &mut self.seen,
+            worker,
+        )
+    }
+}

@@ -1,0 +1,122 @@
+// The agenda of a plan of which nothing has happened.
+
+ghost use Rattle.std.specs.Prelude.{◌≡◌, ◌<◌, ◌^◌, ◌++◌, ◌∷◌, IfOk, OnOk, [], is_ok, false, length, map};
+ghost use Rattle.plan_cells.specs.Plan.{Need};
+ghost use Rattle.task_agenda.specs.Agendas.{count as count_of};
+ghost use Rattle.deploy_core.specs.Kept.{enters_or_leaves, kind_of_scope};
+ghost use Rattle.deploy_core.specs.Opens.{HasNeeds, IsNeedAdded, IsFirstAgenda, IsFirst};
+
+use arm_value::OutOfMemory;
+use board_history::History;
+use std::alloc::{AllocError, Global};
+use task_agenda::Agenda;
+use task_standings::{Kind, Standings};
+
+// Whether a task of the kind enters or leaves a scope.
+fn is_of_scope(kind: Kind) -> bool
+    ensures { result ≡ kind_of_scope kind }
+{
+    match kind {
+        Kind::Enter => true,
+        Kind::Put => false,
+        Kind::Delete => false,
+        Kind::Leave => true,
+    }
+}
+
+// Of each task, whether it enters or leaves a scope.
+fn kinds<S: Standings>(alloc: Global, standings: &S) -> Result<Vec<bool>, OutOfMemory>
+    requires { S.sound standings.now }
+    ensures kinds { IfOk result (λ v. v.items ≡ map enters_or_leaves (S.planned standings.now).tasks) }
+    ensures few { IfOk result (λ v. length v.items < 2 ^ 32) }
+{
+    let mut kinds = Vec::new(alloc);
+    for task in 0..standings.count() {
+        kinds.push(is_of_scope(standings.kind(task)))?;
+    }
+    Ok(kinds)
+}
+
+// Notes a need of one task for another. A pair of other numbers is left out.
+fn add_need(
+    alloc: Global,
+    agenda: &mut Agenda,
+    count: usize,
+    need: (usize, usize),
+) -> Result<(), OutOfMemory>
+    requires { count ≡ count_of agenda.old }
+    ensures { OnOk result (IsNeedAdded agenda.old agenda.new need) }
+{
+    let (task, other) = need;
+    if task >= count {
+        return Ok(());
+    }
+    if other >= count {
+        return Ok(());
+    }
+    agenda.need(alloc, task as u32, other as u32)
+}
+
+// Notes these needs.
+fn add_needs(
+    alloc: Global,
+    agenda: &mut Agenda,
+    count: usize,
+    needs: &[(usize, usize)],
+) -> Result<(), OutOfMemory>
+    requires count { count ≡ count_of agenda.old }
+    requires none { HasNeeds agenda.old agenda.old.kinds.items [] }
+    ensures { OnOk result (HasNeeds agenda.new agenda.old.kinds.items needs.now) }
+{
+    for need in needs {
+        add_need(alloc, agenda, count, *need)?;
+    }
+    Ok(())
+}
+
+/// The agenda of the tasks with these needs. A task that needs nothing is listed.
+pub(crate) fn first_agenda<S: Standings>(
+    alloc: Global,
+    standings: &S,
+    needs: &[(usize, usize)],
+) -> Result<Agenda, OutOfMemory>
+    requires { S.sound standings.now }
+    ensures { IfOk result (IsFirstAgenda (S.planned standings.now) needs.now) }
+{
+    let kinds = kinds(alloc, standings)?;
+    let count = kinds.len();
+    let mut agenda = Agenda::new(alloc, kinds)?;
+    add_needs(alloc, &mut agenda, count, needs)?;
+    agenda.wake_all()?;
+    Ok(agenda)
+}
+
+/// The history and the agenda of a plan of which nothing has happened.
+#[derive(Drop)]
+pub(crate) struct Parts {
+    pub history: History,
+    pub agenda: Agenda,
+}
+
+/// Fails; the part is dropped.
+pub(crate) fn run_out<T: Drop, R: Drop>(_part: T) -> Result<R, OutOfMemory>
+    ensures { is_ok result ≡ false }
+{
+    Err(AllocError)
+}
+
+/// The history and the agenda of the tasks with these needs.
+pub(crate) fn first_parts<S: Standings>(
+    alloc: Global,
+    standings: &S,
+    needs: &[(usize, usize)],
+) -> Result<Parts, OutOfMemory>
+    requires { S.sound standings.now }
+    ensures { IfOk result (IsFirst (S.planned standings.now) needs.now) }
+{
+    let history = History::new(alloc, standings.count())?;
+    match first_agenda(alloc, standings, needs) {
+        Ok(agenda) => Ok(Parts { history, agenda }),
+        Err(_) => run_out(history),
+    }
+}

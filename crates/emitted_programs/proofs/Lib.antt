@@ -1,0 +1,12 @@
+pub mod OptionLemmas
+pub mod TextLemmas
+pub mod ContentLemmas
+pub mod AboveLemmas
+pub mod InstanceLemmas
+pub mod ScopeLemmas
+pub mod ListingLemmas
+pub mod ResourceLemmas
+pub mod ParameterLemmas
+pub mod RuleLemmas
+pub mod PlainLemmas
+pub mod ProgramLemmas

@@ -138,6 +138,12 @@ resource d 'T/x@1' = {
   }
 }
 ---
+resource d 'T/x@1' = { name: { a: [ p ] }, p: { q: [for x in v: x] } }
+---
+resource d 'T/x@1' = { name: { a: ^[for x in v: x] } }
+---
+module n 'm.bicep' = { name: [ p, { a: { b: ^[for x in v: x] } } ] }
+---
 resource d 'T/x/y@2' = { name: 'a', parent: b }
 ---
 resource d 't/X/y@1' = { name: 'a', parent: (b) }

@@ -9,6 +9,7 @@ use Rattle.bicep_declared.specs.Declarations.{DeclaredTree}
 use Rattle.bicep_declared.specs.Declarations as d
 use Rattle.bicep_placed.specs.Defaults.{mention_in}
 use Rattle.bicep_placed.specs.Links.{bad_depends_on, parent_of}
+use Rattle.bicep_placed.specs.Loops.{loop_in_value}
 use Rattle.bicep_placed.specs.Kinds.{kind_in, known, is_child, whole_kinds}
 use Rattle.foundation.specs.Options.{or_else}
 
@@ -19,6 +20,18 @@ bad_dependent name v = if bytes_eq name (codes "dependsOn") then bad_depends_on 
 abbrev pub bad_dependents : PropertyTrees → Option ℕ
 bad_dependents s.no_property = None
 bad_dependents (s.property at name v ps) = or_else (bad_dependent name v) (bad_dependents ps)
+
+-- the field `name` of a resource or a module: no for-expression is in its value
+abbrev pub bad_name : List ℕ → ValueTree → Option ℕ
+bad_name name v = if bytes_eq name (codes "name") then loop_in_value v else None
+
+abbrev pub bad_names : PropertyTrees → Option ℕ
+bad_names s.no_property = None
+bad_names (s.property at name v ps) = or_else (bad_name name v) (bad_names ps)
+
+-- the fields of a module, and those of a resource beside `parent`
+abbrev pub bad_fields : PropertyTrees → Option ℕ
+bad_fields ps = or_else (bad_names ps) (bad_dependents ps)
 
 -- a parent is a resource whose type is that of the child without its last segment
 abbrev pub bad_parent_by : List (List ℕ) → Quoted → ℕ → Option ℕ → Option ℕ
@@ -39,8 +52,8 @@ abbrev pub bad_declaration : List (List ℕ) → DeclaredTree → Option ℕ
 bad_declaration kinds (d.parameter at t) = None
 bad_declaration kinds (d.parameter_with at t e) = mention_in e
 bad_declaration kinds (d.variable at v) = None
-bad_declaration kinds (d.a_resource at q existing b) = or_else (bad_parents kinds q b.fields) (bad_dependents b.fields)
-bad_declaration kinds (d.a_module at b) = bad_dependents b.fields
+bad_declaration kinds (d.a_resource at q existing b) = or_else (bad_parents kinds q b.fields) (bad_fields b.fields)
+bad_declaration kinds (d.a_module at b) = bad_fields b.fields
 
 abbrev pub bad_declarations : List (List ℕ) → List DeclaredTree → Option ℕ
 bad_declarations kinds [] = None

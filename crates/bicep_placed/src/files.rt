@@ -9,6 +9,7 @@ ghost use Rattle.foundation.specs.Options.{or_else};
 use crate::defaults::mention_in;
 use crate::kinds::{is_child, known, whole_kinds};
 use crate::links::{bad_depends_on, parent_of};
+use crate::loops::loop_in_value;
 use arm_value::{OutOfMemory, Text};
 use bicep_declared::Declared;
 use bicep_resolved::Property;
@@ -37,6 +38,39 @@ fn bad_dependents(fields: &[Property]) -> Option<usize>
         }
     }
     None
+}
+
+// The field `name`.
+#[tactic(auto, using(bicep_resolved::proofs::ViewLemmas::structs))]
+fn bad_name(field: &Property) -> Option<usize>
+    ensures { result ≡ spec.bad_name (view.property_of field.now).1 (view.property_of field.now).2 }
+{
+    if is_word(field.name.as_str(), "name") {
+        return loop_in_value(&field.value);
+    }
+    None
+}
+
+fn bad_names(fields: &[Property]) -> Option<usize>
+    ensures { result ≡ spec.bad_names (properties (map view.property_of fields.now)) }
+{
+    for field in fields {
+        match bad_name(field) {
+            Some(at) => return Some(at),
+            None => {}
+        }
+    }
+    None
+}
+
+// The fields of a module, and those of a resource beside `parent`.
+fn bad_fields(fields: &[Property]) -> Option<usize>
+    ensures { result ≡ spec.bad_fields (properties (map view.property_of fields.now)) }
+{
+    match bad_names(fields) {
+        Some(at) => Some(at),
+        None => bad_dependents(fields),
+    }
 }
 
 fn bad_parent_by(
@@ -108,11 +142,11 @@ fn bad_resource(
 ) -> Result<Option<usize>, OutOfMemory>
     ensures { IfOk result (λ o. o ≡ or_else
         (spec.bad_parents kinds.now path.now (properties (map view.property_of fields.now)))
-        (spec.bad_dependents (properties (map view.property_of fields.now)))) }
+        (spec.bad_fields (properties (map view.property_of fields.now)))) }
 {
     match bad_parents(alloc, kinds, path, fields)? {
         Some(at) => Ok(Some(at)),
-        None => Ok(bad_dependents(fields)),
+        None => Ok(bad_fields(fields)),
     }
 }
 
@@ -129,7 +163,7 @@ fn bad_declaration(
         Declared::Resource(_, path, _, body) => {
             bad_resource(alloc, kinds, path, body.fields.as_slice())
         }
-        Declared::Module(_, body) => Ok(bad_dependents(body.fields.as_slice())),
+        Declared::Module(_, body) => Ok(bad_fields(body.fields.as_slice())),
     }
 }
 

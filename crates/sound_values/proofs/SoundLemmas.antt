@@ -257,7 +257,7 @@ names_are sc (tree.and_member (tree.property l v) ms) ls ps e =
     sym (ap names g.made) ∙ ap (λ ns. label_text l ∷ ns) (names_are sc ms ls g.part.1 h.second)
 names_are sc (tree.and_member (tree.child ds r) ms) ls ps e = names_are sc ms ls ps e
 
-members_differ : (sc : Scope) (ms : MemberTrees) (ls : List LoopNames) (ps : PropertyTrees)
+pub members_differ : (sc : Scope) (ms : MemberTrees) (ls : List LoopNames) (ps : PropertyTrees)
     → resolved_members sc ms ls ≡ found ps → repeated_label ms ≡ None → Differ (names ps)
 members_differ sc ms ls ps e r = subst Differ (sym (names_are sc ms ls ps e)) (names_differ [] ms r).differ
 

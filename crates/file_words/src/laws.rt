@@ -1,0 +1,41 @@
+//! What holds of the files of programs that are read. A law has no body: its contract is the law.
+ghost use Rattle.std.specs.Prelude.{◌≡◌, ℕ, List, Some, map, slice_get};
+ghost use Rattle.std.specs.List.{AllByRecursion};
+ghost use Rattle.bicep_tree.specs.Tree.{FileTree};
+ghost use Rattle.bicep_program.specs.Program.{ProgramFile};
+ghost use Rattle.bicep_program.specs.Sources.{Folder, IsReadAs};
+ghost use Rattle.resolved_program.specs.Programs.{ResolvedFileTree, IsResolved};
+ghost use Rattle.bicep_meaning.specs.Files.{SourceFile};
+ghost use Rattle.emitted_names.specs.Words.{FileHasWords, OutputsAreNames};
+ghost use Rattle.sound_files.specs.Few.{FileHasFew};
+ghost use Rattle.sound_files.specs.Files.{IsFileOf};
+ghost use Rattle.file_words.specs.Words.{FileIsWorded};
+
+/// A file that is read has names of template expressions, and texts with at most 2^64 holes.
+pub fn read_files_are_worded()
+    ensures { (folder : Folder) (name : List ℕ) (file : FileTree) → IsReadAs folder name file → FileIsWorded file }
+{}
+
+/// The texts of each file of a program, whose files are read as `load` of `bicep_program` says, have few holes once
+/// its names are found.
+pub fn texts_have_few_holes()
+    ensures { (folder : Folder) (files : List ProgramFile)
+        → AllByRecursion (λ p. IsReadAs folder p.name p.tree) files → (rs : List ResolvedFileTree)
+        → IsResolved files rs → (k : ℕ) (r : ResolvedFileTree) → slice_get rs k ≡ Some r → FileHasFew r.declared }
+{}
+
+/// The names in what such a file declares are names of template expressions.
+pub fn names_are_words()
+    ensures { (folder : Folder) (files : List ProgramFile)
+        → AllByRecursion (λ p. IsReadAs folder p.name p.tree) files → (rs : List ResolvedFileTree)
+        → IsResolved files rs → (k : ℕ) (r : ResolvedFileTree) → slice_get rs k ≡ Some r
+        → (f : SourceFile) → IsFileOf r f → FileHasWords f }
+{}
+
+/// So are the names of the outputs of all files.
+pub fn outputs_are_words()
+    ensures { (folder : Folder) (files : List ProgramFile)
+        → AllByRecursion (λ p. IsReadAs folder p.name p.tree) files → (rs : List ResolvedFileTree)
+        → IsResolved files rs → (fs : List SourceFile) → map (λ f. f.outputs) fs ≡ map (λ r. r.outputs) rs
+        → OutputsAreNames fs }
+{}

@@ -43,11 +43,13 @@ use Rattle.sound_files.specs.Few.{LoopHasFew, ConditionHasFew, BodyHasFew, Decla
 use Rattle.sound_values.specs.FewHoles.{ValueHasFew}
 use Rattle.sound_files.specs.Files.{IsFileOf}
 use Rattle.sound_files.proofs.SoundLemmas.{by_around}
+use Rattle.tree_names.specs.Words.{ValueHasAllWords, LoopHasWords, ConditionHasWords, BodyHasWords, DeclaredHasWords}
+use Rattle.tree_names.specs.Words.{FileHasAllWords}
 use Rattle.file_words.specs.Words.{ObjectIsWorded, MembersAreWorded, MemberIsWorded, LoopIsWorded, ResourceIsWorded}
 use Rattle.file_words.specs.Words.{BodyIsWorded, IsDeclaredWorded, FileIsWorded}
 use Rattle.file_words.proofs.TokenLemmas.{tokens_fine, count_of_tokens}
 use Rattle.file_words.proofs.ReadLemmas.{read_file}
-use Rattle.file_words.proofs.WordLemmas.{Good, GoodValue, AreGood, members_few, worded, worded_members, worded_value}
+use Rattle.file_words.proofs.WordLemmas.{Good, GoodValue, AreGood, members_few, members_all, worded, worded_members, worded_value}
 
 -- ---- files that are read
 
@@ -271,7 +273,42 @@ file_few x h = record {
   outputs = outputs_few x.outputs h.outputs;
 }
 
--- ---- names
+-- ---- names, also inside for-expressions
+
+loop_has : (o : Option LoopTree) → GoodLoop o → LoopHasWords o
+loop_has None h = tt
+loop_has (Some (s.loop at xs)) h = h.words
+
+condition_has : (o : Option SourceTree) → GoodCondition o → ConditionHasWords o
+condition_has None h = tt
+condition_has (Some c) h = h.words
+
+body_has : (b : d.BodyTree) → GoodBody b → BodyHasWords b
+body_has b h = (loop_has b.each h.each, (condition_has b.condition h.condition, members_all b.fields h.fields))
+
+declared_has : (x : DeclaredTree) → IsGood x → DeclaredHasWords x
+declared_has (d.parameter at t) h = tt
+declared_has (d.parameter_with at t e) h = h.all
+declared_has (d.variable at v) h = h.all
+declared_has (d.a_resource at q existing b) h = body_has b h
+declared_has (d.a_module at b) h = body_has b h
+
+all_have : (xs : List DeclaredTree) → AllByRecursion IsGood xs → AllByRecursion DeclaredHasWords xs
+all_have [] h = tt
+all_have (x ∷ xs) h = (declared_has x h.0, all_have xs h.1)
+
+outputs_have : (os : List OutputTree) → AllByRecursion (λ o. GoodValue o.value) os
+    → AllByRecursion (λ o. ValueHasAllWords o.value) os
+outputs_have [] h = tt
+outputs_have (o ∷ os) h = (h.0.all, outputs_have os h.1)
+
+file_has_all : (x : DeclaredFileTree) → FileIsGood x → FileHasAllWords x
+file_has_all x h = record {
+  declarations = all_have x.declarations h.declarations;
+  outputs = outputs_have x.outputs h.outputs;
+}
+
+-- ---- names that expressions use
 
 good_by : (name : List ℕ) (y v : ValueTree) (ps : PropertyTrees) (b : Bool) → GoodValue y
     → (field_named name ps ≡ Some v → GoodValue v) → (if b then Some y else field_named name ps) ≡ Some v → GoodValue v
@@ -355,6 +392,9 @@ module _ (folder : Folder) (ps : List ProgramFile) (read : AllByRecursion (λ p.
 
   pub few_holes : FileHasFew r.declared
   few_holes = file_few r.declared resolved_good
+
+  pub words_of_values : FileHasAllWords r.declared
+  words_of_values = file_has_all r.declared resolved_good
 
   pub words_of_file : (f : SourceFile) → IsFileOf r f → FileHasWords f
   words_of_file f own = file_has_words f (subst FileIsGood (sym own.declared) resolved_good)

@@ -9,6 +9,7 @@ ghost use Rattle.bicep_meaning.specs.Files.{SourceFile};
 ghost use Rattle.emitted_names.specs.Words.{FileHasWords, OutputsAreNames};
 ghost use Rattle.sound_files.specs.Few.{FileHasFew};
 ghost use Rattle.sound_files.specs.Files.{IsFileOf};
+ghost use Rattle.tree_names.specs.Words.{FileHasAllWords};
 ghost use Rattle.file_words.specs.Words.{FileIsWorded};
 
 /// A file that is read has names of template expressions, and texts with at most 2^64 holes.
@@ -30,6 +31,14 @@ pub fn names_are_words()
         → AllByRecursion (λ p. IsReadAs folder p.name p.tree) files → (rs : List ResolvedFileTree)
         → IsResolved files rs → (k : ℕ) (r : ResolvedFileTree) → slice_get rs k ≡ Some r
         → (f : SourceFile) → IsFileOf r f → FileHasWords f }
+{}
+
+/// So are the names in its values, also inside for-expressions.
+pub fn names_of_values_are_words()
+    ensures { (folder : Folder) (files : List ProgramFile)
+        → AllByRecursion (λ p. IsReadAs folder p.name p.tree) files → (rs : List ResolvedFileTree)
+        → IsResolved files rs → (k : ℕ) (r : ResolvedFileTree) → slice_get rs k ≡ Some r
+        → FileHasAllWords r.declared }
 {}
 
 /// So are the names of the outputs of all files.

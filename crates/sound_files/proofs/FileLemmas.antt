@@ -41,10 +41,10 @@ use Rattle.bicep_meaning.specs.Files.{SourceFile}
 use Rattle.declaration_laws.specs.Sound.{IsSound}
 use Rattle.ordered_emissions.specs.Orders.{IsPaired, IsOrderOf}
 use Rattle.sound_values.proofs.FoundLemmas.{of_mapped, of_both, first_none, second_none}
-use Rattle.sound_files.specs.Few.{FileHasFew}
+use Rattle.sound_declarations.specs.Few.{FileHasFew}
 use Rattle.sound_files.specs.Files.{IsFileOf}
-use Rattle.sound_files.specs.Values.{AreValuesSound}
-use Rattle.sound_files.proofs.DeclaredLemmas.{FileIsGood, file_good, values_sound}
+use Rattle.sound_declarations.specs.Values.{AreValuesSound}
+use Rattle.sound_declarations.proofs.DeclaredLemmas.{FileIsGood, file_good, values_sound}
 use Rattle.sound_files.proofs.KindLemmas.{types_of}
 use Rattle.sound_files.proofs.LineLemmas.{LinedFrom, file_lined}
 use Rattle.sound_files.proofs.SoundLemmas.{Checked, file_sound}

@@ -1,10 +1,6 @@
-pub mod BodyLemmas
-pub mod CleanLemmas
-pub mod DeclaredLemmas
 pub mod FileLemmas
 pub mod KindLemmas
 pub mod LineLemmas
 pub mod ListLemmas
-pub mod PlainLemmas
 pub mod SoundLemmas
 pub mod TextLemmas

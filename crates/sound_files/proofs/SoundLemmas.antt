@@ -33,11 +33,11 @@ use Rattle.bicep_emission.specs.Emittable.{IsValue}
 use Rattle.emitted_declarations.specs.ChildTypes.{IsChildType}
 use Rattle.declaration_laws.specs.Sound.{IsResourceType, IsSound}
 use Rattle.sound_values.proofs.FoundLemmas.{first_none, second_none}
-use Rattle.sound_files.specs.Values.{IsLoopSound, IsConditionSound}
+use Rattle.sound_declarations.specs.Values.{IsLoopSound, IsConditionSound}
 use Rattle.sound_files.proofs.ListLemmas.{There, there, within}
 use Rattle.sound_files.proofs.TextLemmas.{child_segments, no_parent as not_child}
-use Rattle.sound_files.proofs.BodyLemmas.{BodyGood, link_named}
-use Rattle.sound_files.proofs.DeclaredLemmas.{IsGood, IsPlainEmittable}
+use Rattle.sound_declarations.proofs.BodyLemmas.{BodyGood, link_named}
+use Rattle.sound_declarations.proofs.DeclaredLemmas.{IsGood, IsPlainEmittable}
 use Rattle.sound_files.proofs.KindLemmas.{IsTyped, IsWhole, TypesOf, same_around, type_is}
 
 -- ---- fields

@@ -12,9 +12,9 @@ ghost use Rattle.bicep_types.specs.declared.fault.CheckFault.{CheckFault as Faul
 ghost use Rattle.bicep_meaning.specs.Files.{SourceFile};
 ghost use Rattle.declaration_laws.specs.Sound.{IsSound};
 ghost use Rattle.ordered_emissions.specs.Orders.{IsPaired, IsOrderOf};
-ghost use Rattle.sound_files.specs.Few.{FileHasFew};
+ghost use Rattle.sound_declarations.specs.Few.{FileHasFew};
 ghost use Rattle.sound_files.specs.Files.{IsFileOf};
-ghost use Rattle.sound_files.specs.Values.{AreValuesSound};
+ghost use Rattle.sound_declarations.specs.Values.{AreValuesSound};
 
 /// Each file of a program in which `check` finds nothing wrong, as its clauses `checked` and `none` say, is sound.
 pub fn checked_files_are_sound()

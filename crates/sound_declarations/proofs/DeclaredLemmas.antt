@@ -25,10 +25,10 @@ use Rattle.bicep_numbers.proofs.FoundLemmas.{all-append}
 use Rattle.sound_values.specs.FewHoles.{ValueHasFew}
 use Rattle.sound_values.proofs.FoundLemmas.{of_mapped, of_both, same_found}
 use Rattle.sound_values.proofs.SoundLemmas.{good, whole_sound}
-use Rattle.sound_files.specs.Few.{DeclaredHasFew, FileHasFew}
-use Rattle.sound_files.specs.Values.{IsDeclaredSound, AreValuesSound}
-use Rattle.sound_files.proofs.BodyLemmas.{BodyGood, body_good}
-use Rattle.sound_files.proofs.CleanLemmas.{IsClean, AreClean, file_is_clean}
+use Rattle.sound_declarations.specs.Few.{DeclaredHasFew, FileHasFew}
+use Rattle.sound_declarations.specs.Values.{IsDeclaredSound, AreValuesSound}
+use Rattle.sound_declarations.proofs.BodyLemmas.{BodyGood, body_good}
+use Rattle.sound_declarations.proofs.CleanLemmas.{IsClean, AreClean, file_is_clean}
 
 -- a value that is no for-expression can be emitted
 abbrev pub IsPlainEmittable : ValueTree → Type 0

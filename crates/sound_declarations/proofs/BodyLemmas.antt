@@ -39,9 +39,9 @@ use Rattle.sound_values.specs.FewHoles.{HasFewHoles, MembersHaveFew, ValueHasFew
 use Rattle.sound_values.proofs.FoundLemmas.{of_mapped, of_both, first_none, second_none}
 use Rattle.sound_values.proofs.NameLemmas.{not_copy}
 use Rattle.sound_values.proofs.SoundLemmas.{ReachIsGood, good, field_sound, members_differ}
-use Rattle.sound_files.specs.Few.{BodyHasFew}
-use Rattle.sound_files.specs.Values.{IsBodySound}
-use Rattle.sound_files.proofs.PlainLemmas.{inside_plain}
+use Rattle.sound_declarations.specs.Few.{BodyHasFew}
+use Rattle.sound_declarations.specs.Values.{IsBodySound}
+use Rattle.sound_declarations.proofs.PlainLemmas.{inside_plain}
 
 -- what a field may be: the resource in the field `parent`, and a name
 pub record Link (v : ValueTree) : Type 0 where

@@ -1,0 +1,4 @@
+pub mod BodyLemmas
+pub mod CleanLemmas
+pub mod DeclaredLemmas
+pub mod PlainLemmas

@@ -22,7 +22,7 @@ use Rattle.bicep_resolved.specs.Source.{SourceTree, SourceTrees, PieceTrees, Pro
 use Rattle.bicep_resolved.specs.Source as s
 use Rattle.bicep_resolved.specs.Place.{reach_offset}
 use Rattle.bicep_resolved.specs.Target.{number_of, target_of}
-use Rattle.bicep_found.specs.Found.{Found, found, both}
+use Rattle.bicep_found.specs.Found.{Found, both}
 use Rattle.bicep_names.specs.declared.kind.Named.{Named}
 use Rattle.bicep_names.specs.declared.kind.Named.TheVariants as named
 use Rattle.bicep_names.specs.Functions.{may_call}

@@ -18,15 +18,16 @@ use Rattle.plan_assembly.specs.Plans.{deployment_of, known_in, work_with, task_i
 use Rattle.plan_assembly.proofs.WorkLemmas.{known_at_start}
 use Rattle.plan_faults.specs.Faults.{IsFault}
 use Rattle.plan_faults.specs.declared.fault.PlanFault.TheVariants as fault
-use Rattle.fault_exactness.specs.Exact.{HaveOwnKeys, NoneExtra}
-use Rattle.fault_exactness.proofs.ExactLemmas.{same_never, bind_never, limit_never}
+use Rattle.fault_exactness.specs.Exact.{HaveOwnKeys, NoneExtra, NameOneKey}
+use Rattle.fault_exactness.proofs.ExactLemmas.{same_never, bind_never, limit_never, unknown_never, ambiguous_never}
 use Rattle.fault_exactness.proofs.KeyLemmas.{one_start}
 use Rattle.arm_plan.specs.Accepted.{IsAccepted}
 
 module _ (p : Plan) (held : List HeldResource) (planned : IsPlanned p held)
     (settled : AreSettled (rows_in p.start.register.table))
     (keys : HaveOwnKeys (whole_of p.start.register.table) (start_of p.start.register.table))
-    (none : NoneExtra (whole_of p.start.register.table) (start_of p.start.register.table)) where
+    (none : NoneExtra (whole_of p.start.register.table) (start_of p.start.register.table))
+    (names : NameOneKey (whole_of p.start.register.table) (start_of p.start.register.table)) where
   abbrev t : Table
   t = p.start.register.table
 
@@ -39,6 +40,17 @@ module _ (p : Plan) (held : List HeldResource) (planned : IsPlanned p held)
   no_bind path f h =
       let g = subst (λ (d : Deployment). IsFault d p.mode held (fault.Bind path f)) (sym planned.whole) h in
       bind_never t planned.table path f settled none g.0 g.1.0 g.1.1
+
+  no_unknown : (path : List ℕ) → IsFault (deployment_of p) p.mode held (fault.UnknownDependency path) → ⊥
+  no_unknown path h =
+      let g = subst (λ (d : Deployment). IsFault d p.mode held (fault.UnknownDependency path)) (sym planned.whole) h in
+      unknown_never t planned.table path names g.0 g.1.1.0 g.1.1.1
+
+  no_ambiguous : (path : List ℕ) → IsFault (deployment_of p) p.mode held (fault.AmbiguousDependency path) → ⊥
+  no_ambiguous path h =
+      let g =
+      subst (λ (d : Deployment). IsFault d p.mode held (fault.AmbiguousDependency path)) (sym planned.whole) h in
+      ambiguous_never t planned.table path names g.0 g.1.1.0 g.1.1.1
 
   same_work : (x y : Work) (u : Told Cell Work) → u ≡ value x → u ≡ value y → length x.tasks ≡ length y.tasks
   same_work x y u e g = let same : x ≡ y = cc in ap (λ (z : Work). length z.tasks) same
@@ -70,13 +82,16 @@ module _ (p : Plan) (held : List HeldResource) (planned : IsPlanned p held)
     no_same_key = no_same_key;
     no_bind = no_bind;
     no_limit = no_limit few;
+    no_unknown = no_unknown;
+    no_ambiguous = no_ambiguous;
   }
 
 -- by the table that a plan was made of
 pub accepted : (p : Plan) (held : List HeldResource) (t : Table) → IsPlanned p held → p.start.register.table ≡ t
     → AreSettled (rows_in t) → HaveOwnKeys (whole_of t) (start_of t) → NoneExtra (whole_of t) (start_of t)
-    → length p.tasks.items ≤ 4294967295 → IsAccepted p held
-accepted p held t planned e settled keys none few =
+    → NameOneKey (whole_of t) (start_of t) → length p.tasks.items ≤ 4294967295 → IsAccepted p held
+accepted p held t planned e settled keys none names few =
     is_accepted p held planned (subst (λ (u : Table). AreSettled (rows_in u)) (sym e) settled)
     (subst (λ (u : Table). HaveOwnKeys (whole_of u) (start_of u)) (sym e) keys)
-    (subst (λ (u : Table). NoneExtra (whole_of u) (start_of u)) (sym e) none) few
+    (subst (λ (u : Table). NoneExtra (whole_of u) (start_of u)) (sym e) none)
+    (subst (λ (u : Table). NameOneKey (whole_of u) (start_of u)) (sym e) names) few

@@ -7,7 +7,7 @@ ghost use Rattle.plan_start.specs.Sheets.{IsSheet};
 ghost use Rattle.plan_settling.specs.Refused.{AreSettled};
 ghost use Rattle.plan_assembly.specs.Plans.{ArePlanned, deployment_of};
 ghost use Rattle.plan_faults.specs.Faults.{IsFault};
-ghost use Rattle.fault_exactness.specs.Exact.{HaveOwnKeys, NoneExtra};
+ghost use Rattle.fault_exactness.specs.Exact.{HaveOwnKeys, NoneExtra, NameOneKey};
 ghost use Rattle.arm_plan.specs.Accepted.{IsAccepted};
 
 use plan_assembly::plan::Plan;
@@ -33,6 +33,7 @@ pub fn plan_with<'a>(start: Start<'a>, mode: Mode, parts: Parts) -> Result<Plan<
     requires settled { AreSettled (rows_in start.register.table) }
     requires keys { HaveOwnKeys (whole_of start.register.table) (start_of start.register.table) }
     requires none_extra { NoneExtra (whole_of start.register.table) (start_of start.register.table) }
+    requires names { NameOneKey (whole_of start.register.table) (start_of start.register.table) }
     ensures accepted { IfOk result (λ p. (held : List HeldResource) → ArePlanned start.entry.register.table mode held
         parts.tasks.items parts.keys.items parts.needs.items → IsAccepted p held) }
     ensures whole { IfOk result (λ p. deployment_of p ≡ whole_of start.entry.register.table) }

@@ -16,7 +16,7 @@ ghost use Rattle.plan_elements.specs.Elements.{IsUnread};
 ghost use Rattle.plan_assembly.specs.Plans.{deployment_of};
 ghost use Rattle.plan_settling.specs.Refused.{AreSettled};
 ghost use Rattle.plan_faults.specs.Faults.{IsFault};
-ghost use Rattle.fault_exactness.specs.Exact.{HaveOwnKeys, NoneExtra};
+ghost use Rattle.fault_exactness.specs.Exact.{HaveOwnKeys, NoneExtra, NameOneKey};
 ghost use Rattle.arm_plan.specs.Accepted.{IsAccepted};
 
 use crate::checking::check_sheet;
@@ -75,6 +75,7 @@ fn plan_checked<'a>(
     requires settled { AreSettled (rows_in start.register.table) }
     requires keys { HaveOwnKeys (whole_of start.register.table) (start_of start.register.table) }
     requires none_extra { NoneExtra (whole_of start.register.table) (start_of start.register.table) }
+    requires names { NameOneKey (whole_of start.register.table) (start_of start.register.table) }
     ensures accepted { IfOk result (λ p. IsAccepted p held.now) }
     ensures whole { IfOk result (λ p. deployment_of p ≡ whole_of start.entry.register.table) }
     ensures mode { IfOk result (λ p. p.mode ≡ mode) }
@@ -104,7 +105,7 @@ fn plan_settled<'a>(
     ensures mode { IfOk result (λ p. p.mode ≡ mode) }
     ensures fault { IfErr result (IsFault (whole_of start.entry.register.table) mode held.now) }
 {
-    match check_sheet(alloc, &start.register.table) {
+    match check_sheet(alloc, &start.register) {
         Ok(()) => plan_checked(alloc, start, mode, held),
         Err(fault) => failed(fault, start),
     }

@@ -25,4 +25,5 @@ returns-else-tasks-gt-MAX_TASKS-clause-accepted c = λ held a.
     let h = c.if-tasks-gt-MAX_TASKS.false in
     let e = ap (λ (us : List Task). length us) c.assemble.ensures.tasks in
     accepted c.assemble.result held c.args.start.register.table (c.assemble.ensures.planned held a)
-    c.assemble.ensures.table c.requires.settled c.requires.keys c.requires.none_extra (omega (arith, n, h, e))
+    c.assemble.ensures.table c.requires.settled c.requires.keys c.requires.none_extra c.requires.names
+    (omega (arith, n, h, e))

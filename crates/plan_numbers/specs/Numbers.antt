@@ -1,5 +1,6 @@
 -- The numbers of the tasks of a plan: who puts at a key, and who enters and leaves a scope.
-use Rattle.std.specs.Prelude.{◌≡◌, ℕ, ◌<◌, zero, suc, false, List, [], ◌∷◌, map, drop, length, slice_get, Option, Some, None}
+use Rattle.std.specs.Prelude.{◌≡◌, ℕ, ◌<◌, ◌≤◌, zero, suc, false, List, [], ◌∷◌, map, drop, length, slice_get}
+use Rattle.std.specs.Prelude.{Option, Some, None}
 use Rattle.arm_ids.specs.declared.id.ResourceId.{ResourceId}
 use Rattle.reading.specs.World.{Each}
 use Rattle.tag_places.specs.Places.{Tag, first_place, ArePlaces}
@@ -44,6 +45,11 @@ put_tags (Delete k ∷ us) ks = None ∷ put_tags us ks
 abbrev pub AreApart : List (Option Tag) → Type 0
 AreApart os = (i j : ℕ) (t : Tag) → slice_get os i ≡ Some (Some t) → slice_get os j ≡ Some (Some t) → i ≡ j
 
+-- each of these tasks that puts has a key, and no two put at one
+pub record HaveOwnKeys (us : List Task) (ks : List ResourceId) : Type 0 where
+  pub enough : puts_in us ≤ length ks
+  pub apart : AreApart (put_tags us ks)
+
 -- the tag of a scope that is entered, and of one that is left
 abbrev pub enter_tag : Task → Option Tag
 enter_tag (Enter f) = Some (f ∷ [])
@@ -73,13 +79,18 @@ IsOfTable t (Delete k) = Unit {0}
 abbrev pub HasPlace : List (Option Tag) → ℕ → Type 0
 HasPlace os f = (u : ℕ) × (first_place (f ∷ []) os ≡ Some u)
 
--- these are the numbers of the tasks; no two put at one key; each scope of the table is entered and left; and each task
--- is of the table
-pub record AreNumbers (t : Table) (us : List Task) (ks : List ResourceId) (n : Numbers) : Type 0 where
-  pub puts : ArePlaces n.puts (put_tags us ks)
-  pub apart : AreApart (put_tags us ks)
-  pub enters : ArePlaces n.enters (map enter_tag us)
-  pub leaves : ArePlaces n.leaves (map leave_tag us)
+-- each scope of the table is entered and left, by tasks that are of the table; no two put at one key; and their numbers
+-- have at most 32 bits
+pub record AreOfScopes (t : Table) (us : List Task) (ks : List ResourceId) : Type 0 where
+  pub few : length us ≤ 4294967295
+  pub keys : HaveOwnKeys us ks
   pub entered : (f : ℕ) → f < length t.frames.items → HasPlace (map enter_tag us) f
   pub left : (f : ℕ) → f < length t.frames.items → HasPlace (map leave_tag us) f
   pub of_table : Each (IsOfTable t) us
+
+-- these are the numbers of such tasks
+pub record AreNumbers (t : Table) (us : List Task) (ks : List ResourceId) (n : Numbers) : Type 0 where
+  pub of_scopes : AreOfScopes t us ks
+  pub puts : ArePlaces n.puts (put_tags us ks)
+  pub enters : ArePlaces n.enters (map enter_tag us)
+  pub leaves : ArePlaces n.leaves (map leave_tag us)

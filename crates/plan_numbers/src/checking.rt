@@ -1,5 +1,5 @@
 // Whether tasks are of a table.
-ghost use Rattle.std.specs.Prelude.{◌≡◌, ◌<◌, ℕ, true, List, Option, IfOk};
+ghost use Rattle.std.specs.Prelude.{◌<◌, ◌≤◌, ℕ, List, Option, IfOk, Decides, length};
 ghost use Rattle.reading.specs.World.{Each};
 ghost use Rattle.tag_places.specs.Places.{Tag, ArePlaces};
 ghost use Rattle.plan_table.specs.Listed.{listed_of};
@@ -18,7 +18,7 @@ use template_tree::Body;
 
 // Whether the resource is put: it is no nested deployment, and not existing.
 fn is_put(listed: &Listed) -> bool
-    ensures { result ≡ true → IsPutResource (listed_of listed.now) }
+    ensures { Decides result (IsPutResource (listed_of listed.now)) }
 {
     if listed.declaration.existing {
         return false;
@@ -31,7 +31,7 @@ fn is_put(listed: &Listed) -> bool
 
 // Whether the instance is of a resource of the scope that is put.
 fn is_instance(table: &Table, frame: usize, resource: usize, copy: usize) -> bool
-    ensures { result ≡ true → IsOfTable table.now (Put frame resource copy) }
+    ensures { Decides result (IsOfTable table.now (Put frame resource copy)) }
 {
     if copy >= MAX_INSTANCES_OF_TEMPLATE || frame >= table.frames.len() {
         return false;
@@ -45,7 +45,7 @@ fn is_instance(table: &Table, frame: usize, resource: usize, copy: usize) -> boo
 
 // Whether the task is of the table.
 fn is_of_table(table: &Table, task: &Task) -> bool
-    ensures { result ≡ true → IsOfTable table.now task.now }
+    ensures { Decides result (IsOfTable table.now task.now) }
 {
     match task {
         Task::Enter(frame) => *frame < table.frames.len(),
@@ -55,9 +55,16 @@ fn is_of_table(table: &Table, task: &Task) -> bool
     }
 }
 
+/// Whether the numbers of the tasks have at most 32 bits.
+pub(crate) fn are_few(tasks: &[Task]) -> bool
+    ensures { Decides result (length tasks.now ≤ 4294967295) }
+{
+    tasks.len() <= 4_294_967_295
+}
+
 /// Whether each task is of the table.
 pub(crate) fn are_of_table(table: &Table, tasks: &[Task]) -> bool
-    ensures { result ≡ true → Each (IsOfTable table.now) tasks.now }
+    ensures { Decides result (Each (IsOfTable table.now) tasks.now) }
 {
     'tasks: for task in tasks {
         if !is_of_table(table, task) {
@@ -70,7 +77,7 @@ pub(crate) fn are_of_table(table: &Table, tasks: &[Task]) -> bool
 /// Whether each of so many scopes has a place.
 pub(crate) fn have_places(alloc: Global, places: &Places, count: usize) -> Result<bool, OutOfMemory>
     ensures { (os : List (Option Tag)) → ArePlaces places.now os
-        → IfOk result (λ b. b ≡ true → (f : ℕ) → f < count → HasPlace os f) }
+        → IfOk result (λ b. Decides b ((f : ℕ) → f < count → HasPlace os f)) }
 {
     'scopes: for frame in 0..count {
         let tag = scope_tag(alloc, frame)?;

@@ -1,7 +1,7 @@
 //! The numbers of the tasks of a plan: of the one that puts at a key, and of those that enter and leave a scope.
 //!
-//! `number_tasks` makes `Numbers` of a plan, and `putter_of`, `enter_of` and `leave_of` look one up. `specs/Numbers` has
-//! the definitions.
+//! `number_tasks` makes `Numbers` of a plan, and `putter_of`, `enter_of` and `leave_of` look one up. `specs/Numbers`
+//! has the definitions.
 #![tactic(auto)]
 
 mod checking;

@@ -1,13 +1,13 @@
 // The numbers of tasks are listed.
-ghost use Rattle.std.specs.Prelude.{◌≡◌, ◌≤◌, ◌<◌, ◌++◌, ◌∷◌, [], ℕ, List, Option, Some, None, Ok, IfOk, MatchOption};
-ghost use Rattle.std.specs.Prelude.{true, ◌&&◌, map, length};
+ghost use Rattle.std.specs.Prelude.{◌≡◌, ◌≤◌, ◌++◌, ◌∷◌, [], List, Option, Some, None, Ok, IfOk, MatchOption, Decides};
+ghost use Rattle.std.specs.Prelude.{◌&&◌, map, length};
 ghost use Rattle.arm_ids.specs.declared.id.ResourceId.{ResourceId};
 ghost use Rattle.tag_places.specs.Places.{Tag, ArePlaces};
 ghost use Rattle.plan_assembly.specs.declared.plan.Task.{Task};
-ghost use Rattle.plan_numbers.specs.Numbers.{key_tag, put_tags, puts_in, enter_tag, leave_tag, AreApart, AreNumbers};
+ghost use Rattle.plan_numbers.specs.Numbers.{puts_in, enter_tag, leave_tag, HaveOwnKeys, AreOfScopes, AreNumbers};
 ghost use Rattle.plan_numbers.specs.Steps.{IsNumbered, AddsKey, AreListed};
 
-use crate::checking::{are_of_table, have_places};
+use crate::checking::{are_few, are_of_table, have_places};
 use crate::looking::scope_tag;
 use crate::numbers::Numbers;
 use arm_ids::Key;
@@ -49,8 +49,8 @@ fn number_put(
 ) -> Result<Option<usize>, OutOfMemory>
     requires { used ≤ number }
     ensures { (us : List Task) → IsNumbered places.old us keys.now → number ≡ length us → used ≡ puts_in us
-        → IfOk result (λ o. MatchOption o (Unit {0}) (λ n. IsNumbered places.new (us ++ task.now ∷ []) keys.now
-        × (n ≡ puts_in (us ++ task.now ∷ [])))) }
+        → IfOk result (λ o. MatchOption o (HaveOwnKeys (us ++ task.now ∷ []) keys.now → ⊥)
+        (λ n. IsNumbered places.new (us ++ task.now ∷ []) keys.now × (n ≡ puts_in (us ++ task.now ∷ [])))) }
 {
     match task {
         Task::Put(_, _, _) => match keys.get(used) {
@@ -69,7 +69,8 @@ fn number_put(
 
 // The numbers of puts by their keys; none where two put at one key.
 fn number_puts(alloc: Global, tasks: &[Task], keys: &[Key]) -> Result<Option<Places>, OutOfMemory>
-    ensures { IfOk result (λ o. MatchOption o (Unit {0}) (λ m. IsNumbered m tasks.now keys.now)) }
+    ensures { IfOk result (λ o. MatchOption o (HaveOwnKeys tasks.now keys.now → ⊥)
+        (λ m. IsNumbered m tasks.now keys.now)) }
 {
     let mut places = no_places(alloc);
     let mut used = 0;
@@ -162,7 +163,8 @@ fn number_leaves(alloc: Global, tasks: &[Task]) -> Result<Places, OutOfMemory>
 
 // The numbers of all, where no two put at one key.
 fn number_all(alloc: Global, tasks: &[Task], keys: &[Key]) -> Result<Option<Numbers>, OutOfMemory>
-    ensures { IfOk result (λ o. MatchOption o (Unit {0}) (λ n. AreListed tasks.now keys.now n)) }
+    ensures { IfOk result (λ o. MatchOption o (HaveOwnKeys tasks.now keys.now → ⊥)
+        (λ n. AreListed tasks.now keys.now n)) }
 {
     let enters = number_enters(alloc, tasks)?;
     let leaves = match number_leaves(alloc, tasks) {
@@ -180,31 +182,35 @@ fn number_all(alloc: Global, tasks: &[Task], keys: &[Key]) -> Result<Option<Numb
     }
 }
 
-// Whether all three are true.
-fn are_true(first: bool, second: bool, third: bool) -> bool
-    ensures { result ≡ (first && (second && third)) }
+// Whether all four are true.
+fn are_true(first: bool, second: bool, third: bool, fourth: bool) -> bool
+    ensures { result ≡ (first && (second && (third && fourth))) }
 {
-    first && second && third
+    first && second && third && fourth
 }
 
 // Whether each scope of the table is entered and left, and each task is of the table.
 fn is_whole(alloc: Global, plan: &Plan, numbers: &Numbers) -> Result<bool, OutOfMemory>
     ensures { (us : List Task) (ks : List ResourceId) → AreListed us ks numbers.now → us ≡ plan.now.tasks.items
-        → IfOk result (λ b. b ≡ true → AreNumbers plan.now.start.register.table us ks numbers.now) }
+        → IfOk result (λ b. Decides b (AreOfScopes plan.now.start.register.table us ks)) }
 {
     let table = &plan.start.register.table;
     let count = table.frames.len();
     let entered = have_places(alloc, &numbers.enters, count)?;
     let left = have_places(alloc, &numbers.leaves, count)?;
-    let of_table = are_of_table(table, plan.tasks.as_slice());
-    Ok(are_true(entered, left, of_table))
+    let tasks = plan.tasks.as_slice();
+    let of_table = are_of_table(table, tasks);
+    let few = are_few(tasks);
+    Ok(are_true(few, entered, left, of_table))
 }
 
-/// The numbers of the tasks of a plan. None where two tasks put at one key, where a scope of the table is not entered or
-/// not left, or where a task is not of the table.
+/// The numbers of the tasks of a plan. None exactly where two tasks put at one key or the key of a put is missing, where
+/// a scope of the table is not entered or not left, where a task is not of the table, or where there are more than
+/// 4,294,967,295 tasks.
 pub fn number_tasks(alloc: Global, plan: &Plan) -> Result<Option<Numbers>, OutOfMemory>
-    ensures { IfOk result (λ o. MatchOption o (Unit {0}) (λ n. AreNumbers plan.now.start.register.table
-        plan.now.tasks.items plan.now.keys.items n)) }
+    ensures { IfOk result (λ o. MatchOption o
+        (AreOfScopes plan.now.start.register.table plan.now.tasks.items plan.now.keys.items → ⊥)
+        (λ n. AreNumbers plan.now.start.register.table plan.now.tasks.items plan.now.keys.items n)) }
 {
     match number_all(alloc, plan.tasks.as_slice(), plan.keys.as_slice()) {
         Ok(Some(numbers)) => match is_whole(alloc, plan, &numbers) {

@@ -39,31 +39,10 @@ use Rattle.point_rows.specs.declared.later.Later.{Later}
 use Rattle.point_rows.specs.declared.later.StateAt.{StateAt}
 use Rattle.point_rows.specs.Rows.{entry_at, state_row, settled, condition_status, output_status, rows_by, line_rows}
 use Rattle.point_rows.specs.Rows.{known_now}
-use Rattle.point_rows.proofs.RowsNowLemmas.{apart_by, apart_back, skip_plain}
+use Rattle.point_rows.proofs.RowsNowLemmas.{apart_by, apart_back}
+use Rattle.point_rows.proofs.StateLemmas.{no_line}
 use Rattle.point_knowledge.specs.Steps.{IsBlank}
 use Rattle.point_knowledge.proofs.StartLemmas.{from_start}
-
--- ---- no line is a state
-
-spot_no_state : (os : List Opened) (s : Spot) → is_state (cell_of os s) ≡ false
-spot_no_state os (Parameter f n) = refl
-spot_no_state os (Variable f n) = refl
-spot_no_state os (Offered f n) = refl
-spot_no_state os (Output f n) = refl
-spot_no_state os (Count f r) = refl
-spot_no_state os (Included f r i) = refl
-spot_no_state os (Name f r i) = refl
-spot_no_state os (Deployments f) = refl
-
-no_line : (os : List Opened) (ls : List Line) (es : List Entry) (k : ResourceId)
-    → status_of (line_rows os ls es) (state k) ≡ None
-no_line os [] es k = refl
-no_line os (l ∷ ls) [] k =
-    skip_plain os (line_rows os ls []) l.spot l.state entry.Missing (state k) refl
-    (apart_by is_state (cell_of os l.spot) (state k) (spot_no_state os l.spot) refl) ∙ no_line os ls [] k
-no_line os (l ∷ ls) (e ∷ es) k =
-    skip_plain os (line_rows os ls es) l.spot l.state e (state k) refl
-    (apart_by is_state (cell_of os l.spot) (state k) (spot_no_state os l.spot) refl) ∙ no_line os ls es k
 
 -- a condition of an output, or an output
 abbrev pub is_given : Cell → Bool

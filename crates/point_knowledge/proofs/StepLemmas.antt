@@ -35,8 +35,9 @@ use Rattle.point_rows.specs.declared.later.Entry.{Entry}
 use Rattle.point_rows.specs.declared.later.Entry.TheVariants as entry
 use Rattle.point_rows.specs.declared.later.Later.{Later}
 use Rattle.point_rows.specs.declared.later.StateAt.{StateAt}
-use Rattle.point_rows.specs.Rows.{status_told, state_row, settled, rows_by, line_rows, known_now, told_now, IsEntrySpot}
-use Rattle.point_knowledge.specs.Steps.{AddsState, AddsValue, IsStateThen}
+use Rattle.point_rows.specs.Rows.{status_told, state_row, settled, rows_by, line_rows, known_now, told_now, HasState}
+use Rattle.point_rows.specs.Rows.{IsEntrySpot}
+use Rattle.point_knowledge.specs.Steps.{AddsValue, IsStateThen}
 use Rattle.point_knowledge.proofs.BlankLemmas.{is_given, given_or_state}
 
 entry_is : (o u : Option Json) → entry_of o ≡ entry_of u → o ≡ u
@@ -87,7 +88,7 @@ states_more (y ∷ ss) s lines c =
     (states_more ss s lines c)
 
 module _ (x : Planned) (p : Progress) (t : Table) (l m : Later) (s : StateAt) (seen : IsSeen x p (known_now t l))
-    (then_known : IsStateThen x p s) (adds : AddsState s l m) where
+    (then_known : IsStateThen x p s) (adds : HasState l s m) where
   abbrev lines_of : List Entry → List Row
   lines_of es = line_rows (scopes_of t) t.lines.items es
 

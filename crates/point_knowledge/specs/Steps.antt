@@ -20,11 +20,6 @@ pub record IsBlank (l : Later) : Type 0 where
   pub no_entry : (j : ℕ) → entry_at l.entries.items j ≡ entry.Missing
   pub no_state : l.states.items ≡ []
 
--- a state more
-pub record AddsState (s : StateAt) (l m : Later) : Type 0 where
-  pub states : m.states.items ≡ l.states.items ++ s ∷ []
-  pub entries : m.entries.items ≡ l.entries.items
-
 -- the entry of a line has a value
 pub record AddsValue (j : ℕ) (v : Value) (l m : Later) : Type 0 where
   pub within : j < length l.entries.items

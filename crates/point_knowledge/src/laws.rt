@@ -13,8 +13,8 @@ ghost use Rattle.deploy_histories.specs.Events.{Progress};
 ghost use Rattle.point_values.specs.Seen.{IsSeen};
 ghost use Rattle.point_rows.specs.declared.later.Later.{Later};
 ghost use Rattle.point_rows.specs.declared.later.StateAt.{StateAt};
-ghost use Rattle.point_rows.specs.Rows.{known_now, told_now, IsEntrySpot};
-ghost use Rattle.point_knowledge.specs.Steps.{IsBlank, AddsState, AddsValue, IsStateThen};
+ghost use Rattle.point_rows.specs.Rows.{known_now, told_now, HasState, IsEntrySpot};
+ghost use Rattle.point_knowledge.specs.Steps.{IsBlank, AddsValue, IsStateThen};
 
 /// Before anything became known after the start, what the rows have is seen at each point.
 pub fn opening_is_seen()
@@ -25,7 +25,7 @@ pub fn opening_is_seen()
 /// A state that is known at a point may be added.
 pub fn states_are_seen()
     ensures { (x : Planned) (p : Progress) (t : Table) (l m : Later) (s : StateAt) → IsSeen x p (known_now t l)
-        → IsStateThen x p s → AddsState s l m → IsSeen x p (known_now t m) }
+        → IsStateThen x p s → HasState l s m → IsSeen x p (known_now t m) }
 {}
 
 /// The value that is told of a parameter or a variable may be added.

@@ -27,7 +27,7 @@ use Rattle.point_rows.proofs.SeenNowLemmas.{declared_is}
 module _ (t : Table) (l : Later) (g : ℕ) (x : List ℕ) where
   pub listed_entry : IsFit t l → (j : ℕ) → IsLineOf t g (offered (scope_at t g).position x) j
       → j < length l.entries.items
-  listed_entry fit j line = let h = line.listed in omega (arith, h, fit)
+  listed_entry fit j line = let h = line.listed in let e = fit.entries in omega (arith, h, e)
 
   pub truth_shown : IsReady t → (j : ℕ) → IsLineOf t g (offered (scope_at t g).position x) j → (r : Result Bool Lack)
       → IsOfferedBy (entry_at l.entries.items j) j r

@@ -8,6 +8,7 @@ use Rattle.deploy_cells.specs.Same.{same}
 use Rattle.deploy_cells.proofs.SameLemmas.{cell_is}
 use Rattle.plan_cells.specs.Desired.{is_state}
 use Rattle.plan_cells.specs.Children.{output_names}
+use Rattle.tag_places.specs.Places.{Places, ArePlaces}
 use Rattle.plan_filling.specs.Rows.{Row, row_at, status_of, AreDistinct}
 use Rattle.plan_filling.proofs.RowLemmas.{by_same, found_first, found_later, status_found, joined_none}
 use Rattle.plan_table.specs.declared.line.Line.{Line}
@@ -21,8 +22,17 @@ use Rattle.plan_table.proofs.LaidLemmas.{row_here, length_rows}
 use Rattle.point_rows.specs.declared.later.Entry.{Entry}
 use Rattle.point_rows.specs.declared.later.Entry.TheVariants as entry
 use Rattle.point_rows.specs.declared.later.StateAt.{StateAt}
+use Rattle.point_rows.specs.declared.later.Later.{Later}
 use Rattle.point_rows.specs.Rows.{entry_at, state_row, settled, condition_status, output_status, given_rows, rows_by}
-use Rattle.point_rows.specs.Rows.{line_rows, IsEntrySpot}
+use Rattle.point_rows.specs.Rows.{line_rows, state_tag, AreIndexed, IsEntrySpot}
+
+-- ---- the index
+
+-- it is that of the same states
+pub indexed_on : (l m : Later) → m.states.items ≡ l.states.items → m.places ≡ l.places → AreIndexed l → AreIndexed m
+indexed_on l m s p a =
+    subst (λ (z : Places). ArePlaces z (map state_tag m.states.items)) (sym p)
+    (subst (λ (ss : List StateAt). ArePlaces l.places (map state_tag ss)) (sym s) a)
 
 -- ---- cells of two sorts
 

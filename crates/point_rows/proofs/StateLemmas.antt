@@ -1,8 +1,11 @@
 -- States that are known at a point.
-use Rattle.std.proofs.Common.{◌≡◌, inl, inr, ℕ, ◌+◌, ◌<◌, ◌≤◌, false, List, [], ◌∷◌, map, drop, length}
-use Rattle.std.proofs.Common.{get_or, Some, None, refl, sym, ap, ◌∙◌}
-use Rattle.std.specs.Prelude.{option_map}
-use Rattle.std.proofs.lemmas.List.{drop_more, drop_all}
+use Rattle.std.proofs.Common.{◌≡◌, inl, inr, ℕ, zero, suc, ◌<◌, Bool, true, false, true≢false, List, [], ◌∷◌, map}
+use Rattle.std.proofs.Common.{length, get_or, Option, Some, None, refl, sym, ap, subst, ◌∙◌, arith}
+use Rattle.std.specs.Prelude.{option_map, if◌then◌else◌}
+use Rattle.std.proofs.lemmas.Slice.Eq.{bytes_eq-Decides}
+use Rattle.tag_places.specs.Places.{is_tag, first_place}
+use Rattle.key_tags.specs.KeyCodes.{key_code}
+use Rattle.key_tags.proofs.CodeLemmas.{key_eq}
 use Rattle.arm_value.specs.View.{json}
 use Rattle.arm_value.specs.declared.value.Value.{Value}
 use Rattle.arm_ids.specs.declared.id.ResourceId.{ResourceId}
@@ -29,7 +32,7 @@ use Rattle.point_rows.specs.declared.later.Entry.{Entry}
 use Rattle.point_rows.specs.declared.later.Entry.TheVariants as entry
 use Rattle.point_rows.specs.declared.later.StateAt.{StateAt}
 use Rattle.point_rows.specs.declared.later.Later.{Later}
-use Rattle.point_rows.specs.Rows.{status_told, state_row, line_rows, rows_now, told_now, IsMissing}
+use Rattle.point_rows.specs.Rows.{status_told, state_row, state_tag, line_rows, rows_now, told_now, IsMissing}
 use Rattle.point_rows.proofs.RowsNowLemmas.{apart_by, skip_plain}
 use Rattle.point_rows.proofs.ToldNowLemmas.{told_value, told_missing}
 
@@ -49,25 +52,46 @@ state_later s ss k n = elim (by_same (state s.key) (state k)) [
   | inr e ↦ found_later (state_row s) (map state_row ss) (state k) e
 ]
 
-module _ (ss : List StateAt) (i : ℕ) (s : StateAt) (k : ResourceId) (h : i < length ss) (e : s ≡ get_or ss i s)
-    (before : status_of (map state_row (drop i ss)) (state k) ≡ status_of (map state_row ss) (state k)) where
-  next : drop i ss ≡ s ∷ drop (i + 1) ss
-  next = drop_more ss i s h ∙ ap (λ y. y ∷ drop (i + 1) ss) (sym e)
+-- by the first place that has the key
+by_tag : (s : StateAt) (k : ResourceId) → (is_tag (key_code k) (state_tag s) ≡ true → k ≡ s.key)
+    × (is_tag (key_code k) (state_tag s) ≡ false → s.key ≡ k → ⊥)
+by_tag s k = (
+  λ e. same_key k s.key (cell_is (state k) (state s.key) (sym (key_eq k s.key) ∙ e)),
+  λ e f. true≢false (sym ((bytes_eq-Decides (key_code k) (key_code s.key)).1 (ap key_code (sym f))) ∙ e),
+)
 
-  pub found_here : s.key ≡ k → status_of (map state_row ss) (state k) ≡ Some (status_told s.state)
-  found_here q =
-      sym before ∙ ap (λ xs. status_of (map state_row xs) (state k)) next ∙ state_first s (drop (i + 1) ss) k q
+-- the state at a place, as the first place of a key has it
+abbrev pub IsFoundAt : List StateAt → ResourceId → Option ℕ → Type 0
+IsFoundAt ss k None = status_of (map state_row ss) (state k) ≡ None
+IsFoundAt ss k (Some i) =
+    (i < length ss)
+    × ((s : StateAt) → s ≡ get_or ss i s → status_of (map state_row ss) (state k) ≡ Some (status_told s.state))
 
-  pub not_here : (s.key ≡ k → ⊥)
-      → status_of (map state_row (drop (i + 1) ss)) (state k) ≡ status_of (map state_row ss) (state k)
-  not_here n =
-      sym (state_later s (drop (i + 1) ss) k n) ∙ ap (λ xs. status_of (map state_row xs) (state k)) (sym next) ∙ before
+one_further : (s : StateAt) (ss : List StateAt) (k : ResourceId) (o : Option ℕ) → (s.key ≡ k → ⊥)
+    → IsFoundAt ss k o → IsFoundAt (s ∷ ss) k (option_map (λ n. suc n) o)
+one_further s ss k None n h = state_later s ss k n ∙ h
+one_further s ss k (Some i) n h =
+    ((let b = h.0 in omega (arith, b)), λ y e. state_later s ss k n ∙ h.1 y e)
 
-pub none_found : (ss : List StateAt) (i : ℕ) (k : ResourceId) → length ss ≤ i
-    → status_of (map state_row (drop i ss)) (state k) ≡ status_of (map state_row ss) (state k)
-    → status_of (map state_row ss) (state k) ≡ None
-none_found ss i k h before =
-    sym before ∙ ap (λ xs. status_of (map state_row xs) (state k)) (drop_all i ss h)
+pub found_place : (ss : List StateAt) (k : ResourceId) → IsFoundAt ss k (first_place (key_code k) (map state_tag ss))
+found_place [] k = refl
+found_place (s ∷ ss) k = by_test (found_place ss k) (is_tag (key_code k) (state_tag s)) refl
+  where
+    by_test : IsFoundAt ss k (first_place (key_code k) (map state_tag ss)) → (b : Bool)
+        → is_tag (key_code k) (state_tag s) ≡ b → IsFoundAt (s ∷ ss) k
+        (if b then Some zero else option_map (λ n. suc n) (first_place (key_code k) (map state_tag ss)))
+    by_test more true e = (
+      omega arith,
+      λ y f. state_first s ss k (sym ((by_tag s k).0 e))
+          ∙ ap (λ (z : StateAt). Some (status_told z.state)) (sym f),
+    )
+    by_test more false e =
+        one_further s ss k (first_place (key_code k) (map state_tag ss)) ((by_tag s k).1 e) more
+
+-- the place that a look-up returns
+pub place_is : (ss : List StateAt) (k : ResourceId) (o : Option ℕ) → o ≡ first_place (key_code k) (map state_tag ss)
+    → IsFoundAt ss k o
+place_is ss k o e = subst (IsFoundAt ss k) (sym e) (found_place ss k)
 
 -- ---- no line is a state
 
@@ -81,7 +105,7 @@ spot_no_state os (Included f r i) = refl
 spot_no_state os (Name f r i) = refl
 spot_no_state os (Deployments f) = refl
 
-no_line : (os : List Opened) (ls : List Line) (es : List Entry) (k : ResourceId)
+pub no_line : (os : List Opened) (ls : List Line) (es : List Entry) (k : ResourceId)
     → status_of (line_rows os ls es) (state k) ≡ None
 no_line os [] es k = refl
 no_line os (l ∷ ls) [] k =

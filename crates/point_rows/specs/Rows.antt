@@ -4,6 +4,8 @@ use Rattle.arm_value.specs.Json.{bool}
 use Rattle.arm_value.specs.View.{json}
 use Rattle.arm_value.specs.declared.value.Value.{Value}
 use Rattle.arm_ids.specs.declared.id.ResourceId.{ResourceId}
+use Rattle.tag_places.specs.Places.{Tag, ArePlaces}
+use Rattle.key_tags.specs.KeyCodes.{key_code}
 use Rattle.reading.specs.Knowledge.{Told, told}
 use Rattle.deploy_cells.specs.Cells.{Cell, state}
 use Rattle.deploy_cells.specs.Guarded.{Reads}
@@ -88,9 +90,18 @@ known_now t l = table (status_of (rows_now t l))
 abbrev pub told_now : {A : Type 0} → Table → Later → Reads A → Told Cell A
 told_now t l r = told (known_now t l) r
 
--- there is an entry for each line
-abbrev pub IsFit : Table → Later → Type 0
-IsFit t l = length l.entries.items ≡ length t.lines.items
+-- the keys of states, as tags
+abbrev pub state_tag : StateAt → Option Tag
+state_tag s = Some (key_code s.key)
+
+-- the places are those of the states
+abbrev pub AreIndexed : Later → Type 0
+AreIndexed l = ArePlaces l.places (map state_tag l.states.items)
+
+-- there is an entry for each line, and the states are found by their places
+pub record IsFit (t : Table) (l : Later) : Type 0 where
+  pub entries : length l.entries.items ≡ length t.lines.items
+  pub indexed : AreIndexed l
 
 -- the first of these states at the key, if there is one
 abbrev pub IsFoundState : List StateAt → ResourceId → Option StateAt → Type 0
@@ -107,3 +118,13 @@ abbrev pub IsEntrySpot : Spot → Type 0
 IsEntrySpot (Parameter f n) = Unit {0}
 IsEntrySpot (Variable f n) = Unit {0}
 IsEntrySpot _ = ⊥
+
+-- a state more is known, and nothing else
+pub record HasState (l : Later) (s : StateAt) (m : Later) : Type 0 where
+  pub states : m.states.items ≡ l.states.items ++ s ∷ []
+  pub entries : m.entries.items ≡ l.entries.items
+
+-- the same is known
+pub record HasSame (l m : Later) : Type 0 where
+  pub states : m.states.items ≡ l.states.items
+  pub entries : m.entries.items ≡ l.entries.items

@@ -2,6 +2,7 @@
 
 use arm_ids::Key;
 use arm_value::Value;
+use tag_places::Places;
 
 /// What became known by the line of a cell: of a parameter or a variable, or of the output whose condition the line is.
 #[derive(Drop)]
@@ -30,4 +31,6 @@ pub struct Later {
     pub entries: Vec<Entry>,
     /// The states that are known.
     pub states: Vec<StateAt>,
+    /// For each key the place of its state among these.
+    pub places: Places,
 }

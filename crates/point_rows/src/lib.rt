@@ -5,6 +5,7 @@
 //! (`specs/Rows`).
 #![tactic(auto)]
 
+pub mod keeping;
 pub mod later;
 pub mod look;
 pub mod outputs;

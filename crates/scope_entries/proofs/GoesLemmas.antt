@@ -27,23 +27,14 @@ use Rattle.point_rows.specs.declared.later.Entry.TheVariants as entry
 use Rattle.point_rows.specs.declared.later.Later.{Later}
 use Rattle.point_rows.specs.declared.later.StateAt.{StateAt}
 use Rattle.point_rows.specs.Rows.{entry_at, state_row, settled, line_rows, known_now, told_now, IsEntrySpot}
-use Rattle.point_rows.proofs.RowsNowLemmas.{entry_found, past_states}
+use Rattle.point_rows.proofs.RowsNowLemmas.{entry_found, past_states, indexed_on}
+use Rattle.point_rows.proofs.GrowthLemmas.{stays, stays_after}
 use Rattle.point_knowledge.specs.Steps.{AddsValue}
 use Rattle.point_knowledge.proofs.StepLemmas.{after_rows, lines_more, value_seen}
 use Rattle.scope_entries.specs.Entries.{line_cell, plain_now, has_value, AreTold, Goes, IsSettled}
 use Rattle.scope_entries.proofs.ThereNowLemmas.{line_there}
 
 -- ---- what stays
-
-pub stays : (x : Known Json) → Stays x x
-stays (known v) = refl
-stays absent = refl
-stays missing = tt
-
-pub stays_after : (x y z : Known Json) → Stays x y → Stays y z → Stays x z
-stays_after (known v) y z a b = subst (λ u. Stays u z) a b
-stays_after absent y z a b = subst (λ u. Stays u z) a b
-stays_after missing y z a b = tt
 
 pub there_on : (x y : Known Json) → Stays x y → IsThere x → IsThere y
 there_on (known v) y s h = subst IsThere (sym s) tt
@@ -189,7 +180,8 @@ module _ (t : Table) (j : ℕ) (ready : IsReady t) (h : j < length t.lines.items
       }
 
   module _ (l m : Later) (v : Value) (told : plain_now t l at ≡ value (Some (json v)))
-      (vacant : has_value (entry_at l.entries.items j) ≡ false) (adds : AddsValue j v l m) where
+      (vacant : has_value (entry_at l.entries.items j) ≡ false) (adds : AddsValue j v l m)
+      (places : m.places ≡ l.places) where
     kept : entry_at m.entries.items j ≡ entry.Value v
     kept = elim (entry_set l.entries.items j j (entry.Value v) adds.within) [
       | inl q ↦ ap (λ (es : List Entry). entry_at es j) adds.entries ∙ q.1
@@ -257,7 +249,10 @@ module _ (t : Table) (j : ℕ) (ready : IsReady t) (h : j < length t.lines.items
 
     pub kept_goes : Goes t l m
     kept_goes = record {
-      fit = λ f. ap length adds.entries ∙ length_set l.entries.items j (entry.Value v) ∙ f;
+      fit = λ f. record {
+        entries = ap length adds.entries ∙ length_set l.entries.items j (entry.Value v) ∙ f.entries;
+        indexed = indexed_on l m adds.states places f.indexed;
+      };
       states = adds.states;
       grows = grows;
       seen = λ x p e s. value_seen x p t l m j v e s h spot told_of adds;

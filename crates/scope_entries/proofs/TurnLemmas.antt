@@ -1,5 +1,5 @@
 -- What telling a line once comes to, by what is told of its cell.
-use Rattle.std.proofs.Common.{◌≡◌, ℕ, ◌<◌, Bool, true, false, length, refl, sym, subst, ◌∙◌, arith}
+use Rattle.std.proofs.Common.{◌≡◌, ℕ, ◌<◌, Bool, true, false, length, refl, sym, subst, arith}
 use Rattle.reading.specs.Knowledge.{waits}
 use Rattle.deploy_cells.specs.Cells.{Cell, state}
 use Rattle.arm_ids.specs.declared.id.ResourceId.{ResourceId}
@@ -27,7 +27,7 @@ own_is_entry t f j l = own_entry f (line_at t.lines.items j).spot l.is_own
 
 pub entry_within : (t : Table) (l : Later) (j : ℕ) → IsFit t l → j < length t.lines.items
     → j < length l.entries.items
-entry_within t l j fit h = subst (λ (n : ℕ). j < n) (sym fit) h
+entry_within t l j fit h = subst (λ (n : ℕ). j < n) (sym fit.entries) h
 
 pub line_within : (t : Table) (j : ℕ) → j < length (rows_in t) → j < length t.lines.items
 line_within t j h = let n = length_rows (scopes_of t) t.lines.items in omega (arith, n, h)

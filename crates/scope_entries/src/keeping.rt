@@ -58,7 +58,8 @@ fn is_kept(later: &Later, at: usize) -> bool
 // Keeps the value of a line.
 fn keep(later: &mut Later, at: usize, value: Value)
     requires { at < length later.old.entries.items }
-    ensures { AddsValue at value later.old later.new }
+    ensures adds { AddsValue at value later.old later.new }
+    ensures places { later.new.places ≡ later.old.places }
 {
     later.entries[at] = Entry::Value(value);
 }

@@ -17,8 +17,10 @@ use Rattle.point_rows.specs.declared.later.Entry.{Entry}
 use Rattle.point_rows.specs.declared.later.Entry.TheVariants as entry
 use Rattle.point_rows.specs.declared.later.Later.{Later}
 use Rattle.point_rows.specs.Rows.{entry_at, state_row, line_rows, known_now, IsFit}
+use Rattle.point_rows.proofs.RowsNowLemmas.{indexed_on}
+use Rattle.point_rows.proofs.GrowthLemmas.{stays, stays_after}
 use Rattle.scope_entries.specs.Entries.{line_cell}
-use Rattle.scope_entries.proofs.GoesLemmas.{stays, stays_after, there_on, told_on, length_set}
+use Rattle.scope_entries.proofs.GoesLemmas.{there_on, told_on, length_set}
 use Rattle.scope_outputs.specs.Outputs.{names_of, position_of, is_missing, Keeps, IsOffered, IsNoted}
 use Rattle.scope_outputs.specs.Outputs.{AreNoted, IsKept, Leaves}
 use Rattle.scope_outputs.specs.declared.telling.Noted.{Noted}
@@ -46,7 +48,7 @@ leaves_on t f l m n a b = record {
 
 -- the same entries and states
 module _ (t : Table) (f : ℕ) (l m : Later) (e : m.entries.items ≡ l.entries.items)
-    (s : m.states.items ≡ l.states.items) where
+    (s : m.states.items ≡ l.states.items) (places : m.places ≡ l.places) where
   known_same : known_now t m ≡ known_now t l
   known_same = λ i. table (status_of (map state_row (s i) ++ line_rows (scopes_of t) t.lines.items (e i)))
 
@@ -55,7 +57,7 @@ module _ (t : Table) (f : ℕ) (l m : Later) (e : m.entries.items ≡ l.entries.
 
   leaves_same : Leaves t f l m
   leaves_same = record {
-    fit = λ h. ap length e ∙ h;
+    fit = λ h. record { entries = ap length e ∙ h.entries; indexed = indexed_on l m s places h.indexed };
     states = s;
     grows = grows_same;
     seen = λ x p is h seen. subst (λ z. IsSeen x p z) (sym known_same) seen;
@@ -102,7 +104,7 @@ noted_within t f l [] [] fit h = tt
 noted_within t f l [] (n ∷ ns) fit h = absurd h
 noted_within t f l (x ∷ xs) [] fit h = absurd h
 noted_within t f l (x ∷ xs) (n ∷ ns) fit h = (
-  subst (λ (k : ℕ). n.at < k) (sym fit) h.0.is_line.listed,
+  subst (λ (k : ℕ). n.at < k) (sym fit.entries) h.0.is_line.listed,
   noted_within t f l xs ns fit h.1,
 )
 
@@ -131,13 +133,13 @@ module _ (t : Table) (f : ℕ) (ready : IsReady t) (x : List ℕ) (n : Noted) (l
       → Leaves t f l m × IsKept t m f x
   by_entry true h e = (
     one_leaves t f ready x n.at n.entry noted.is_line l m noted.is_offered within
-        (missing_is (entry_at l.entries.items n.at) h) e keeps.states,
+        (missing_is (entry_at l.entries.items n.at) h) e keeps.states keeps.places,
     kept_by_entry t f ready x n.at n.entry noted.is_line m
         (λ q. told_entry t l f x n.entry noted.is_offered
         (sym (ap (λ (es : List Entry). entry_at es n.at) e ∙ set_here l.entries.items n.at n.entry within) ∙ q)),
   )
   by_entry false h e = (
-    leaves_same t f l m e keeps.states,
+    leaves_same t f l m e keeps.states keeps.places,
     kept_by_entry t f ready x n.at n.entry noted.is_line m
         (λ q. not_missing (entry_at l.entries.items n.at) h
         (sym (ap (λ (es : List Entry). entry_at es n.at) e) ∙ q)),

@@ -42,10 +42,11 @@ use Rattle.point_rows.specs.declared.later.Later.{Later}
 use Rattle.point_rows.specs.declared.later.StateAt.{StateAt}
 use Rattle.point_rows.specs.Rows.{entry_at, state_row, condition_status, output_status, line_rows, known_now, told_now}
 use Rattle.point_rows.specs.Rows.{IsEntrySpot}
-use Rattle.point_rows.proofs.RowsNowLemmas.{condition_found, output_found, past_states}
+use Rattle.point_rows.proofs.RowsNowLemmas.{condition_found, output_found, past_states, indexed_on}
+use Rattle.point_rows.proofs.GrowthLemmas.{stays}
 use Rattle.scope_entries.specs.Entries.{line_cell, plain_now, AreTold}
 use Rattle.scope_entries.proofs.ThereNowLemmas.{line_there}
-use Rattle.scope_entries.proofs.GoesLemmas.{stays, told_on, entry_set, length_set}
+use Rattle.scope_entries.proofs.GoesLemmas.{told_on, entry_set, length_set}
 use Rattle.scope_outputs.specs.Outputs.{position_of, IsOffered, IsLeft, IsKept, Leaves}
 use Rattle.scope_outputs.proofs.GivenLemmas.{after_rows, lines_given}
 
@@ -162,7 +163,7 @@ module _ (t : Table) (f : ℕ) (ready : IsReady t) (x : List ℕ) (j : ℕ) (e :
 
   module _ (l m : Later) (offers : IsOffered t l f x e) (within : j < length l.entries.items)
       (none : entry_at l.entries.items j ≡ entry.Missing) (entries : m.entries.items ≡ slice_set l.entries.items j e)
-      (states : m.states.items ≡ l.states.items) where
+      (states : m.states.items ≡ l.states.items) (places : m.places ≡ l.places) where
     abbrev rows_with : List Entry → List Row
     rows_with es = line_rows (scopes_of t) t.lines.items es
 
@@ -337,7 +338,10 @@ module _ (t : Table) (f : ℕ) (ready : IsReady t) (x : List ℕ) (j : ℕ) (e :
 
     pub one_leaves : Leaves t f l m
     one_leaves = record {
-      fit = λ h. ap length entries ∙ length_set l.entries.items j e ∙ h;
+      fit = λ h. record {
+        entries = ap length entries ∙ length_set l.entries.items j e ∙ h.entries;
+        indexed = indexed_on l m states places h.indexed;
+      };
       states = states;
       grows = grows;
       seen = λ y p is left seen. still_seen y p is left seen;

@@ -105,6 +105,7 @@ with_entry es j e = if is_missing (entry_at es j) then slice_set es j e else es
 pub record Keeps (j : ℕ) (e : Entry) (l m : Later) : Type 0 where
   pub entries : m.entries.items ≡ with_entry l.entries.items j e
   pub states : m.states.items ≡ l.states.items
+  pub places : m.places ≡ l.places
 
 -- the scope was left
 pub record IsLeft (x : Planned) (p : Progress) (q : Position) : Type 0 where

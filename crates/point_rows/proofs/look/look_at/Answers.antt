@@ -19,7 +19,7 @@ returns-in-Empty c =
 
 pub returns-in-New : goal.returns-in-New
 returns-in-New c =
-    let fit = c.requires.fit in
+    let fit = c.requires.fit.entries in
     let listed = c.requires.listed in
     entry_shows c.args.table.now c.args.later.now c.args.at c.requires.ready c.requires.listed (λ v. v.now)
     c.requires.entry how.New
@@ -30,7 +30,7 @@ returns-in-New c =
 
 pub returns-in-Open : goal.returns-in-Open
 returns-in-Open c =
-    let fit = c.requires.fit in
+    let fit = c.requires.fit.entries in
     let listed = c.requires.listed in
     entry_shows c.args.table.now c.args.later.now c.args.at c.requires.ready c.requires.listed (λ v. v.now)
     c.requires.entry how.Open
@@ -42,7 +42,7 @@ returns-in-Open c =
 
 pub returns-in-Late : goal.returns-in-Late
 returns-in-Late c =
-    let fit = c.requires.fit in
+    let fit = c.requires.fit.entries in
     let listed = c.requires.listed in
     entry_shows c.args.table.now c.args.later.now c.args.at c.requires.ready c.requires.listed (λ v. v.now)
     c.requires.entry (how.Late c.in-Late.field-0)

@@ -1,18 +1,27 @@
-use Rattle.std.proofs.Common.{true≢false, sym, ◌∙◌}
-use Rattle.point_rows.proofs.StateLemmas.{found_here, not_here, none_found}
+use Rattle.std.proofs.Common.{arith, map, Some, None, sym, ap, ◌∙◌}
+use Rattle.tag_places.specs.Places.{first_place}
+use Rattle.point_rows.specs.Rows.{state_tag}
+use Rattle.point_rows.proofs.StateLemmas.{place_is}
 use Rattle.point_rows.proofs.states.find_state.Goals as goal
 
-pub returns-then-same : goal.returns-then-same
-returns-then-same c =
-    found_here c.args.states.now c.loop-known.known-index c.known-item.result c.args.key.now c.loop-known-test.true
-    c.known-item.is c.loop-known.invariant (c.same.ensures.0 c.if-same.true)
+pub index-requires : goal.index-requires
+index-requires c =
+    let a =
+    (place_is c.args.later.now.states.items c.args.key.now (Some c.in-Some.place)
+    (sym c.in-Some.is ∙ c.first_place.ensures (map state_tag c.args.later.now.states.items) c.requires
+    ∙ ap (λ u. first_place u (map state_tag c.args.later.now.states.items)) c.in_ok-tag.ensures)).0 in
+    let b = c.args.later.now.states.ok.0 in
+    omega (arith, a, b)
 
-pub loop-known-preserved : goal.loop-known-preserved
-loop-known-preserved c =
-    not_here c.args.states.now c.loop-known.known-index c.known-item.result c.args.key.now c.loop-known-test.true
-    c.known-item.is c.loop-known.invariant (λ e. true≢false (sym (c.same.ensures.1 e) ∙ c.if-same.false))
+pub returns-in-Some : goal.returns-in-Some
+returns-in-Some c =
+    (place_is c.args.later.now.states.items c.args.key.now (Some c.in-Some.place)
+    (sym c.in-Some.is ∙ c.first_place.ensures (map state_tag c.args.later.now.states.items) c.requires
+    ∙ ap (λ u. first_place u (map state_tag c.args.later.now.states.items)) c.in_ok-tag.ensures)).1
+    c.index.result.now c.index.ensures
 
 pub returns : goal.returns
 returns c =
-    none_found c.args.states.now c.loop-known.known-index c.args.key.now c.loop-known-test.false
-    c.loop-known.invariant
+    place_is c.args.later.now.states.items c.args.key.now None
+    (sym c.in-None.is ∙ c.first_place.ensures (map state_tag c.args.later.now.states.items) c.requires
+    ∙ ap (λ u. first_place u (map state_tag c.args.later.now.states.items)) c.in_ok-tag.ensures)

@@ -15,7 +15,7 @@ returns-in-Value-clause-goes c =
     kept_goes t c.args.at c.requires.ready c.requires.own.listed
     (own_is_entry t c.args.frame c.args.at c.requires.own) c.args.later.now c.keep.new.later c.in-Value.value
     (subst (IsAnswerNow t c.args.later.now (line_cell t c.args.at)) c.in-Value.is c.requires.answer) c.requires.vacant
-    c.keep.ensures
+    c.keep.ensures.adds c.keep.ensures.places
 
 pub returns-in-Value-clause-turned : goal.returns-in-Value-clause-turned
 returns-in-Value-clause-turned c =
@@ -23,7 +23,7 @@ returns-in-Value-clause-turned c =
     kept_is_settled t c.args.at c.requires.ready c.requires.own.listed
     (own_is_entry t c.args.frame c.args.at c.requires.own) c.args.later.now c.keep.new.later c.in-Value.value
     (subst (IsAnswerNow t c.args.later.now (line_cell t c.args.at)) c.in-Value.is c.requires.answer) c.requires.vacant
-    c.keep.ensures
+    c.keep.ensures.adds c.keep.ensures.places
 
 pub returns-in-Empty-clause-goes : goal.returns-in-Empty-clause-goes
 returns-in-Empty-clause-goes c = goes_nowhere c.args.table.now c.args.later.now

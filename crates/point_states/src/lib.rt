@@ -1,0 +1,9 @@
+//! The states that values wait for, at a point of a deployment.
+//!
+//! `take_state` looks a state up in the history where a task puts it, else in what is held, and keeps it. `specs/Taken`
+//! has the definitions.
+#![tactic(auto)]
+
+mod taking;
+
+pub use taking::{Taken, take_state};

@@ -88,6 +88,7 @@ pub record Fields (ps : PropertyTrees) : Type 0 where
 
 pub record Held (at : ℕ) (ps : PropertyTrees) : Type 0 where
   pub sound : IsSound allowed (s.object at ps)
+  pub copies : has_copy ps ≡ false
   pub links : AreLinks ps
 
 -- the body of a resource or a module
@@ -163,6 +164,7 @@ module _ (sc : Scope) where
           (λ c. absurd (true≢false (sym c ∙ a.copies))),
           (members_differ sc ms ls ps h (first_none (repeated_label ms) (repeated_in_all_fields ms) r), a.sound),
         );
+        copies = a.copies;
         links = a.links;
       }
 
@@ -181,7 +183,7 @@ module _ (sc : Scope) where
       let f = subst BodyHasFew (sym g.made) few in
       let a = held o repeated.Once at ms [] g.part b r g.is f.1.1 in
       subst BodyGood g.made (record {
-        sound = record { each = tt; condition = tt; fields = a.sound };
+        sound = record { each = tt; condition = tt; fields = a.sound; no_copy = a.copies };
         links = a.links;
       })
   body_good o (tree.body_if place c (tree.braces at ms)) x b r h few =
@@ -200,6 +202,7 @@ module _ (sc : Scope) where
               (good sc spot.Inside tt c [] g.part.0 (first_none cb fb b) (first_none (repeated_in c) fr r) p.first
               f.1.0).emittable;
           fields = a.sound;
+          no_copy = a.copies;
         };
         links = a.links;
       })
@@ -218,6 +221,7 @@ module _ (sc : Scope) where
           each = over ns xs g.part.0 (first_none xb fb b) (first_none xr fr r) p.first f.0;
           condition = tt;
           fields = a.sound;
+          no_copy = a.copies;
         };
         links = a.links;
       })
@@ -245,6 +249,7 @@ module _ (sc : Scope) where
               (good sc spot.Inside tt c (ns ∷ []) g.part.1.0 (first_none cb fb b1) (first_none (repeated_in c) fr r1)
               q.first f.1.0).emittable;
           fields = a.sound;
+          no_copy = a.copies;
         };
         links = a.links;
       })

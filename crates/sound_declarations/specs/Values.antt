@@ -1,11 +1,12 @@
 -- What a file of a program without faults has, as far as its values are emitted.
-use Rattle.std.specs.Prelude.{Option, Some, None}
+use Rattle.std.specs.Prelude.{◌≡◌, false, Option, Some, None}
 use Rattle.std.specs.List.{AllByRecursion}
 use Rattle.bicep_resolved.specs.Source.{SourceTree, LoopTree}
 use Rattle.bicep_resolved.specs.Source as s
 use Rattle.bicep_declared.specs.Declarations.{BodyTree, DeclaredTree, DeclaredFileTree}
 use Rattle.bicep_declared.specs.Declarations as d
 use Rattle.bicep_emission.specs.Emittable.{IsEmittable}
+use Rattle.emitted_trees.specs.EmittedTrees.{has_copy}
 use Rattle.emitted_trees.specs.Sound.{IsSound, IsSoundValue, allowed}
 
 -- what a resource or a module runs over, and its condition
@@ -17,11 +18,12 @@ abbrev pub IsConditionSound : Option SourceTree → Type 0
 IsConditionSound None = Unit {0}
 IsConditionSound (Some c) = IsEmittable c
 
--- the body of a resource or a module; its fields are those of an object
+-- the body of a resource or a module; its fields are those of an object, none of which is named `copy`
 pub record IsBodySound (b : BodyTree) : Type 0 where
   pub each : IsLoopSound b.each
   pub condition : IsConditionSound b.condition
   pub fields : IsSound allowed (s.object b.at b.fields)
+  pub no_copy : has_copy b.fields ≡ false
 
 -- a declaration
 abbrev pub IsDeclaredSound : DeclaredTree → Type 0

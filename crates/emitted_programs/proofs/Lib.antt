@@ -6,7 +6,9 @@ pub mod InstanceLemmas
 pub mod ScopeLemmas
 pub mod ListingLemmas
 pub mod ResourceLemmas
+pub mod BindingLemmas
 pub mod ParameterLemmas
 pub mod RuleLemmas
 pub mod PlainLemmas
 pub mod ProgramLemmas
+pub mod SameLemmas

@@ -1,27 +1,33 @@
 -- A parameter of a scope of a template is what that of the file is: what is given for it, or else its default.
-use Rattle.std.proofs.Common.{◌≡◌, ℕ, Bool, true, false, List, [], ◌∷◌, Option, Some, None, codes, refl, sym, ap, ◌∙◌}
-use Rattle.std.proofs.Common.{subst}
+use Rattle.std.proofs.Common.{◌≡◌, ◌≤◌, ℕ, Bool, true, false, List, [], ◌∷◌, Option, Some, None, codes}
+use Rattle.std.proofs.Common.{refl, sym, ap, ◌∙◌, subst}
 use Rattle.std.specs.Prelude.{nat_lt, option_map, option_and_then, if◌then◌else◌}
 use Rattle.foundation.specs.Options.{or_else}
 use Rattle.foundation.proofs.Options.{same_some}
-use Rattle.arm_value.specs.Json.{Json}
+use Rattle.arm_value.specs.Json.{Json, IsOrderly, nesting}
+use Rattle.arm_ids.specs.declared.id.Place.{Place}
+use Rattle.arm_env.specs.Look.{Surroundings}
+use Rattle.literal_trees.proofs.KnownLemmas.{known}
+use Rattle.template_parameters.specs.Literal.{literal}
 use Rattle.arm_value.specs.View.{json}
 use Rattle.arm_value.specs.declared.value.Value.{Value}
 use Rattle.arm_eval.specs.Trees.{tree_value}
-use Rattle.reading.specs.Reading.{pure}
+use Rattle.reading.specs.Reading.{pure, continued, through}
 use Rattle.reading.specs.World.{value_in}
-use Rattle.template_parameters.specs.Binding.{BoundMeaning}
+use Rattle.template_parameters.specs.Binding.{BoundMeaning, by_literal}
 use Rattle.template_parts.specs.declared.content.Argument.{Argument}
 use Rattle.template_parts.specs.declared.mode.Form.{Form}
 use Rattle.template_parts.specs.declared.parameter.Parameter.{Parameter}
 use Rattle.template_tree.specs.Tree.{TemplateTree, BodyTree, body_members, deployment}
 use Rattle.deploy_cells.specs.Cells.{Step, step, Position, parameter, count, deployments, World, is_admitted}
 use Rattle.deploy_cells.specs.Cells.{copies}
+use Rattle.deploy_cells.specs.Followed.{followed}
 use Rattle.deploy_cells.specs.Guarded.{Reads}
 use Rattle.plan_cells.specs.Meaning as template
 use Rattle.plan_cells.specs.Resources.{Listed, Nested, nested_in, nested_at, resource_at}
-use Rattle.plan_cells.specs.Scopes.{template_at, nested_of}
+use Rattle.plan_cells.specs.Scopes.{template_at, owner, nested_of}
 use Rattle.plan_cells.specs.Sites as sites
+use Rattle.plan_cells.specs.Sites.{Site, Texts, ids_alone, names, symbols, looked_up, by_texts}
 use Rattle.plan_cells.specs.Sites.{reading_at, scope_site, body_site}
 use Rattle.bicep_resolved.specs.Source.{SourceTree, ValueTree}
 use Rattle.bicep_meaning.specs.Around.{Here}
@@ -89,8 +95,8 @@ module _ (z : Form) (d : SourceProgram) (u : TemplateTree) (bound : List (List �
   abbrev dep : template.Deployment
   dep = t z d u bound m sound w facts
 
-  abbrev Place : Position → Position → Type 0
-  Place p q = to_position (r z d u bound m sound w facts) p ≡ Some q
+  abbrev At : Position → Position → Type 0
+  At p q = to_position (r z d u bound m sound w facts) p ≡ Some q
 
   of_file_is : {A : Type 0} (p : Position) (f : SourceFile) (find : SourceFile → Option A)
       (g : A → Here → Reads Json) → file_at d.files p ≡ Some f
@@ -123,6 +129,48 @@ module _ (z : Form) (d : SourceProgram) (u : TemplateTree) (bound : List (List �
   pure_same : (j : Json) → Same rw w (Some (pure j)) (Some (pure j))
   pure_same j = constant_value rw j ∙ sym (constant_value w j)
 
+  -- a default that reads nothing
+  texts_known : (texts : Texts) (place : Place) (e : Site) (j : Json)
+      → value_in rw (followed (looked_up u place e) (by_texts texts u place e.at (pure j))) ≡ Some j
+  unfolding value_in followed through
+  texts_known ids_alone place e j = refl
+  texts_known names place e j = refl
+  texts_known symbols place e j = refl
+
+  known_value : (v : Value) (j : Json) → ((around : Surroundings) → tree_value (json v) around ≡ pure j)
+      → value_in rw (reading_at u d.place (scope_site u []) (tree_value (json v))) ≡ Some j
+  unfolding reading_at owner continued
+  known_value v j h =
+      ap (λ r. value_in rw
+      (followed (looked_up u d.place (scope_site u [])) (by_texts (scope_site u []).texts u d.place [] r)))
+      (h (record { loops = (scope_site u []).loops; place = d.place }))
+      ∙ texts_known (scope_site u []).texts d.place (scope_site u []) j
+
+  instead : (a b : Reads Json) (o : Option (Reads Json)) → value_in rw a ≡ value_in rw b → Same rw w (Some a) o
+      → Same rw w (Some b) o
+  instead a b None e h = absurd h
+  instead a b (Some s) e h = sym e ∙ h
+
+  default_by : (f : SourceFile) → IsInstance z d w [] [] f → (x : List ℕ) (n : ℕ) (y : Parameter)
+      → program.parameter_named x f ≡ Some n → IsParameter d.files f n y → (j : Value) → y.default_value ≡ Some j
+      → (k : Option Json) → literal (json j) ≡ k
+      → template.bound_to dep x ≡ Some (by_literal (json j) (literal (json j))) → IsOrderly (json j)
+      → ((k : Json) → literal (json j) ≡ Some k → nesting (json j) ≤ 100)
+      → Same rw w (option_map (template.bound_value dep) (template.bound_to dep x)) (program.default_value d [] x)
+  default_by f at x n y e h j c None g b o s =
+      subst (λ o. Same rw w o (program.default_value d [] x))
+      (ap (option_map (λ v. reading_at u d.place (scope_site u []) (tree_value (json v)))) c
+      ∙ ap (option_map (template.bound_value dep)) (sym (b ∙ ap (λ o. Some (by_literal (json j) o)) g)))
+      (default_same [] [] f at x n y e h)
+  default_by f at x n y e h j c (Some k) g b o s =
+      subst (λ o. Same rw w o (program.default_value d [] x))
+      (ap (option_map (template.bound_value dep)) (sym (b ∙ ap (λ o. Some (by_literal (json j) o)) g)))
+      (instead (reading_at u d.place (scope_site u []) (tree_value (json j))) (pure k) (program.default_value d [] x)
+      (known_value j k (λ around. known around (json j) k g o (s k g)) ∙ sym (constant_value rw k))
+      (subst (λ o. Same rw w o (program.default_value d [] x))
+      (ap (option_map (λ v. reading_at u d.place (scope_site u []) (tree_value (json v)))) c)
+      (default_same [] [] f at x n y e h)))
+
   root_by : (f : SourceFile) → IsInstance z d w [] [] f → (x : List ℕ) (n : ℕ) (y : Parameter)
       → program.parameter_named x f ≡ Some n → IsParameter d.files f n y → (g : Option Json) (v : Option Value)
       → y.default_value ≡ v → IsBoundTo g v (template.bound_to dep x)
@@ -132,13 +180,11 @@ module _ (z : Form) (d : SourceProgram) (u : TemplateTree) (bound : List (List �
       subst (λ o. Same rw w (option_map (template.bound_value dep) o) (Some (pure j))) (sym b) (pure_same j)
   root_by f at x n y e h None None k b = absurd b
   root_by f at x n y e h None (Some j) k b =
-      subst (λ o. Same rw w o (program.default_value d [] x))
-      (ap (option_map (λ v. reading_at u d.place (scope_site u []) (tree_value (json v)))) k
-      ∙ ap (option_map (template.bound_value dep)) (sym b)) (default_same [] [] f at x n y e h)
+      default_by f at x n y e h j k (literal (json j)) refl b.is b.is_orderly b.is_flat
 
   -- ---- a scope inside
 
-  module _ (p q : Position) (s : Step) (k : ℕ) (at : Place p q)
+  module _ (p q : Position) (s : Step) (k : ℕ) (at : At p q)
       (number : (numbering z d.files).number p s.resource ≡ Some k)
       (is_open : is_admitted w (deployments (s ∷ p)) ≡ true)
       (g : SourceFile) (file : file_at d.files p ≡ Some g) (y : TemplateTree) (tree : template_at u q ≡ Some y)
@@ -235,7 +281,7 @@ module _ (z : Form) (d : SourceProgram) (u : TemplateTree) (bound : List (List �
   unfolding template_at
   root_is f at x n y e k h = root_by f at x n y e h (given_for d.given x) y.default_value refl (given x y k)
 
-  inside_is : (p q : Position) (s : Step) (k : ℕ) → Place p q
+  inside_is : (p q : Position) (s : Step) (k : ℕ) → At p q
       → (numbering z d.files).number p s.resource ≡ Some k → (f : SourceFile)
       → IsInstance z d w (s ∷ p) (step k s.copy ∷ q) f → (x : List ℕ) (n : ℕ) (y : Parameter)
       → program.parameter_named x f ≡ Some n → (c : TemplateTree) → template_at u (step k s.copy ∷ q) ≡ Some c
@@ -256,12 +302,12 @@ module _ (z : Form) (d : SourceProgram) (u : TemplateTree) (bound : List (List �
       (program.default_value d (s ∷ p) x)
       (default_same (s ∷ p) (step k s.copy ∷ q) f inst x n y e h))
     where
-      outer_open_of : (p q : Position) (s : Step) (k : ℕ) → Place p q
+      outer_open_of : (p q : Position) (s : Step) (k : ℕ) → At p q
           → (numbering z d.files).number p s.resource ≡ Some k → is_admitted w (deployments (s ∷ p)) ≡ true
           → is_admitted w (deployments p) ≡ true
       outer_open_of p q s k at number o = counted_scope z d w facts p s (included_admitted z d w facts p s o)
 
-  by_place : (p q : Position) → Place p q → (f : SourceFile) → IsInstance z d w p q f → (x : List ℕ) (n : ℕ)
+  by_place : (p q : Position) → At p q → (f : SourceFile) → IsInstance z d w p q f → (x : List ℕ) (n : ℕ)
       (y : Parameter) → program.parameter_named x f ≡ Some n → (c : TemplateTree) → template_at u q ≡ Some c
       → option_and_then (sites.parameter_named x) (template_at u q) ≡ Some y → IsParameter d.files f n y
       → ParameterSame p q x y
@@ -279,7 +325,7 @@ module _ (z : Form) (d : SourceProgram) (u : TemplateTree) (bound : List (List �
       subst (λ q. IsInstance z d w (s ∷ p) q f → template_at u q ≡ Some c → ParameterSame (s ∷ p) q x y) b.made
       (λ inst tree. inside_is p b.left s b.right b.first b.second f inst x n y e c tree h) inst tree
 
-  module _ (p q : Position) (at : Place p q) (is_open : is_admitted w (deployments p) ≡ true) (x : List ℕ) where
+  module _ (p q : Position) (at : At p q) (is_open : is_admitted w (deployments p) ≡ true) (x : List ℕ) where
     abbrev entry_of : Option ℕ → Option (Reads Json)
     entry_of o = option_and_then (λ n. or_else (program.given_value d p x) (program.default_value d p x)) o
 

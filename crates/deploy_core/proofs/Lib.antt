@@ -10,4 +10,7 @@ pub mod PassLemmas
 pub mod DealLemmas
 pub mod OpenLemmas
 pub mod StepLemmas
+pub mod EndLemmas
+pub mod NameLemmas
+pub mod ReplayLemmas
 pub mod WakeLemmas

@@ -20,10 +20,10 @@ use Rattle.point_values.specs.Seen.{IsSeen}
 use Rattle.task_standings.specs.declared.standing.Kind.{Kind}
 use Rattle.task_standings.specs.Standings.{kind_of}
 use Rattle.task_agenda.specs.declared.agenda.Agenda.{Agenda}
-use Rattle.task_agenda.specs.Agendas.{count, is_listed, HasGraph}
+use Rattle.task_agenda.specs.Agendas.{count, is_listed, IsSeenTo, HasGraph, Keeps}
 use Rattle.task_agenda.specs.Lists as lists
 use Rattle.deploy_core.specs.Kept.{enters_or_leaves, kind_of_scope, IsNeeded, IsKept}
-use Rattle.deploy_core.specs.Opens.{AreStartNeeds, HasNeeds, IsNeedAdded, IsFirstAgenda}
+use Rattle.deploy_core.specs.Opens.{AreStartNeeds, HasNeeds, IsNeedAdded, IsFilled}
 use Rattle.deploy_core.proofs.Edges.{edge_to, edge_from}
 use Rattle.deploy_core.proofs.Agendas.{same_listed}
 
@@ -42,7 +42,7 @@ listed_either n m [] (inr l) = absurd l
 listed_either n m (k ∷ ns) (inl e) = inl (inl e)
 listed_either n m (k ∷ ns) (inr l) = elim (listed_either n m ns l) [ inl i ↦ inl (inr i) | inr e ↦ inr e ]
 
-none_needed : (n u v : ℕ) (d : List Bool) → graph.Needs (record { needs = replicate n []; done = d }) u v → ⊥
+pub none_needed : (n u v : ℕ) (d : List Bool) → graph.Needs (record { needs = replicate n []; done = d }) u v → ⊥
 none_needed n u v d e =
     let z : times (get_or (replicate n []) u []) v ≡ 0
     = ap (λ (l : List ℕ). times l v) (get_or-replicate n u []) in
@@ -131,14 +131,15 @@ scope_at [] u one e = let f : None ≡ Some one = e in absurd (cc)
 scope_at (k ∷ ts) zero one e = ap enters_or_leaves (one_task k one e)
 scope_at (k ∷ ts) (suc u) one e = scope_at ts u one e
 
-there : (ts : List Task) (u : ℕ) → u < length ts → (one : Task) × (slice_get ts u ≡ Some one)
+pub there : (ts : List Task) (u : ℕ) → u < length ts → (one : Task) × (slice_get ts u ≡ Some one)
 there [] u l = absurd (omega (arith, l))
 there (k ∷ ts) zero l = (k, refl)
 there (k ∷ ts) (suc u) l = there ts u (omega (arith, l))
 
 -- nothing has happened, and every task is listed that needs nothing
 pub kept_first : (x : Planned) (t : Table) (tasks : ℕ) (ns : List Need) (a : Agenda) → tasks ≡ length x.tasks
-    → IsSeen x at_opening t → AreStartNeeds x ns → IsFirstAgenda x ns a → IsKept x t tasks [] a 0
+    → IsSeen x at_opening t → AreStartNeeds x ns → IsFilled (map enters_or_leaves x.tasks) ns a
+    → IsKept x t tasks [] a 0
 kept_first x t tasks ns a size seen starts f = record {
   is_legal = tt;
   is_seen = seen;
@@ -219,3 +220,14 @@ kinds_by ts i k (Some one) s e =
 pub kinds_more : (ts : List Task) (i : ℕ) (k : Kind) → option_map kind_of (slice_get ts i) ≡ Some k
     → map enters_or_leaves (take (i + 1) ts) ≡ map enters_or_leaves (take i ts) ++ kind_of_scope k ∷ []
 kinds_more ts i k e = kinds_by ts i k (slice_get ts i) refl e
+
+-- what needs nothing is listed where the call returns Ok
+pub filled_on : (kinds : List Bool) (ns : List Need) (a b : Agenda) (r : Result (Unit {0}) AllocError)
+    → HasNeeds a kinds ns → Keeps a b → OnOk r ((u : ℕ) → u < count a → IsSeenTo b u) → OnOk r (IsFilled kinds ns b)
+filled_on kinds ns a b (Ok d) h k s = record {
+  before = a;
+  has_needs = h;
+  keeps = k;
+  seen_to = λ u l. s u (let e = ap (λ (l : List Bool). length l) k.same.kinds in omega (arith, e, l));
+}
+filled_on kinds ns a b (Err e) h k s = tt

@@ -7,7 +7,7 @@ use Rattle.std.specs.Prelude.{not, filter, slice_index_or, slice_set, if◌then�
 use Rattle.depend_graph.specs.Shape.{Shape, times, needs_of, Needs, is_done, with_done}
 use Rattle.task_agenda.specs.Lists.{IsHeldUp}
 
-itself : (v : ℕ) (vs : List ℕ) → 1 ≤ times (v ∷ vs) v
+pub itself : (v : ℕ) (vs : List ℕ) → 1 ≤ times (v ∷ vs) v
 itself v vs = rw (same_test v v refl) (omega arith)
 
 module _ (f g : ℕ → Bool) (u : ℕ) (same : (v : ℕ) → (v ≡ u → ⊥) → g v ≡ f v) where

@@ -4,3 +4,5 @@ pub mod Looks
 pub mod Passes
 pub mod Opens
 pub mod Steps
+pub mod Endings
+pub mod Names

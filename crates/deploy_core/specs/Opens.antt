@@ -29,14 +29,14 @@ pub record HasNeeds (a : Agenda) (kinds : List Bool) (ns : List Need) : Type 0 w
 abbrev pub IsNeedAdded : Agenda → Agenda → Need → Type 0
 IsNeedAdded old new n = (kinds : List Bool) (ns : List Need) → HasNeeds old kinds ns → HasNeeds new kinds (ns ++ n ∷ [])
 
--- the agenda has the tasks and these needs, and every task is listed that needs nothing
-pub record IsFirstAgenda (x : Planned) (ns : List Need) (a : Agenda) : Type 0 where
+-- the agenda has these kinds and these needs, and every task is listed that needs nothing
+pub record IsFilled (kinds : List Bool) (ns : List Need) (a : Agenda) : Type 0 where
   pub before : Agenda
-  pub has_needs : HasNeeds before (map enters_or_leaves x.tasks) ns
+  pub has_needs : HasNeeds before kinds ns
   pub keeps : Keeps before a
   pub seen_to : (u : ℕ) → u < count a → IsSeenTo a u
 
 -- nothing has happened to the tasks, and the agenda is theirs
 pub record IsFirst (x : Planned) (ns : List Need) (parts : Parts) : Type 0 where
   pub history : parts.history ≡ record { count = length x.tasks; events = [] }
-  pub agenda : IsFirstAgenda x ns parts.agenda
+  pub agenda : IsFilled (map enters_or_leaves x.tasks) ns parts.agenda

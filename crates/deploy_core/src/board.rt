@@ -1,17 +1,21 @@
 // The board.
 
-ghost use Rattle.std.specs.Prelude.{◌≡◌, ℕ, IfOk, OnErr, [], length, map};
+ghost use Rattle.std.specs.Prelude.{◌≡◌, ◌<◌, ℕ, IfOk, OnErr, Some, [], length, map};
 ghost use Rattle.point_values.specs.Seen.{IsSeen};
 ghost use Rattle.deploy_core.specs.Opens.{AreStartNeeds};
 ghost use Rattle.deploy_histories.specs.Events as event;
 ghost use Rattle.deploy_histories.specs.Events.{at_opening, progress, IsBegun};
-ghost use Rattle.deploy_histories.specs.Legal.{IsLegal, MayEnd};
+ghost use Rattle.deploy_histories.specs.Legal.{HasEnded, IsLegal, MayEnd};
 ghost use Rattle.board_history.specs.Past.{event_of, with_event};
 ghost use Rattle.deploy_core.specs.Boards.{IsNext, HasPassed};
+ghost use Rattle.deploy_core.specs.Endings.{IsTrueEnding};
+ghost use Rattle.deploy_core.specs.Names.{name_of};
 
 use crate::dealing::{deal, give_back, is_refused, pause, take};
+use crate::ending::{Ending, refused_ending, unrefused_ending};
+use crate::naming::task_name;
 use crate::opening::{first_parts, run_out};
-use arm_value::OutOfMemory;
+use arm_value::{OutOfMemory, Text};
 use board_history::History;
 use dealer_trait::Next;
 use provider_trait::{Answer, Event};
@@ -121,5 +125,27 @@ impl<S: Standings> Board<S> {
             &mut self.seen,
             worker,
         )
+    }
+
+    /// How the deployment has ended. Nothing happens to the tasks.
+    pub fn end(&mut self, alloc: Global) -> Result<Ending, OutOfMemory>
+        requires { HasEnded (S.planned self.old.0) (progress self.old.1.events) }
+        ensures planned { S.planned self.new.0 ≡ S.planned self.old.0 }
+        ensures past { self.new.1 ≡ self.old.1 }
+        ensures ending { IfOk result (IsTrueEnding S.tells (S.planned self.old.0) (progress self.old.1.events)) }
+    {
+        match refused_ending(alloc, &self.history)? {
+            Some(ending) => Ok(ending),
+            None => unrefused_ending(alloc, &mut self.standings, &self.history, &self.agenda),
+        }
+    }
+
+    /// The id of what the task puts or deletes, as it is spelled; else `enter ` or `leave ` and the position of the
+    /// scope.
+    pub fn task_name(&self, alloc: Global, task: u32) -> Result<Text, OutOfMemory>
+        requires { task < length (S.planned self.now.0).tasks }
+        ensures { IfOk result (λ t. name_of S.titled (S.planned self.now.0) task ≡ Some t) }
+    {
+        task_name(alloc, &self.standings, task)
     }
 }

@@ -3,11 +3,17 @@ ghost use Rattle.std.specs.Prelude.{◌≡◌, ◌<◌, ◌++◌, ◌∷◌, [],
 ghost use Rattle.depend_graph.specs.Shape.{with_done};
 ghost use Rattle.plan_cells.specs.Known.{Table};
 ghost use Rattle.deploy_histories.specs.Planned.{Planned};
-ghost use Rattle.deploy_histories.specs.Events.{Event, progress, done_status, NoneBegun};
+ghost use Rattle.deploy_histories.specs.Answers.{Noted, IsReplay};
+ghost use Rattle.deploy_histories.specs.Endings.{Stands, IsEnding, circular};
+ghost use Rattle.deploy_histories.specs.Events.{Event, Progress, progress, done_status, NoneBegun};
+ghost use Rattle.deploy_histories.specs.Points.{IsTableOf};
+ghost use Rattle.deploy_histories.specs.Readiness.{Fault, at_fault};
 ghost use Rattle.deploy_histories.specs.Legal.{May, HasEnded};
 ghost use Rattle.point_values.specs.Seen.{IsSeen};
 ghost use Rattle.task_agenda.specs.declared.agenda.Agenda.{Agenda};
 ghost use Rattle.task_standings.specs.Standings.{AreScopesSeen};
+ghost use Rattle.task_standings.specs.Failures.{IsFaulty};
+ghost use Rattle.deploy_core.specs.Endings.{IsCircular};
 ghost use Rattle.task_agenda.specs.Agendas.{is_listed, HasGraph};
 ghost use Rattle.deploy_core.specs.Boards.{NoneMayBegin};
 ghost use Rattle.deploy_core.specs.Kept.{IsKept, Concerns, Does};
@@ -39,4 +45,19 @@ pub fn done_tasks_are_kept()
         → IsKept x s tasks h a seen → (e : Event) → May x (progress h) e → IsSeen x (progress (h ++ e ∷ [])) t
         → AreScopesSeen x (progress (h ++ e ∷ [])) t → (u : ℕ) → u < length x.tasks → Does h e u
         → HasGraph a b (with_done a.graph u) → IsKept x t tasks (h ++ e ∷ []) b seen }
+{}
+
+/// By all that is known, the fault of an ending is that of a task that needs nothing more, and the tasks of a circle
+/// need each other.
+pub fn endings_are_true()
+    ensures faulty { (x : Planned) (p : Progress) (t : Table) → IsTableOf x p t → (u : ℕ) (f : Fault)
+        → IsFaulty x p u f → Stands x p u (at_fault f) }
+    ensures circular { (x : Planned) (p : Progress) (t : Table) → IsTableOf x p t → (u : ℕ) (us : List ℕ)
+        → IsCircular x p (u ∷ us) → IsEnding x p (circular u us) }
+{}
+
+/// A history that is replayed from answers is the only one.
+pub fn replays_are_one()
+    ensures { (x : Planned) (ns : List Noted) (p : Progress) (g h : List Event) → IsReplay x p ns g
+        → IsReplay x p ns h → g ≡ h }
 {}

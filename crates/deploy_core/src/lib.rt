@@ -7,10 +7,13 @@ mod beginning;
 mod board;
 mod dealer;
 mod dealing;
+mod ending;
 pub mod laws;
 mod looking;
+mod naming;
 mod opening;
 mod passing;
 mod waking;
 
 pub use board::Board;
+pub use ending::Ending;

@@ -4,7 +4,7 @@ ghost use Rattle.std.specs.Prelude.{◌≡◌, ◌<◌, ◌^◌, ◌++◌, ◌�
 ghost use Rattle.plan_cells.specs.Plan.{Need};
 ghost use Rattle.task_agenda.specs.Agendas.{count as count_of};
 ghost use Rattle.deploy_core.specs.Kept.{enters_or_leaves, kind_of_scope};
-ghost use Rattle.deploy_core.specs.Opens.{HasNeeds, IsNeedAdded, IsFirstAgenda, IsFirst};
+ghost use Rattle.deploy_core.specs.Opens.{HasNeeds, IsNeedAdded, IsFilled, IsFirst};
 
 use arm_value::OutOfMemory;
 use board_history::History;
@@ -74,6 +74,39 @@ fn add_needs(
     Ok(())
 }
 
+// Adds these needs, and lists the tasks that need nothing.
+fn fill(
+    alloc: Global,
+    agenda: &mut Agenda,
+    count: usize,
+    needs: &[(usize, usize)],
+) -> Result<(), OutOfMemory>
+    requires count { count ≡ count_of agenda.old }
+    requires none { HasNeeds agenda.old agenda.old.kinds.items [] }
+    ensures { OnOk result (IsFilled agenda.old.kinds.items needs.now agenda.new) }
+{
+    add_needs(alloc, agenda, count, needs)?;
+    agenda.wake_all()
+}
+
+// The same agenda with these needs.
+fn filled(
+    alloc: Global,
+    agenda: Agenda,
+    count: usize,
+    needs: &[(usize, usize)],
+) -> Result<Agenda, OutOfMemory>
+    requires count { count ≡ count_of agenda }
+    requires none { HasNeeds agenda agenda.kinds.items [] }
+    ensures { IfOk result (IsFilled agenda.kinds.items needs.now) }
+{
+    let mut agenda = agenda;
+    match fill(alloc, &mut agenda, count, needs) {
+        Ok(()) => Ok(agenda),
+        Err(_) => run_out(agenda),
+    }
+}
+
 /// The agenda of the tasks with these needs. A task that needs nothing is listed.
 pub(crate) fn first_agenda<S: Standings>(
     alloc: Global,
@@ -81,14 +114,12 @@ pub(crate) fn first_agenda<S: Standings>(
     needs: &[(usize, usize)],
 ) -> Result<Agenda, OutOfMemory>
     requires { S.sound standings.now }
-    ensures { IfOk result (IsFirstAgenda (S.planned standings.now) needs.now) }
+    ensures { IfOk result (IsFilled (map enters_or_leaves (S.planned standings.now).tasks) needs.now) }
 {
     let kinds = kinds(alloc, standings)?;
     let count = kinds.len();
-    let mut agenda = Agenda::new(alloc, kinds)?;
-    add_needs(alloc, &mut agenda, count, needs)?;
-    agenda.wake_all()?;
-    Ok(agenda)
+    let agenda = Agenda::new(alloc, kinds)?;
+    filled(alloc, agenda, count, needs)
 }
 
 /// The history and the agenda of a plan of which nothing has happened.

@@ -75,6 +75,13 @@ impl Agenda {
         self.graph.unmet(task) == 0
     }
 
+    /// The needs of the task that are not done, rising.
+    pub fn blockers(&self, alloc: Global, task: u32) -> Result<Vec<u32>, OutOfMemory>
+        ensures { IfOk result (λ v. v.items ≡ undone_needs self.now.graph task) }
+    {
+        self.graph.blockers(alloc, task)
+    }
+
     /// The task needs another. After `OutOfMemory` nothing is changed.
     pub fn need(&mut self, alloc: Global, task: u32, other: u32) -> Result<(), OutOfMemory>
         requires task { task < count self.old }

@@ -1,5 +1,5 @@
 -- How a task stands that waits and whose needs at the start are done: by what is known at a point of a deployment.
-use Rattle.std.specs.Prelude.{◌≡◌, ◌⊎◌, ℕ, List, true, false, Option, Some, slice_get}
+use Rattle.std.specs.Prelude.{◌≡◌, ◌⊎◌, ℕ, List, true, false, Option, Some, None, option_and_then, slice_get}
 use Rattle.arm_value.specs.Json.{Json}
 use Rattle.arm_value.specs.View.{json}
 use Rattle.provider_trait.specs.Act.{FitsAct}
@@ -99,6 +99,17 @@ kind_of (enter p) = Enter
 kind_of (put p s) = Put
 kind_of (delete k) = Delete
 kind_of (leave p) = Leave
+
+-- the scope that a task enters or leaves
+abbrev pub scope_of : Task → Option Position
+scope_of (enter p) = Some p
+scope_of (leave p) = Some p
+scope_of (put p s) = None
+scope_of (delete k) = None
+
+-- the same of the task of the number
+abbrev pub scope_at : Planned → ℕ → Option Position
+scope_at x u = option_and_then scope_of (slice_get x.tasks u)
 
 -- the task leaves a scope, and is ready
 abbrev pub Leaves : Planned → ℕ → Standing → Type 0

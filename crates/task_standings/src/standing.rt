@@ -1,7 +1,8 @@
 // How tasks stand.
 
-use arm_value::{Text, Value};
+use arm_value::{Path, Text, Value};
 use provider_trait::Act;
+use template_parts::BindFault;
 
 /// What a task does.
 #[derive(Clone, Copy, Debug, PartialEq, Eq)]
@@ -25,6 +26,24 @@ pub enum Standing {
     Waits(u32),
     /// A value of it is none.
     Stuck,
+}
+
+/// Why a task that needs nothing more is not ready.
+#[derive(Drop)]
+pub enum TaskFault {
+    /// The text at this path has no value.
+    NoValue(Path),
+    /// The value at this path does not suit a parameter or an output.
+    Unsuited(Path, BindFault),
+}
+
+/// Why a task that is not done cannot begin at the end of a deployment.
+#[derive(Drop)]
+pub enum Failing {
+    /// It needs nothing more, and this is its fault.
+    Faulty(TaskFault),
+    /// It needs this task, which is not done either.
+    Needs(u32),
 }
 
 /// What a put or a deletion is for.

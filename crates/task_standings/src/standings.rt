@@ -1,7 +1,7 @@
 // The trait of what says how tasks stand.
 
-use crate::standing::{Aim, Kind, Standing};
-use arm_value::OutOfMemory;
+use crate::standing::{Aim, Failing, Kind, Standing};
+use arm_value::{OutOfMemory, Text};
 use board_history::History;
 use std::alloc::Global;
 
@@ -9,17 +9,20 @@ use std::alloc::Global;
 ///
 /// What it knows is true at the point that it was asked at, and at each later one.
 pub trait Standings: Drop {
-    ghost use Rattle.std.specs.Prelude.{◌≡◌, ◌<◌, ℕ, Some, length, IfOk, slice_get, option_map};
+    ghost use Rattle.std.specs.Prelude.{◌≡◌, ◌<◌, ℕ, List, Some, length, IfOk, slice_get, option_map};
     ghost use Rattle.reading.specs.Knowledge.{Grows};
+    ghost use Rattle.deploy_cells.specs.Cells.{Position};
     ghost use Rattle.plan_cells.specs.Known.{Table};
     ghost use Rattle.plan_cells.specs.Tasks.{Task};
     ghost use Rattle.deploy_histories.specs.Planned.{Planned};
-    ghost use Rattle.deploy_histories.specs.Events.{is_waiting, progress, IsDone};
-    ghost use Rattle.deploy_histories.specs.Legal.{IsAct, IsLegal};
+    ghost use Rattle.deploy_histories.specs.Events.{is_waiting, progress, IsDone, NoneBegun};
+    ghost use Rattle.deploy_histories.specs.Legal.{IsAct, IsLegal, NothingMay};
     ghost use Rattle.deploy_histories.specs.Outcome.{target_of};
     ghost use Rattle.point_values.specs.Seen.{IsSeen};
     ghost use Rattle.task_standings.specs.Standings.{IsStanding, AreStartNeedsDone, kind_of, Enters, Leaves};
+    ghost use Rattle.task_standings.specs.Standings.{scope_at};
     ghost use Rattle.task_standings.specs.Standings.{IsScopeSeen, AreScopesSeen};
+    ghost use Rattle.task_standings.specs.Failures.{Tells, IsFailing};
 
     /// What is deployed.
     ghost planned: { Self → Planned };
@@ -32,6 +35,12 @@ pub trait Standings: Drop {
 
     /// The outputs of the scope that this task leaves are noted, and are known once it is left.
     ghost noted: { Self → ℕ → Type 0 };
+
+    /// What a fault that is returned says of the fault of a task.
+    ghost tells: { Tells };
+
+    /// The text of a position of a scope.
+    ghost titled: { Planned → Position → List ℕ };
 
     /// The number of tasks.
     fn count(&self) -> u32
@@ -50,6 +59,13 @@ pub trait Standings: Drop {
         requires act { (t : Task) × ((slice_get (planned self.now).tasks task ≡ Some t) × IsAct t) }
         ensures { IfOk result (λ a. target_of (planned self.now) task
             ≡ Some (record { act = a.act; id = a.id; api = a.api })) };
+
+    /// The position of the scope that the task enters or leaves, as a text.
+    fn place(&self, alloc: Global, task: u32) -> Result<Text, OutOfMemory>
+        requires sound { sound self.now }
+        requires scope { (q : Position) × (scope_at (planned self.now) task ≡ Some q) }
+        ensures { IfOk result (λ t. option_map (titled (planned self.now)) (scope_at (planned self.now) task)
+            ≡ Some t) };
 
     /// How the task stands after this history. It may look at the states that are stored in it. What is known of the
     /// scopes that were entered and left stays known.
@@ -87,4 +103,27 @@ pub trait Standings: Drop {
         ensures seen { IsSeen (planned self.old) (progress history.now.events) (known self.new) }
         ensures grows { Grows (known self.old) (known self.new) }
         ensures left { IsScopeSeen (planned self.old) (known self.new) task };
+
+    /// Why the task cannot begin after this history, in which no Begin is open and nothing more may come. It may look
+    /// at the states that are stored in it.
+    fn failing(
+        &mut self,
+        alloc: Global,
+        history: &History,
+        task: u32,
+    ) -> Result<Failing, OutOfMemory>
+        requires sound { sound self.old }
+        requires within { task < length (planned self.old).tasks }
+        requires legal { IsLegal (planned self.old) history.now.events }
+        requires waits { (progress history.now.events).status task ≡ is_waiting }
+        requires idle { NoneBegun (progress history.now.events) }
+        requires over { NothingMay (planned self.old) (progress history.now.events) }
+        requires needs { AreStartNeedsDone (planned self.old) (progress history.now.events) task }
+        requires seen { IsSeen (planned self.old) (progress history.now.events) (known self.old) }
+        requires scopes { AreScopesSeen (planned self.old) (progress history.now.events) (known self.old) }
+        ensures sound { sound self.new }
+        ensures planned { planned self.new ≡ planned self.old }
+        ensures seen { IsSeen (planned self.old) (progress history.now.events) (known self.new) }
+        ensures grows { Grows (known self.old) (known self.new) }
+        ensures failing { IfOk result (IsFailing tells (planned self.old) (progress history.now.events) task) };
 }

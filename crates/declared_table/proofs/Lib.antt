@@ -1,0 +1,5 @@
+mod ListLemmas
+mod EntryLemmas
+mod TypeLemmas
+mod PartLemmas
+mod RunLemmas

@@ -1,0 +1,27 @@
+use Rattle.std.proofs.Common.{◌≡◌, ◌∙◌, ap, sym, subst, arith, true, refl}
+use Rattle.std.specs.Prelude.{slice_set, OnOk}
+use Rattle.declared_table.specs.Seen.{Shape}
+use Rattle.declared_table.proofs.EntryLemmas.{table_pushed, entry_inside}
+use Rattle.declared_table.proofs.ListLemmas.{flags_set}
+use Rattle.declared_table.proofs.table.Table.push.Goals.{in-Ok, in-Err}
+use Rattle.declared_table.proofs.table.Table.push.Goals as goal
+
+pub invariant_of-self : goal.invariant_of-self
+invariant_of-self c =
+    let i = c.self.inside in
+    let last = c.len-place.ensures in
+    let own = i.entries.ok.0 in
+    table_pushed i.file.now i.files.now i.has_entry.now i.types.items i.places.items i.entries.items c.self.invariant
+    c.args.number c.args.entry
+    (entry_inside c.args.self.now _ c.args.number c.args.entry (sym c.self.view_is) c.requires.entry)
+    c.len-place.result _ _ (omega (arith, last, own)) refl c.in-Ok.ensures.items
+
+pub returns-clause-known : goal.returns-clause-known
+returns-clause-known c = elim c.match-push.branch [
+  | in-Ok w ↦
+      subst (λ r. OnOk r (c.match-push.self.1.1 ≡ slice_set c.args.self.now.1.1 c.args.number true)) (sym w.result-is)
+      (ap (λ (s : Shape). s.1.1) w.self-is ∙ flags_set c.self.inside.places.items c.args.number c.len-place.result
+      ∙ ap (λ (s : Shape). slice_set s.1.1 c.args.number true) c.self.view_is)
+  | in-Err w ↦
+      subst (λ r. OnOk r (c.match-push.self.1.1 ≡ slice_set c.args.self.now.1.1 c.args.number true)) (sym w.result-is) tt
+]

@@ -1,0 +1,138 @@
+//! The table.
+ghost use Rattle.std.specs.Prelude.{◌≡◌, ◌<◌, length, slice_set, true, is_some, IfOk, OnOk, MatchOption};
+ghost use Rattle.ordered_emissions.specs.Orders.{IsPaired};
+ghost use Rattle.declared_table.specs.Seen.{file_of, file_in, whole_in, is_known};
+ghost use Rattle.declared_table.specs.Entries.{IsEntry};
+
+use crate::entry::Entry;
+use arm_value::OutOfMemory;
+use declared_types::{Typed, types_of};
+use resolved_program::ResolvedFile;
+use std::alloc::{AllocError, Global};
+use std::marker::Model;
+
+/// What the declarations of a file become, as far as the table is filled. Contracts see the file, the files of the
+/// program, the variables that have an entry, and which symbols are in the table.
+#[derive(Drop)]
+pub struct Table<'a> {
+    pub(crate) file: &'a ResolvedFile,
+    pub(crate) files: &'a [ResolvedFile],
+    pub(crate) has_entry: &'a [bool],
+    pub(crate) types: Vec<Typed>,
+    places: Vec<Option<usize>>,
+    entries: Vec<Entry>,
+}
+
+impl<'a> Model for Table<'a> {
+    ghost use Rattle.std.specs.Prelude.{map, is_some};
+    ghost use Rattle.std.specs.Coded.{codes};
+    ghost use Rattle.bicep_resolved.specs.contracts.source.Reach as reach;
+    ghost use Rattle.bicep_resolved.specs.contracts.source.Source as source;
+    ghost use Rattle.bicep_resolved.specs.contracts.source.SourceValue as value;
+    ghost use Rattle.bicep_resolved.specs.contracts.source.Piece as piece;
+    ghost use Rattle.bicep_resolved.specs.contracts.source.Property as property;
+    ghost use Rattle.bicep_resolved.specs.contracts.source.SourceLoop as each;
+    ghost use Rattle.declared_table.specs.Seen.{Shape};
+
+    ghost Value = { Shape };
+
+    ghost coded = { Prim.hlevel (
+      codes,
+      reach.the_row.coded,
+      source.the_row.coded,
+      value.the_row.coded,
+      piece.the_row.coded,
+      property.the_row.coded,
+      each.the_row.coded,
+    ) };
+
+    ghost use Rattle.declared_table.specs.Entries.{IsTable};
+
+    ghost view = { λ t. ((t.file.now, t.files.now), (t.has_entry.now, map is_some t.places.items)) };
+
+    ghost invariant = { λ t. IsTable t.file.now t.files.now t.has_entry.now t.types.items t.places.items
+        t.entries.items };
+}
+
+impl<'a> Table<'a> {
+    /// A table without entries. `has_entry` marks the variables that have an entry in the template, by the numbers of
+    /// their symbols.
+    ///
+    /// # Errors
+    ///
+    /// `OutOfMemory`.
+    pub fn empty(
+        alloc: Global,
+        file: &'a ResolvedFile,
+        files: &'a [ResolvedFile],
+        has_entry: &'a [bool],
+    ) -> Result<Table<'a>, OutOfMemory>
+        requires paired { IsPaired (file_of file.now has_entry.now) }
+        ensures file { IfOk result (λ t. t.0 ≡ (file.now, files.now)) }
+        ensures marks { IfOk result (λ t. t.1.0 ≡ has_entry.now) }
+        ensures count { IfOk result (λ t. length t.1.1 ≡ length file.now.entries.items) }
+    {
+        let count = file.entries.len();
+        let types = types_of(
+            alloc,
+            file.entries.as_slice(),
+            file.declared.declarations.as_slice(),
+        )?;
+        let places = vec![in alloc; None; count]?;
+        Ok(Table {
+            file,
+            files,
+            has_entry,
+            types,
+            places,
+            entries: Vec::new(alloc),
+        })
+    }
+
+    /// The file.
+    pub fn file(&self) -> &'a ResolvedFile
+        ensures { result.now ≡ self.now.0.0 }
+    {
+        self.file
+    }
+
+    /// Whether a symbol is a variable that has an entry in the template.
+    pub fn is_entry(&self, number: usize) -> bool
+        ensures { result ≡ (file_in self.now).has_entry number }
+    {
+        self.has_entry.get(number).copied().unwrap_or(false)
+    }
+
+    /// The entry of a symbol, where it is in the table.
+    pub fn entry(&self, number: usize) -> Option<&Entry>
+        ensures known { is_some result ≡ is_known self.now number }
+        ensures entry { MatchOption result (Unit {0})
+            (λ e. IsEntry (file_in self.now) (whole_in self.now) number e.now) }
+    {
+        match self.places.get(number).copied() {
+            Some(Some(place)) => self.entries.get(place),
+            _ => None,
+        }
+    }
+
+    /// Adds the entry of a symbol.
+    ///
+    /// # Errors
+    ///
+    /// `OutOfMemory`.
+    pub fn push(&mut self, number: usize, entry: Entry) -> Result<(), OutOfMemory>
+        requires there { number < length self.old.1.1 }
+        requires entry { IsEntry (file_in self.old) (whole_in self.old) number entry }
+        ensures file { (self.new.0 ≡ self.old.0) × (self.new.1.0 ≡ self.old.1.0) }
+        ensures known { OnOk result (self.new.1.1 ≡ slice_set self.old.1.1 number true) }
+    {
+        let place = self.entries.len();
+        match self.entries.push(entry) {
+            Ok(()) => {
+                self.places[number] = Some(place);
+                Ok(())
+            }
+            Err(_) => Err(AllocError),
+        }
+    }
+}

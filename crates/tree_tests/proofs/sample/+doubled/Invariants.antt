@@ -1,0 +1,4 @@
+use Rattle.tree_tests.proofs.sample.+doubled.Given as goal
+
+abbrev pub decreases-doubled : goal.decreases-doubled
+decreases-doubled l = l.number

@@ -1,5 +1,6 @@
 //! The table.
-ghost use Rattle.std.specs.Prelude.{◌≡◌, ◌<◌, length, slice_set, true, is_some, IfOk, OnOk, MatchOption};
+ghost use Rattle.std.specs.Prelude.{◌≡◌, ◌<◌, ◌++◌, ◌∷◌, [], length, slice_set, true, is_some, is_ok, if◌then◌else◌};
+ghost use Rattle.std.specs.Prelude.{IfOk, OnOk, MatchOption};
 ghost use Rattle.ordered_emissions.specs.Orders.{IsPaired};
 ghost use Rattle.declared_table.specs.Seen.{file_of, file_in, whole_in, is_known};
 ghost use Rattle.declared_table.specs.Entries.{IsEntry};
@@ -127,12 +128,22 @@ impl<'a> Table<'a> {
         ensures known { OnOk result (self.new.1.1 ≡ slice_set self.old.1.1 number true) }
     {
         let place = self.entries.len();
-        match self.entries.push(entry) {
+        match pushed(&mut self.entries, entry) {
             Ok(()) => {
                 self.places[number] = Some(place);
                 Ok(())
             }
-            Err(_) => Err(AllocError),
+            Err(error) => Err(error),
         }
+    }
+}
+
+// Adds an item at the end.
+fn pushed<T: Drop>(list: &mut Vec<T>, item: T) -> Result<(), OutOfMemory>
+    ensures items { list.new.items ≡ (if is_ok result then list.old.items ++ item ∷ [] else list.old.items) }
+{
+    match list.push(item) {
+        Ok(()) => Ok(()),
+        Err(_) => Err(AllocError),
     }
 }

@@ -1,9 +1,8 @@
-use Rattle.std.proofs.Common.{◌≡◌, ◌∙◌, ap, sym, subst, arith, true, refl}
-use Rattle.std.specs.Prelude.{slice_set, OnOk}
+use Rattle.std.proofs.Common.{◌∙◌, ap, sym, arith, true, refl}
+use Rattle.std.specs.Prelude.{slice_set}
 use Rattle.declared_table.specs.Seen.{Shape}
 use Rattle.declared_table.proofs.EntryLemmas.{table_pushed, entry_inside}
 use Rattle.declared_table.proofs.ListLemmas.{flags_set}
-use Rattle.declared_table.proofs.table.Table.push.Goals.{in-Ok, in-Err}
 use Rattle.declared_table.proofs.table.Table.push.Goals as goal
 
 pub invariant_of-self : goal.invariant_of-self
@@ -16,12 +15,7 @@ invariant_of-self c =
     (entry_inside c.args.self.now _ c.args.number c.args.entry (sym c.self.view_is) c.requires.entry)
     c.len-place.result _ _ (omega (arith, last, own)) refl c.in-Ok.ensures.items
 
-pub returns-clause-known : goal.returns-clause-known
-returns-clause-known c = elim c.match-push.branch [
-  | in-Ok w ↦
-      subst (λ r. OnOk r (c.match-push.self.1.1 ≡ slice_set c.args.self.now.1.1 c.args.number true)) (sym w.result-is)
-      (ap (λ (s : Shape). s.1.1) w.self-is ∙ flags_set c.self.inside.places.items c.args.number c.len-place.result
-      ∙ ap (λ (s : Shape). slice_set s.1.1 c.args.number true) c.self.view_is)
-  | in-Err w ↦
-      subst (λ r. OnOk r (c.match-push.self.1.1 ≡ slice_set c.args.self.now.1.1 c.args.number true)) (sym w.result-is) tt
-]
+pub returns-in-Ok-clause-known : goal.returns-in-Ok-clause-known
+returns-in-Ok-clause-known c =
+    flags_set c.self.inside.places.items c.args.number c.len-place.result
+    ∙ ap (λ (s : Shape). slice_set s.1.1 c.args.number true) c.self.view_is

@@ -35,13 +35,15 @@ use Rattle.task_standings.specs.Standings.{FitsTask, IsScopeSeen}
 use Rattle.task_agenda.specs.declared.agenda.Agenda.{Agenda}
 use Rattle.task_agenda.specs.Agendas.{is_scope, HasGraph, is_listed}
 use Rattle.depend_graph.specs.Shape.{with_done}
-use Rattle.deploy_core.specs.Boards.{HasPassed, job_of, IsJobOf, IsBegunAs, NoneMayBegin, IsNext, IsStarted, IsPause}
+use Rattle.deploy_core.specs.Boards.{HasPassed, HasSettled, job_of, IsJobOf, IsBegunAs, NoneMayBegin, IsNext, IsStarted}
+use Rattle.deploy_core.specs.Boards.{IsPause}
 use Rattle.deploy_core.specs.Kept.{IsKept}
 use Rattle.deploy_core.specs.Looks.{IsReady, IsReadyAct, NoScopeListed, NoActListed}
 use Rattle.deploy_core.specs.Passes.{GoesOn}
 use Rattle.deploy_core.proofs.Happening.{answered, begun_concerns, begun_same, back_concerns, back_same}
 use Rattle.deploy_core.proofs.Happening.{refused_concerns, refused_same, begun_within}
-use Rattle.deploy_core.proofs.Pausing.{none_may_begin, has_ended, refused_has_ended, refused_none_may_begin}
+use Rattle.deploy_core.proofs.Pausing.{none_may_begin, has_ended, settled, refused_has_ended, refused_settled}
+use Rattle.deploy_core.proofs.Pausing.{refused_none_may_begin}
 use Rattle.deploy_core.proofs.PassLemmas.{none_passed, is_act, ready_waits, seen_after, scopes_after}
 use Rattle.deploy_core.proofs.PassLemmas.{grows_still}
 use Rattle.deploy_core.proofs.Stepping.{same_agenda, done_agenda}
@@ -154,12 +156,12 @@ module _ (x : Planned) (t : Table)
 -- ---- what is answered
 
 pub started_next : (x : Planned) (old between : List Event) (u worker : ℕ) (body : Json) (n : Next) (new : List Event)
-    → HasPassed old between → IsStarted x between u worker body n new → IsNext x old worker n new
+    → HasSettled x old between → IsStarted x between u worker body n new → IsNext x old worker n new
 started_next x old between u worker body (Begun job) new p s =
     subst (λ (j : Work). IsBegunAs x old worker j new) (sym s.0.1.1)
     (record {
       between = between;
-      has_passed = p;
+      has_settled = p;
       begun = s.1;
       aim = s.0.0;
       has_aim = s.0.1.0;
@@ -168,7 +170,7 @@ started_next x old between u worker body (Begun job) new p s =
 started_next x old between u worker body Wait new p s = absurd s
 started_next x old between u worker body End new p s = absurd s
 
-pub paused_next : (x : Planned) (old : List Event) (worker : ℕ) (n : Next) (new : List Event) → HasPassed old new
+pub paused_next : (x : Planned) (old : List Event) (worker : ℕ) (n : Next) (new : List Event) → HasSettled x old new
     → IsPause (progress new) n → NoneMayBegin x (progress new) → (NoneBegun (progress new) → HasEnded x (progress new))
     → IsNext x old worker n new
 paused_next x old worker (Begun job) new p i m e = absurd i
@@ -186,7 +188,7 @@ none_listed a s c u = by (is_scope a u) refl
 -- ---- the same for the code
 
 pub deal_started : (x y : Planned) (old between new : List Event) (u worker : ℕ) (body : Json)
-    (r : Result Next AllocError) → y ≡ x → HasPassed old between
+    (r : Result Next AllocError) → y ≡ x → HasSettled x old between
     → IfOk r (λ n. IsStarted y between u worker body n new) → IfOk r (λ n. IsNext x old worker n new)
 deal_started x y old between new u worker body (Ok n) e p s =
     started_next x old between u worker body n new p
@@ -202,13 +204,16 @@ pub deal_paused : (x : Planned) (t : Table) (tasks : ℕ) (h : List Event) (a : 
     → IsKept x t tasks h a seen → seen ≡ length h → NoScopeListed a → NoActListed a → (old : List Event) (worker : ℕ)
     (n : Next) → HasPassed old h → IsPause (progress h) n → IsNext x old worker n h
 deal_paused x t tasks h a seen k all s c old worker n p i =
-    paused_next x old worker n h p i (none_may_begin x t tasks h a seen k all (none_listed a s c))
+    paused_next x old worker n h (record { has_passed = p; is_settled = settled x t tasks h a seen k all s }) i
+    (none_may_begin x t tasks h a seen k all (none_listed a s c))
     (has_ended x t tasks h a seen k all (none_listed a s c))
 
 pub refused_next : (x : Planned) (h : List Event) (worker : ℕ) (n : Next) → (progress h).refusal ≢ None
     → IsPause (progress h) n → IsNext x h worker n h
 refused_next x h worker n r i =
-    paused_next x h worker n h (none_passed h) i (refused_none_may_begin x (progress h) r)
+    paused_next x h worker n h
+    (record { has_passed = none_passed h; is_settled = refused_settled x (progress h) r }) i (refused_none_may_begin
+    x (progress h) r)
     (λ idle. refused_has_ended x (progress h) idle r)
 
 pub refusal_there : {A B : Type 0} (f : A → B) (o : Option A) (r : Option B) → option_map f o ≡ r

@@ -10,6 +10,7 @@ use Rattle.plan_cells.specs.Tasks.{Task}
 use Rattle.deploy_histories.specs.Planned.{Planned}
 use Rattle.deploy_histories.specs.Events as event
 use Rattle.deploy_histories.specs.Events.{Event, Progress, progress, Status, is_waiting, done_status, NoneBegun}
+use Rattle.deploy_histories.specs.Answers.{IsSettled}
 use Rattle.deploy_histories.specs.Legal.{MayStart, NothingMay, HasEnded}
 use Rattle.deploy_histories.proofs.ReadinessLemmas.{ready_says}
 use Rattle.task_standings.specs.Standings.{Needs, IsStuck}
@@ -19,13 +20,14 @@ use Rattle.task_agenda.specs.Agendas.{is_listed}
 use Rattle.task_agenda.specs.Lists.{IsHeldUp}
 use Rattle.deploy_core.specs.Boards.{NoneMayBegin}
 use Rattle.deploy_core.specs.Kept.{IsNeeded, IsWoken, IsStuckTask, IsCovered, IsKept}
+use Rattle.deploy_core.specs.Looks.{NoScopeListed}
 use Rattle.deploy_core.proofs.Undone.{undone_need}
 
 same_task : (a b : Task) → Some a ≡ Some b → a ≡ b
 same_task a b e = cc
 
 module _ (x : Planned) (t : Table) (tasks : ℕ) (h : List Event) (a : Agenda) (seen : ℕ)
-    (k : IsKept x t tasks h a seen) (all : seen ≡ length h) (none : (u : ℕ) → is_listed a u ≡ false) where
+    (k : IsKept x t tasks h a seen) (all : seen ≡ length h) where
   not_woken : (u : ℕ) → IsWoken x h a seen u → ⊥
   not_woken u w =
       let l = slice_get_within h w.place w.happened w.is_there in
@@ -49,26 +51,43 @@ module _ (x : Planned) (t : Table) (tasks : ℕ) (h : List Event) (a : Agenda) (
       stuck_is_not_ready x (progress h) m.known m.is_known u k2 body
       (subst (λ (z : Task). IsStuck x (progress h) z) same s.is_stuck) m.is_ready
 
-  pub none_starts : (u : ℕ) (k2 : Task) (body : Json) → MayStart x (progress h) u k2 body → ⊥
-  none_starts u k2 body m =
+  -- a task that is not listed may not start
+  pub none_starts : (u : ℕ) → is_listed a u ≡ false → (k2 : Task) (body : Json) → MayStart x (progress h) u k2 body → ⊥
+  none_starts u none k2 body m =
       by_cover (k.covered u (slice_get_within x.tasks u k2 m.is_task)
       (ready_says x m.known (progress h) u k2 body m.is_ready).is_free.waits_still)
     where
       by_cover : IsCovered x h a seen u → ⊥
-      by_cover (inl (inl l)) = true≢false (sym l ∙ none u)
+      by_cover (inl (inl l)) = true≢false (sym l ∙ none)
       by_cover (inl (inr i)) = not_held u k2 body m i
       by_cover (inr (inl w)) = not_woken u w
       by_cover (inr (inr s)) = not_stuck u k2 body m s
 
+  -- where no task of scopes is listed, no scope may be entered or left
+  pub settled : NoScopeListed a → IsSettled x (progress h)
+  settled none v (event.enter u) i m =
+      none_starts u (none u (k.kinds_are u (task.enter m.0) m.1.is_task)) (task.enter m.0) null m.1
+  settled none v (event.leave u) i m =
+      none_starts u (none u (k.kinds_are u (task.leave m.0) m.1.is_task)) (task.leave m.0) null m.1
+  settled none v (event.begin u worker body) i m = i
+  settled none v (event.answer u b) i m = i
+  settled none v (event.back u) i m = i
+  settled none v event.crash i m = i
+
+module _ (x : Planned) (t : Table) (tasks : ℕ) (h : List Event) (a : Agenda) (seen : ℕ)
+    (k : IsKept x t tasks h a seen) (all : seen ≡ length h) (none : (u : ℕ) → is_listed a u ≡ false) where
+  starts : (u : ℕ) (k2 : Task) (body : Json) → MayStart x (progress h) u k2 body → ⊥
+  starts u k2 body m = none_starts x t tasks h a seen k all u (none u) k2 body m
+
   pub none_may_begin : NoneMayBegin x (progress h)
-  none_may_begin u worker body m = none_starts u m.0 body m.1.1
+  none_may_begin u worker body m = starts u m.0 body m.1.1
 
   pub nothing_may : NoneBegun (progress h) → NothingMay x (progress h)
-  nothing_may idle (event.enter u) m = absurd (none_starts u (task.enter m.0) null m.1)
+  nothing_may idle (event.enter u) m = absurd (starts u (task.enter m.0) null m.1)
   nothing_may idle (event.begin u worker body) m = absurd (none_may_begin u worker body m)
   nothing_may idle (event.answer u b) m = absurd (idle u m.is_begun)
   nothing_may idle (event.back u) m = absurd (idle u m)
-  nothing_may idle (event.leave u) m = absurd (none_starts u (task.leave m.0) null m.1)
+  nothing_may idle (event.leave u) m = absurd (starts u (task.leave m.0) null m.1)
   nothing_may idle event.crash m = refl
 
   pub has_ended : NoneBegun (progress h) → HasEnded x (progress h)
@@ -76,6 +95,14 @@ module _ (x : Planned) (t : Table) (tasks : ℕ) (h : List Event) (a : Agenda) (
 
 pub refused_has_ended : (x : Planned) (p : Progress) → NoneBegun p → p.refusal ≢ None → HasEnded x p
 refused_has_ended x p idle r = record { none_begun = idle; no_more = inl r }
+
+pub refused_settled : (x : Planned) (p : Progress) → p.refusal ≢ None → IsSettled x p
+refused_settled x p r v (event.enter u) i m = r m.1.unrefused
+refused_settled x p r v (event.leave u) i m = r m.1.unrefused
+refused_settled x p r v (event.begin u worker body) i m = i
+refused_settled x p r v (event.answer u b) i m = i
+refused_settled x p r v (event.back u) i m = i
+refused_settled x p r v event.crash i m = i
 
 pub refused_none_may_begin : (x : Planned) (p : Progress) → p.refusal ≢ None → NoneMayBegin x p
 refused_none_may_begin x p r u worker body m = r m.1.1.unrefused

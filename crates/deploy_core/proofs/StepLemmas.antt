@@ -228,7 +228,7 @@ module _ (x : Planned) where
 
     none_open : begun job.task (steps_of x old) ≡ None
     none_open =
-        ap (λ (ss : List DealerStep). begun job.task ss) (sym (passed_steps old i.between i.has_passed))
+        ap (λ (ss : List DealerStep). begun job.task ss) (sym (passed_steps old i.between i.has_settled.has_passed))
         ∙ open_of i.between split.0 job.task
         ∙ ap (open_job x job.task)
         (start_waits x (progress i.between) job.task split.1.0 job.body split.1.1.1)
@@ -246,7 +246,7 @@ module _ (x : Planned) where
         ap (λ (h : List Event). steps_of x h) i.begun
         ∙ steps_more i.between (event.begin job.task worker job.body)
         ∙ ap (λ (ss : List DealerStep). ss ++ begins (open_job x job.task (is_begun worker job.body)))
-        (passed_steps old i.between i.has_passed)
+        (passed_steps old i.between i.has_settled.has_passed)
         ∙ ap (λ (ss : List DealerStep). steps_of x old ++ ss) begins_it
 
     begun_asked : (job.worker ≡ worker) × (begun job.task (steps_of x old) ≡ None)
@@ -257,8 +257,8 @@ module _ (x : Planned) where
       → IfOk r (λ n. IsNext x old worker n new) → OnErr r (HasPassed old new) → IsLegal x new
       → AsksFor worker (steps_of x old) (steps_of x new) r
   asks old worker new (Ok (Begun job)) i f l = begun_asked old worker job new i l
-  asks old worker new (Ok Wait) i f l = passed_steps old new i.0
-  asks old worker new (Ok End) i f l = passed_steps old new i.0
+  asks old worker new (Ok Wait) i f l = passed_steps old new i.0.has_passed
+  asks old worker new (Ok End) i f l = passed_steps old new i.0.has_passed
   asks old worker new (Err e) i f l = passed_steps old new f
 
   pub ends : (old : List Event) (worker : ℕ) (new : List Event) (r : Result Next AllocError)

@@ -7,6 +7,7 @@ use Rattle.dealer_trait.specs.declared.next.Next.{Next}
 use Rattle.dealer_trait.specs.declared.next.Next.TheVariants.{Begun, Wait, End}
 use Rattle.deploy_histories.specs.Planned.{Planned}
 use Rattle.deploy_histories.specs.Events.{Event, enter, begin, leave, Progress, progress, IsBegun, NoneBegun}
+use Rattle.deploy_histories.specs.Answers.{IsSettled}
 use Rattle.deploy_histories.specs.Legal.{May, HasEnded}
 use Rattle.deploy_histories.specs.Outcome.{Target, target_of}
 
@@ -25,6 +26,11 @@ pub record HasPassed (old new : List Event) : Type 0 where
   pub events : List Event
   pub of_scopes : OfScopes events
   pub are : new ≡ old ++ events
+
+-- scopes were entered and left until none may be, and nothing else happened
+pub record HasSettled (x : Planned) (old new : List Event) : Type 0 where
+  pub has_passed : HasPassed old new
+  pub is_settled : IsSettled x (progress new)
 
 -- one scope was entered or left; after an error nothing happened
 abbrev pub HasPassedOne : List Event → List Event → Result (Unit {0}) AllocError → Type 0
@@ -47,19 +53,19 @@ NoneMayBegin x p = (u worker : ℕ) (body : Json) → May x p (begin u worker bo
 -- a task was begun after scopes were entered and left, and this is its job
 pub record IsBegunAs (x : Planned) (old : List Event) (worker : ℕ) (job : Work) (new : List Event) : Type 0 where
   pub between : List Event
-  pub has_passed : HasPassed old between
+  pub has_settled : HasSettled x old between
   pub begun : new ≡ between ++ begin job.task worker job.body ∷ []
   pub aim : Target
   pub has_aim : target_of x job.task ≡ Some aim
   pub is_job : job ≡ job_of aim job.task worker job.body
 
--- after the scopes that may be entered and left: a task was begun, and its job is given; or a Begin is open, and no
+-- once no scope may be entered or left any more: a task was begun, and its job is given; or a Begin is open, and no
 -- task may begin; or the deployment has ended
 abbrev pub IsNext : Planned → List Event → ℕ → Next → List Event → Type 0
 IsNext x old worker (Begun job) new = IsBegunAs x old worker job new
 IsNext x old worker Wait new =
-    HasPassed old new × (((u : ℕ) × IsBegun (progress new) u) × NoneMayBegin x (progress new))
-IsNext x old worker End new = HasPassed old new × HasEnded x (progress new)
+    HasSettled x old new × (((u : ℕ) × IsBegun (progress new) u) × NoneMayBegin x (progress new))
+IsNext x old worker End new = HasSettled x old new × HasEnded x (progress new)
 
 -- the task is begun by the worker with this body, and its job is given
 abbrev pub IsStarted : Planned → List Event → ℕ → ℕ → Json → Next → List Event → Type 0

@@ -2,6 +2,7 @@ use Rattle.std.proofs.Common.{sym, ◌∙◌}
 use Rattle.arm_value.specs.View.{json}
 use Rattle.deploy_histories.specs.Events.{progress}
 use Rattle.deploy_core.proofs.DealLemmas.{deal_started, deal_failed, deal_paused, act_found, no_act_left}
+use Rattle.deploy_core.proofs.Pausing.{settled}
 use Rattle.deploy_core.proofs.PassLemmas.{kept_of, stays_of, goes_of}
 use Rattle.deploy_core.proofs.dealing.deal.Goals as goal
 
@@ -76,7 +77,12 @@ returns-in-Some-clause-next g c =
     deal_started (g.S.Standings.planned c.args.standings.now) (g.S.Standings.planned c.ready_act.new.standings)
     c.args.history.now.events c.settle.new.history.events c.start.new.history.events c.in-Some.task
     c.args.worker (json c.in-Some.body) c.start.result (c.ready_act.ensures.planned ∙ c.settle.ensures.planned)
-    c.settle.ensures.passed
+    (record {
+      has_passed = c.settle.ensures.passed;
+      is_settled = settled (g.S.Standings.planned c.args.standings.now) (g.S.Standings.known c.settle.new.standings)
+          c.settle.new.history.count c.settle.new.history.events c.settle.new.agenda c.settle.new.seen
+          c.settle.ensures.kept c.in_ok-settle.ensures.caught c.in_ok-settle.ensures.none;
+    })
     c.start.ensures.begun
 
 pub returns-in-Some-clause-out : goal.returns-in-Some-clause-out

@@ -1,0 +1,17 @@
+-- How a put stands at a point of a deployment.
+use Rattle.std.specs.Prelude.{ℕ, List, Option, Some, None}
+use Rattle.arm_ids.specs.Held.{HeldResource}
+use Rattle.plan_assembly.specs.declared.plan.Plan.{Plan}
+use Rattle.deploy_histories.specs.Events.{Event, progress}
+use Rattle.history_plans.specs.Planned.{planned_by}
+use Rattle.point_rows.specs.declared.later.Later.{Later}
+use Rattle.point_rows.specs.Rows.{known_now}
+use Rattle.task_standings.specs.declared.standing.Standing.{Standing}
+use Rattle.task_standings.specs.Standings.{IsStanding}
+use Rattle.task_waits.specs.Waits.{table_of}
+
+-- how the task stands, if that is returned
+abbrev pub IsLookAt : Plan → List HeldResource → List Event → Later → Later → ℕ → Option Standing → Type 0
+IsLookAt g held h l m u None = Unit {0}
+IsLookAt g held h l m u (Some s) =
+    IsStanding (planned_by g held) (progress h) (known_now (table_of g) m) u s

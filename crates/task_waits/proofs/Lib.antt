@@ -1,0 +1,4 @@
+pub mod NumberedLemmas
+pub mod WaitLemmas
+pub mod StateLemmas
+pub mod AnswerLemmas

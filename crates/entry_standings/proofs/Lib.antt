@@ -1,0 +1,4 @@
+pub mod OwnCellLemmas
+pub mod DemandLemmas
+pub mod CircleLemmas
+pub mod EnterLemmas

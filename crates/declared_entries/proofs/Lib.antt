@@ -1,0 +1,7 @@
+mod KnownLemmas
+mod MadeLemmas
+mod FillLemmas
+mod TurnLemmas
+mod WordLemmas
+mod SoundLemmas
+mod PairLemmas

@@ -10,12 +10,14 @@ use Rattle.bicep_resolved.specs.Target.{number_of, target_of}
 use Rattle.bicep_declared.specs.Declarations.{BodyTree, DeclaredTree}
 use Rattle.bicep_declared.specs.Declarations as d
 use Rattle.bicep_meaning.specs.Declared.{body_at}
-use Rattle.bicep_meaning.specs.Files.{SourceFile, symbol_name, declaration, field_named, Parent, parent, type_of}
+use Rattle.bicep_meaning.specs.Files.{SourceFile, symbol_name, declaration, Parent, parent, type_of}
+use Rattle.bicep_resolved.specs.Source.{field_named}
 use Rattle.bicep_meaning.specs.Files.{no_parent, inside, below}
 use Rattle.bicep_emission.specs.Emitted.{Frame, two}
 use Rattle.emitted_declarations.specs.Declared.{Emission, variable_entry, with_slash, number_of_parts, id_of_parts}
 use Rattle.emitted_declarations.specs.Declared.{value_of, value_or_none, variable_of, over, module_name, name_by}
-use Rattle.emitted_declarations.specs.Declared.{full_name_by, condition_by, condition_of, parts_of, parts_by, parts_at}
+use Rattle.emitted_declarations.specs.Declared.{full_name_by, condition_by, condition_of, parts_of, parts_by}
+use Rattle.emitted_declarations.specs.Declared.{parts_at}
 use Rattle.emitted_declarations.specs.Declared.{id_at, next, through}
 use Rattle.agreeing_files.specs.Agreeing.{outputs_of}
 use Rattle.agreeing_files.proofs.TypeLemmas.{other, type_same}

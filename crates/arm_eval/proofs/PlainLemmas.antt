@@ -59,10 +59,10 @@ put_each-end (n ∷ ns) ms o h =
 
 -- ---- readings that read nothing
 
-abbrev sure : {A : Type 0} → A → Looking A
+abbrev pub sure : {A : Type 0} → A → Looking A
 sure x = pure x
 
-all-sure : {A : Type 0} (xs : List A) → all (map sure xs) ≡ sure xs
+pub all-sure : {A : Type 0} (xs : List A) → all (map sure xs) ≡ sure xs
 unfolding all continued both beside
 all-sure [] = refl
 all-sure (x ∷ xs) = ap (λ o. continued (both (sure x) o) (λ p. pure (p.0 ∷ p.1))) (all-sure xs)
@@ -71,13 +71,13 @@ capped-sure : (j : Json) → nesting j ≤ 100 → capped (sure j) ≡ sure j
 unfolding capped continued
 capped-sure j h = ap (λ b. done (if b then Some j else None)) (le_true (nesting j) 100 h)
 
-array-sure : (js : Row) → nesting (array js) ≤ 100 → array_of (map sure (items js)) ≡ sure (array js)
+pub array-sure : (js : Row) → nesting (array js) ≤ 100 → array_of (map sure (items js)) ≡ sure (array js)
 unfolding continued
 array-sure js h =
     ap (λ o. capped (continued o (λ vs. pure (array (row vs))))) (all-sure (items js))
     ∙ ap (λ r. capped (sure (array r))) (row-items js) ∙ capped-sure (array js) h
 
-abbrev lone : Member → List Member
+abbrev pub lone : Member → List Member
 lone m = m ∷ []
 
 concat-lone : (ms : List Member) → concat (map lone ms) ≡ ms
@@ -90,7 +90,7 @@ in_order ms o =
     ap (λ ms. object (pairs ms)) (put_each-end (members ms) [] (subst P (sym (pairs-members ms)) o) tt)
     ∙ ap object (pairs-members ms)
 
-object-sure : (names : List (List ℕ)) (ms : Pairs) → IsStrictlySortedBy key_cmp (pair_keys ms)
+pub object-sure : (names : List (List ℕ)) (ms : Pairs) → IsStrictlySortedBy key_cmp (pair_keys ms)
     → nesting (object ms) ≤ 100 → object_by names (map sure (map lone (members ms))) (sure []) ≡ sure (object ms)
 unfolding continued both beside
 object-sure names ms o h =
@@ -105,7 +105,7 @@ object-sure names ms o h =
 not_said : (t : List ℕ) → is_bracketed t ≡ false → text_meaning t ≡ plain t
 not_said t h = ap (λ b. if b then meaning_in_brackets t else plain t) h
 
-own-sure : (k : List ℕ) (j : Json) (o : Looking Json) → is_copy k ≡ false → o ≡ sure j
+pub own-sure : (k : List ℕ) (j : Json) (o : Looking Json) → is_copy k ≡ false → o ≡ sure j
     → own_member k o ≡ sure (lone (k, j))
 unfolding continued
 own-sure k j o h e =

@@ -1,4 +1,5 @@
 mod Words
+mod CountLemmas
 mod Parsing
 mod Keeping
 mod Lexing

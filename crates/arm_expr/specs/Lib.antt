@@ -6,6 +6,6 @@ pub mod Answers
 pub mod Tokens
 pub mod Lexer
 pub mod Machine
-pub mod Pending
+pub mod Runs
 pub mod Stack
 pub mod Brackets

@@ -1,12 +1,14 @@
-// The lexer: from the characters of a text to its tokens.
+// The lexer: from the characters of a text to its tokens. The characters of a name, of a number and between quotes are
+// found first and then copied at once.
 
-ghost use Rattle.std.specs.Prelude.{true, false, ◌≡◌, ◌^◌, ◌≤◌, ◌++◌, ◌∷◌, [], map, chars, Some, None, IfOk, OnOk};
-ghost use Rattle.std.specs.Prelude.{List, MatchOption, option_map, option_and_then};
+ghost use Rattle.std.specs.Prelude.{true, false, ◌≡◌, ◌^◌, ◌≤◌, ◌++◌, ◌∷◌, [], map, chars, length, Some, None, IfOk};
+ghost use Rattle.std.specs.Prelude.{OnOk};
+ghost use Rattle.std.specs.Prelude.{List, ℕ, MatchOption, option_map, ◌≢◌};
 ghost use Rattle.arm_expr.specs.Grammar.{kind_of, goes_on_name, is_digit, value_from, signed};
-ghost use Rattle.arm_expr.specs.Tokens.{token_of, Token as TokenView};
-ghost use Rattle.arm_expr.specs.Lexer.{lex, between, naming, signing, counting, quoting, quoted, start, start_sign};
-ghost use Rattle.arm_expr.specs.Lexer.{turn, number, ended, after_token};
-ghost use Rattle.arm_expr.specs.Pending.{kind_view, pending_of, onto, next};
+ghost use Rattle.arm_expr.specs.Tokens.{token_of, a_name};
+ghost use Rattle.arm_expr.specs.Lexer.{lex, between, quoting, start_sign, number};
+ghost use Rattle.arm_expr.specs.Runs.{kind_view, continues, front, rest, begun, numeral, counted, Reads};
+ghost use Rattle.arm_expr.specs.declared.lexer.Run.TheVariants as runs;
 ghost use Rattle.foundation.specs.Stopping.{Gives};
 ghost use Rattle.arm_expr.specs.View.{text_of};
 
@@ -27,19 +29,14 @@ pub enum Kind {
     Sign,
 }
 
-/// The front of a token.
-#[derive(Drop)]
-pub enum Pending {
-    /// No token has begun.
-    Between,
-    Naming(String),
-    /// A `-`.
-    Signing,
-    /// Digits, and whether a `-` is before them.
-    Counting(bool, Vec<char>),
-    Quoting(String),
-    /// A string and a quote, which ends the string or is the first of two.
-    Quoted(String),
+/// Characters in a row, inside a token.
+#[derive(Clone, Copy)]
+pub enum Run {
+    /// Letters and digits.
+    Name,
+    Digits,
+    /// Any but a quote.
+    Quoted,
 }
 
 fn char_kind(c: char) -> Kind
@@ -75,12 +72,14 @@ fn may_count(c: char) -> bool
     }
 }
 
-fn longer(word: String, c: char) -> Result<String, OutOfMemory>
-    ensures { IfOk result (λ w. text_of w ≡ text_of word ++ c ∷ []) }
+fn continues(run: Run, c: char) -> bool
+    ensures { result ≡ continues run c }
 {
-    let mut word = word;
-    word.push(c)?;
-    Ok(word)
+    match run {
+        Run::Name => may_go_on(c),
+        Run::Digits => may_count(c),
+        Run::Quoted => c != '\'',
+    }
 }
 
 // The number that digits write, where it is below 2 ^ 64.
@@ -130,6 +129,16 @@ fn number_of(negative: bool, digits: &[char]) -> Option<Token>
     }
 }
 
+// The number that digits write, of which there must be one.
+fn numeral_of(negative: bool, digits: &[char]) -> Option<Token>
+    ensures { option_map token_of result ≡ numeral negative digits.now }
+{
+    match digits {
+        [] => None,
+        [_, ..] => number_of(negative, digits),
+    }
+}
+
 fn put(tokens: &mut Vec<Token>, token: Token) -> Result<(), OutOfMemory>
     ensures { OnOk result
         (map token_of tokens.new.items ≡ map token_of tokens.old.items ++ token_of token ∷ []) }
@@ -138,212 +147,176 @@ fn put(tokens: &mut Vec<Token>, token: Token) -> Result<(), OutOfMemory>
     Ok(())
 }
 
-#[tactic(auto, using(crate::proofs::LexerLemmas::lexer_views))]
-fn marked(tokens: &mut Vec<Token>, token: Token) -> Result<Pending, Stop>
-    ensures { Gives (λ p. (map token_of tokens.new.items, pending_of p)) result
-        (onto (map token_of tokens.old.items) (next (token_of token ∷ []) between)) }
+// What follows the characters of a run at the front of a text.
+fn after_run(text: &str, run: Run) -> &str
+    ensures { chars result.now ≡ rest (continues run) (chars text.now) }
 {
-    put(tokens, token)?;
-    Ok(Pending::Between)
+    let mut characters = text.chars();
+    let mut left = text;
+    while let Some(c) = characters.next() {
+        if !continues(run, c) {
+            return left;
+        }
+        left = characters.as_str();
+    }
+    left
 }
 
-#[tactic(auto, using(crate::proofs::LexerLemmas::lexer_views))]
-fn begin_sign(alloc: Global, tokens: &mut Vec<Token>, c: char) -> Result<Pending, Stop>
-    ensures { Gives (λ p. (map token_of tokens.new.items, pending_of p)) result
-        (onto (map token_of tokens.old.items) (start_sign c)) }
+// The characters of a run at the front of a text, and what follows them.
+fn run_of(text: &str, run: Run) -> (&str, &str)
+    ensures front { chars result.0.now ≡ front (continues run) (chars text.now) }
+    ensures rest { chars result.1.now ≡ rest (continues run) (chars text.now) }
+{
+    let left = after_run(text, run);
+    text.split_at(text.len() - left.len())
+}
+
+// A name, which begins the text; what follows it is left.
+fn read_name<'a>(
+    alloc: Global,
+    tokens: &mut Vec<Token>,
+    text: &'a str,
+) -> Result<&'a str, OutOfMemory>
+    ensures name { OnOk result (map token_of tokens.new.items
+        ≡ map token_of tokens.old.items ++ a_name (front (continues runs.Name) (chars text.now)) ∷ []) }
+    ensures rest { IfOk result (λ left. chars left.now ≡ rest (continues runs.Name) (chars text.now)) }
+{
+    let (word, left) = run_of(text, Run::Name);
+    let name = Text::of(alloc, word)?;
+    put(tokens, Token::Name(name))?;
+    Ok(left)
+}
+
+fn characters_in(alloc: Global, text: &str) -> Result<Vec<char>, OutOfMemory>
+    ensures { IfOk result (λ characters. characters.items ≡ chars text.now) }
+{
+    text.chars().collect(alloc)
+}
+
+// A number, whose digits begin the text.
+fn read_number<'a>(
+    alloc: Global,
+    tokens: &mut Vec<Token>,
+    negative: bool,
+    text: &'a str,
+) -> Result<&'a str, Stop>
+    ensures { Reads (map token_of tokens.old.items) (map token_of tokens.new.items)
+        (counted negative (chars text.now)) (length (rest (continues runs.Digits) (chars text.now))) result }
+{
+    let (word, left) = run_of(text, Run::Digits);
+    let digits = characters_in(alloc, word)?;
+    match numeral_of(negative, &digits) {
+        None => Err(Stop::Refused),
+        Some(token) => {
+            put(tokens, token)?;
+            Ok(left)
+        }
+    }
+}
+
+// What follows a quote at the front of a text.
+fn after_quote(text: &str) -> Option<&str>
+    ensures { MatchOption result ((cs : List ℕ) → chars text.now ≢ 39 ∷ cs)
+        (λ left. chars text.now ≡ 39 ∷ chars left.now) }
+{
+    match text.strip_prefix('\'') {
+        None => None,
+        Some(left) => Some(left),
+    }
+}
+
+// Puts the characters before the first quote last in the string.
+fn add_part<'a>(value: &mut String, text: &'a str) -> Result<&'a str, OutOfMemory>
+    ensures front { OnOk result
+        (text_of value.new ≡ text_of value.old ++ front (continues runs.Quoted) (chars text.now)) }
+    ensures rest { IfOk result (λ left. chars left.now ≡ rest (continues runs.Quoted) (chars text.now)) }
+{
+    let (part, left) = run_of(text, Run::Quoted);
+    value.push_str(part)?;
+    Ok(left)
+}
+
+fn add_quote(value: &mut String) -> Result<(), OutOfMemory>
+    ensures { OnOk result (text_of value.new ≡ text_of value.old ++ 39 ∷ []) }
+{
+    value.push('\'')?;
+    Ok(())
+}
+
+// A string after its first quote.
+fn read_text<'a>(alloc: Global, tokens: &mut Vec<Token>, text: &'a str) -> Result<&'a str, Stop>
+    ensures { Reads (map token_of tokens.old.items) (map token_of tokens.new.items)
+        (lex (quoting []) (chars text.now)) (length (chars text.now)) result }
+{
+    let mut value = String::new(alloc);
+    let mut left = text;
+    'parts: loop {
+        let end = add_part(&mut value, left)?;
+        match after_quote(end) {
+            None => return refuse(value),
+            Some(after) => match after_quote(after) {
+                None => {
+                    put(tokens, Token::Text(Text::from_string(value)))?;
+                    return Ok(after);
+                }
+                Some(more) => {
+                    add_quote(&mut value)?;
+                    left = more;
+                }
+            },
+        }
+    }
+}
+
+// A token of one character.
+fn mark<'a>(tokens: &mut Vec<Token>, token: Token, left: &'a str) -> Result<&'a str, Stop>
+    ensures { Reads (map token_of tokens.old.items) (map token_of tokens.new.items)
+        (option_map (λ ts. token_of token ∷ ts) (lex between (chars left.now))) (length (chars left.now)) result }
+{
+    put(tokens, token)?;
+    Ok(left)
+}
+
+// The token that a character begins which is no letter, digit or blank.
+fn read_sign<'a>(
+    alloc: Global,
+    tokens: &mut Vec<Token>,
+    c: char,
+    left: &'a str,
+) -> Result<&'a str, Stop>
+    ensures { Reads (map token_of tokens.old.items) (map token_of tokens.new.items)
+        (begun (start_sign c) (chars left.now)) (length (chars left.now)) result }
 {
     match c {
-        '-' => Ok(Pending::Signing),
-        '\'' => Ok(Pending::Quoting(String::new(alloc))),
-        '(' => marked(tokens, Token::OpenParen),
-        ')' => marked(tokens, Token::CloseParen),
-        '[' => marked(tokens, Token::OpenBracket),
-        ']' => marked(tokens, Token::CloseBracket),
-        ',' => marked(tokens, Token::Comma),
-        '.' => marked(tokens, Token::Dot),
+        '-' => read_number(alloc, tokens, true, left),
+        '\'' => read_text(alloc, tokens, left),
+        '(' => mark(tokens, Token::OpenParen, left),
+        ')' => mark(tokens, Token::CloseParen, left),
+        '[' => mark(tokens, Token::OpenBracket, left),
+        ']' => mark(tokens, Token::CloseBracket, left),
+        ',' => mark(tokens, Token::Comma, left),
+        '.' => mark(tokens, Token::Dot, left),
         _ => Err(Stop::Refused),
     }
 }
 
-#[tactic(auto, using(crate::proofs::LexerLemmas::lexer_views))]
-fn begin(alloc: Global, tokens: &mut Vec<Token>, c: char) -> Result<Pending, Stop>
-    ensures { Gives (λ p. (map token_of tokens.new.items, pending_of p)) result
-        (onto (map token_of tokens.old.items) (start c)) }
+// The token, or the blank, that begins the text with this character, which the others follow.
+fn read_token<'a>(
+    alloc: Global,
+    tokens: &mut Vec<Token>,
+    c: char,
+    text: &'a str,
+    left: &'a str,
+) -> Result<&'a str, Stop>
+    requires { chars text.now ≡ c ∷ chars left.now }
+    ensures { Reads (map token_of tokens.old.items) (map token_of tokens.new.items)
+        (lex between (chars text.now)) (length (chars left.now)) result }
 {
     match char_kind(c) {
-        Kind::Blank => Ok(Pending::Between),
-        Kind::Letter => Ok(Pending::Naming(longer(String::new(alloc), c)?)),
-        Kind::Digit => Ok(Pending::Counting(false, vec![in alloc; c]?)),
-        Kind::Sign => begin_sign(alloc, tokens, c),
-    }
-}
-
-// A token ends at a character, which begins what follows.
-#[tactic(auto, using(crate::proofs::LexerLemmas::lexer_views))]
-fn begin_after(
-    alloc: Global,
-    tokens: &mut Vec<Token>,
-    token: Token,
-    c: char,
-) -> Result<Pending, Stop>
-    ensures { Gives (λ p. (map token_of tokens.new.items, pending_of p)) result
-        (onto (map token_of tokens.old.items) (after_token (token_of token) (start c))) }
-{
-    put(tokens, token)?;
-    begin(alloc, tokens, c)
-}
-
-// The name continues, or the character ends it.
-#[tactic(auto, using(crate::proofs::LexerLemmas::lexer_views))]
-fn go_on_name(
-    alloc: Global,
-    tokens: &mut Vec<Token>,
-    word: String,
-    c: char,
-) -> Result<Pending, Stop>
-    ensures { Gives (λ p. (map token_of tokens.new.items, pending_of p)) result
-        (onto (map token_of tokens.old.items) (turn (naming (text_of word)) c)) }
-{
-    if may_go_on(c) {
-        Ok(Pending::Naming(longer(word, c)?))
-    } else {
-        begin_after(alloc, tokens, Token::Name(Text::from_string(word)), c)
-    }
-}
-
-// The first digit after a `-`.
-#[tactic(auto, using(crate::proofs::LexerLemmas::lexer_views))]
-fn begin_number(alloc: Global, c: char) -> Result<Pending, Stop>
-    ensures { (ts : List TokenView) → Gives (λ p. (ts, pending_of p)) result (onto ts (turn signing c)) }
-{
-    if may_count(c) {
-        Ok(Pending::Counting(true, vec![in alloc; c]?))
-    } else {
-        Err(Stop::Refused)
-    }
-}
-
-fn longer_digits(mut digits: Vec<char>, c: char) -> Result<Vec<char>, OutOfMemory>
-    ensures { IfOk result (λ d. d.items ≡ digits.items ++ c ∷ []) }
-{
-    digits.push(c)?;
-    Ok(digits)
-}
-
-#[tactic(auto, using(crate::proofs::LexerLemmas::lexer_views))]
-fn begin_after_number(
-    alloc: Global,
-    tokens: &mut Vec<Token>,
-    negative: bool,
-    digits: &[char],
-    c: char,
-) -> Result<Pending, Stop>
-    ensures { Gives (λ p. (map token_of tokens.new.items, pending_of p)) result
-        (onto (map token_of tokens.old.items)
-        (option_and_then (λ t. after_token t (start c)) (number negative digits.now))) }
-{
-    match number_of(negative, digits) {
-        None => Err(Stop::Refused),
-        Some(token) => begin_after(alloc, tokens, token, c),
-    }
-}
-
-// The number continues, or the character ends it.
-#[tactic(auto, using(crate::proofs::LexerLemmas::lexer_views))]
-fn go_on_number(
-    alloc: Global,
-    tokens: &mut Vec<Token>,
-    negative: bool,
-    digits: Vec<char>,
-    c: char,
-) -> Result<Pending, Stop>
-    ensures { Gives (λ p. (map token_of tokens.new.items, pending_of p)) result
-        (onto (map token_of tokens.old.items) (turn (counting negative digits.items) c)) }
-{
-    if may_count(c) {
-        Ok(Pending::Counting(negative, longer_digits(digits, c)?))
-    } else {
-        begin_after_number(alloc, tokens, negative, &digits, c)
-    }
-}
-
-// Any character in a string.
-#[tactic(auto, using(crate::proofs::LexerLemmas::lexer_views))]
-fn go_on_text(text: String, c: char) -> Result<Pending, Stop>
-    ensures { (ts : List TokenView)
-        → Gives (λ p. (ts, pending_of p)) result (onto ts (turn (quoting (text_of text)) c)) }
-{
-    if c == '\'' {
-        Ok(Pending::Quoted(text))
-    } else {
-        Ok(Pending::Quoting(longer(text, c)?))
-    }
-}
-
-// A second quote, or what follows a string.
-#[tactic(auto, using(crate::proofs::LexerLemmas::lexer_views))]
-fn go_on_after_quote(
-    alloc: Global,
-    tokens: &mut Vec<Token>,
-    text: String,
-    c: char,
-) -> Result<Pending, Stop>
-    ensures { Gives (λ p. (map token_of tokens.new.items, pending_of p)) result
-        (onto (map token_of tokens.old.items) (turn (quoted (text_of text)) c)) }
-{
-    if c == '\'' {
-        Ok(Pending::Quoting(longer(text, c)?))
-    } else {
-        begin_after(alloc, tokens, Token::Text(Text::from_string(text)), c)
-    }
-}
-
-#[tactic(auto, using(crate::proofs::LexerLemmas::lexer_views))]
-fn go_on(alloc: Global, tokens: &mut Vec<Token>, pending: Pending, c: char) -> Result<Pending, Stop>
-    ensures { Gives (λ p. (map token_of tokens.new.items, pending_of p)) result
-        (onto (map token_of tokens.old.items) (turn (pending_of pending) c)) }
-{
-    match pending {
-        Pending::Between => begin(alloc, tokens, c),
-        Pending::Naming(word) => go_on_name(alloc, tokens, word, c),
-        Pending::Signing => begin_number(alloc, c),
-        Pending::Counting(negative, digits) => go_on_number(alloc, tokens, negative, digits, c),
-        Pending::Quoting(text) => go_on_text(text, c),
-        Pending::Quoted(text) => go_on_after_quote(alloc, tokens, text, c),
-    }
-}
-
-#[tactic(auto, using(crate::proofs::LexerLemmas::lexer_views))]
-fn end_number(tokens: &mut Vec<Token>, negative: bool, digits: &[char]) -> Result<(), Stop>
-    ensures { Gives (λ _. map token_of tokens.new.items) result
-        (option_map (λ ts. map token_of tokens.old.items ++ ts) (ended (counting negative digits.now))) }
-{
-    match number_of(negative, digits) {
-        None => Err(Stop::Refused),
-        Some(token) => {
-            put(tokens, token)?;
-            Ok(())
-        }
-    }
-}
-
-#[tactic(auto, using(crate::proofs::LexerLemmas::lexer_views))]
-fn end(tokens: &mut Vec<Token>, pending: Pending) -> Result<(), Stop>
-    ensures { Gives (λ _. map token_of tokens.new.items) result
-        (option_map (λ ts. map token_of tokens.old.items ++ ts) (ended (pending_of pending))) }
-{
-    match pending {
-        Pending::Between => Ok(()),
-        Pending::Naming(word) => {
-            put(tokens, Token::Name(Text::from_string(word)))?;
-            Ok(())
-        }
-        Pending::Counting(negative, digits) => end_number(tokens, negative, &digits),
-        Pending::Quoted(text) => {
-            put(tokens, Token::Text(Text::from_string(text)))?;
-            Ok(())
-        }
-        other => refuse(other),
+        Kind::Blank => Ok(left),
+        Kind::Letter => Ok(read_name(alloc, tokens, text)?),
+        Kind::Digit => read_number(alloc, tokens, false, text),
+        Kind::Sign => read_sign(alloc, tokens, c, left),
     }
 }
 
@@ -351,16 +324,15 @@ fn end(tokens: &mut Vec<Token>, pending: Pending) -> Result<(), Stop>
 pub fn tokens(alloc: Global, text: &str) -> Result<Vec<Token>, Stop>
     ensures { Gives (λ v. map token_of v.items) result (lex between (chars text.now)) }
 {
-    let mut found = Vec::new(alloc);
-    let mut pending = Pending::Between;
-    for c in text.chars() {
-        pending = match go_on(alloc, &mut found, pending, c) {
-            Ok(next) => next,
+    let mut found = Vec::with_capacity(alloc, text.len() / 3)?;
+    let mut left = text;
+    let mut characters = left.chars();
+    while let Some(c) = characters.next() {
+        left = match read_token(alloc, &mut found, c, left, characters.as_str()) {
+            Ok(left) => left,
             Err(e) => return Err(e),
         };
+        characters = left.chars();
     }
-    match end(&mut found, pending) {
-        Ok(()) => Ok(found),
-        Err(e) => Err(e),
-    }
+    Ok(found)
 }

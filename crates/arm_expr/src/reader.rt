@@ -9,7 +9,7 @@ ghost use Rattle.arm_expr.specs.View.{tree_of};
 ghost use Rattle.foundation.specs.Stopping.{Gives};
 ghost use Rattle.arm_expr.specs.Stack.{kept_of, kept_reading};
 
-use crate::characters::characters;
+use crate::characters::is_longer;
 use crate::expr::Expr;
 use crate::fault::ExprFault;
 use crate::lexer::tokens;
@@ -62,7 +62,7 @@ pub fn read(alloc: Global, text: &str) -> Result<Expr, ExprFault>
     // What is read may be printed.
     ensures names { IfOk result (λ e. HasNames (tree_of e)) }
 {
-    if characters(text) > MAX_EXPRESSION_CHARACTERS {
+    if is_longer(text, MAX_EXPRESSION_CHARACTERS) {
         return Err(ExprFault::TooLong);
     }
     match inside(text) {

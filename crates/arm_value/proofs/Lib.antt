@@ -1,5 +1,6 @@
 pub mod AmongLemmas
 pub mod DataLemmas
+pub mod EqualData
 pub mod GatherLemmas
 pub mod GatheredLemmas
 pub mod JsonLemmas

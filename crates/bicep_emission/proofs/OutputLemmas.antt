@@ -60,7 +60,7 @@ abbrev pub deployment_made : Here → Json → Option ResourceId
 deployment_made here (text n) = made_whole here.place deployment_type (n ∷ [])
 deployment_made here j = None
 
-key_made : (here : Here) (j : Json) → option_map folded (deployment_made here j) ≡ module_key here.place j
+pub key_made : (here : Here) (j : Json) → option_map folded (deployment_made here j) ≡ module_key here.place j
 key_made here (text n) = key_is here.place deployment_type n refl
 key_made here null = refl
 key_made here (bool b) = refl
@@ -111,7 +111,7 @@ module _ (x : Sides) (here : Here) (ls : List Looping) (plain_place : IsPlainPla
   unfolding seen_in
   made_seen name = seen-continued x.source x.source_marks name (λ j. done (deployment_made here j))
 
-  id_like : (title : Tree) (name : Reads Json) → Like x (value around title) name
+  pub id_like : (title : Tree) (name : Reads Json) → Like x (value around title) name
       → Like x (value around (call (codes "resourceId") (two (tree.text deployment_type) title))) (id_text
       (id_of_name name))
   unfolding lazy_named strict_named placed_named seen_in
@@ -147,7 +147,7 @@ module _ (x : Sides) (here : Here) (ls : List Looping) (plain_place : IsPlainPla
       last_of (Some j, b) k = refl
       last_of (None, b) k = refl
 
-  made_is : (j : Json) (i : ResourceId) → deployment_made here j ≡ Some i
+  pub made_is : (j : Json) (i : ResourceId) → deployment_made here j ≡ Some i
       → IsReadable i × (i.types ≡ segments deployment_type)
   made_is (text n) i e =
       let p = cond_some (is_made here.place deployment_type (n ∷ [])) (made here.place deployment_type (n

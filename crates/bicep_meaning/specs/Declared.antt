@@ -17,7 +17,8 @@ use Rattle.bicep_resolved.specs.Source as s
 use Rattle.bicep_resolved.specs.Target.{number_of, target_of}
 use Rattle.bicep_declared.specs.Declarations.{BodyTree, DeclaredTree}
 use Rattle.bicep_declared.specs.Declarations as d
-use Rattle.bicep_meaning.specs.Files.{SourceFile, symbol_name, declaration, field_named, Parent}
+use Rattle.bicep_meaning.specs.Files.{SourceFile, symbol_name, declaration, Parent}
+use Rattle.bicep_resolved.specs.Source.{field_named}
 use Rattle.bicep_meaning.specs.Files.{no_parent, inside, below}
 use Rattle.bicep_meaning.specs.Files.{parent, type_of}
 use Rattle.bicep_meaning.specs.Rows.{and_value}

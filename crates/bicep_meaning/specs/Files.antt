@@ -1,13 +1,13 @@
 -- The files of a program, once their names are found, and what belongs to a symbol of a file by its number.
 use Rattle.std.specs.Prelude.{ℕ, zero, suc, List, [], ◌++◌, ◌∷◌, length, Bool, Option, Some, None, option_map}
-use Rattle.std.specs.Prelude.{option_and_then, slice_get, bytes_eq, codes, if◌then◌else◌}
+use Rattle.std.specs.Prelude.{option_and_then, slice_get, codes}
 use Rattle.arm_value.specs.Json.{Json}
 use Rattle.bicep_misplaced.specs.Types.{divided}
 use Rattle.bicep_names.specs.declared.kind.Kind.{Kind}
 use Rattle.bicep_names.specs.declared.kind.Kind.TheVariants as k
-use Rattle.bicep_resolved.specs.Source.{PropertyTrees, ReachTree, ValueTree}
+use Rattle.bicep_resolved.specs.Source.{ReachTree, ValueTree, field_named}
 use Rattle.bicep_resolved.specs.Source as s
-use Rattle.bicep_declared.specs.Declarations.{BodyTree, DeclaredTree, DeclaredFileTree}
+use Rattle.bicep_declared.specs.Declarations.{DeclaredTree, DeclaredFileTree}
 use Rattle.bicep_declared.specs.Declarations as d
 
 -- a file
@@ -33,11 +33,6 @@ symbol_kind f n = option_map (λ x. x.2) (slice_get f.symbols n)
 
 abbrev pub declaration : SourceFile → ℕ → Option DeclaredTree
 declaration f n = slice_get f.declared.declarations n
-
--- the value of the field of that name, letter by letter
-abbrev pub field_named : List ℕ → PropertyTrees → Option ValueTree
-field_named name s.no_property = None
-field_named name (s.property at x v ps) = if bytes_eq name x then Some v else field_named name ps
 
 -- ---- parents
 

@@ -8,7 +8,8 @@ use Rattle.arm_ids.specs.declared.id.Place.{Place}
 use Rattle.arm_ids.specs.declared.id.ResourceId.{ResourceId}
 use Rattle.function_lists.specs.Sizes.{size}
 use Rattle.reading.specs.Reading.{done, pure, read, continued}
-use Rattle.deploy_cells.specs.Cells.{Step, Position, World, Cell, parameter, variable, offered, output, count, included}
+use Rattle.deploy_cells.specs.Cells.{Step, Position, World, Cell, parameter, variable, offered, output, count}
+use Rattle.deploy_cells.specs.Cells.{included}
 use Rattle.deploy_cells.specs.Cells.{name, deployments, state}
 use Rattle.deploy_cells.specs.Guarded.{Reads, Meaning, there_if, itself, guarded}
 use Rattle.deploy_cells.specs.Listing.{listing_value}
@@ -21,7 +22,8 @@ use Rattle.bicep_resolved.specs.Source.{SourceTree, PropertyTrees, ValueTree, Lo
 use Rattle.bicep_resolved.specs.Source as s
 use Rattle.bicep_declared.specs.Declarations.{BodyTree, DeclaredTree, OutputTree}
 use Rattle.bicep_declared.specs.Declarations as d
-use Rattle.bicep_meaning.specs.Files.{SourceFile, symbol_kind, declaration, field_named, type_of}
+use Rattle.bicep_meaning.specs.Files.{SourceFile, symbol_kind, declaration, type_of}
+use Rattle.bicep_resolved.specs.Source.{field_named}
 use Rattle.bicep_meaning.specs.Around.{Here, Frame, run_at}
 use Rattle.bicep_meaning.specs.Meaning.{value, value_of}
 use Rattle.bicep_meaning.specs.Declared.{whole}

@@ -16,7 +16,8 @@ use Rattle.bicep_resolved.specs.Target.{number_of, target_of}
 use Rattle.bicep_declared.specs.Declarations.{BodyTree, DeclaredTree}
 use Rattle.bicep_declared.specs.Declarations as d
 use Rattle.bicep_circles.specs.Mentions.{mentions, value_mentions, each_mentions}
-use Rattle.bicep_meaning.specs.Files.{symbol_name, declaration, field_named, Parent, no_parent, inside, below, parent}
+use Rattle.bicep_meaning.specs.Files.{symbol_name, declaration, Parent, no_parent, inside, below, parent}
+use Rattle.bicep_resolved.specs.Source.{field_named}
 use Rattle.bicep_meaning.specs.Files.{type_of}
 use Rattle.bicep_meaning.specs.Around.{Here, Frame, element, index_of, run_at}
 use Rattle.bicep_meaning.specs.Meaning.{bare, bare_value, value, value_of, frames}

@@ -1,5 +1,6 @@
 -- Where what a declaration mentions means the same, so does the declaration; so declarations without a circle settle.
-use Rattle.std.proofs.Common.{◌≡◌, ℕ, zero, suc, ◌<◌, List, [], ◌∷◌, ◌++◌, Option, Some, None, Bool, true, false, refl}
+use Rattle.std.proofs.Common.{◌≡◌, ℕ, zero, suc, ◌<◌, List, [], ◌∷◌, ◌++◌, Option, Some, None, Bool, true, false}
+use Rattle.std.proofs.Common.{refl}
 use Rattle.std.proofs.Common.{ap, ◌∙◌, cond, arith}
 use Rattle.std.specs.Prelude.{codes, bytes_eq, option_and_then}
 use Rattle.arm_value.specs.Json.{Json}
@@ -17,7 +18,8 @@ use Rattle.bicep_declared.specs.Declarations.{BodyTree, DeclaredTree}
 use Rattle.bicep_declared.specs.Declarations as d
 use Rattle.bicep_circles.specs.Mentions.{reach_mentions, property_mentions, value_mentions, each_mentions}
 use Rattle.bicep_circles.specs.Mentions.{condition_mentions, body_mentions}
-use Rattle.bicep_meaning.specs.Files.{symbol_kind, symbol_name, declaration, field_named, Parent, no_parent}
+use Rattle.bicep_meaning.specs.Files.{symbol_kind, symbol_name, declaration, Parent, no_parent}
+use Rattle.bicep_resolved.specs.Source.{field_named}
 use Rattle.bicep_meaning.specs.Files.{inside, below, below_value, fields_parent}
 use Rattle.bicep_meaning.specs.Files.{inside_or, around_kind, parent, type_of}
 use Rattle.bicep_meaning.specs.Rows.{capped, and_value}
@@ -42,7 +44,7 @@ found_mentions : (P : ℕ → Type 0) (name : List ℕ) (ps : PropertyTrees) →
     → Each P (some_mentions (field_named name ps))
 found_mentions P name s.no_property h = tt
 found_mentions P name (s.property at x v ps) h =
-    found_by P (bytes_eq name x) v (field_named name ps) (first P (value_mentions v) (property_mentions ps) h)
+    found_by P (bytes_eq x name) v (field_named name ps) (first P (value_mentions v) (property_mentions ps) h)
     (found_mentions P name ps (second P (value_mentions v) (property_mentions ps) h))
 
 module _ (here : Here) (a b : Around) where

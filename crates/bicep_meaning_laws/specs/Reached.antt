@@ -14,7 +14,8 @@ use Rattle.bicep_resolved.specs.Source.{SourceTree, ValueTree}
 use Rattle.bicep_declared.specs.Declarations.{BodyTree, DeclaredTree}
 use Rattle.bicep_declared.specs.Declarations as d
 use Rattle.bicep_circles.specs.Mentions.{mentions, reach_mentions, value_mentions, each_mentions}
-use Rattle.bicep_meaning.specs.Files.{SourceFile, symbol_name, declaration, field_named}
+use Rattle.bicep_meaning.specs.Files.{SourceFile, symbol_name, declaration}
+use Rattle.bicep_resolved.specs.Source.{field_named}
 use Rattle.bicep_meaning.specs.Files.{Parent, no_parent, inside, below}
 use Rattle.bicep_meaning.specs.Files.{parent}
 use Rattle.bicep_meaning.specs.Around.{Here, Frame}

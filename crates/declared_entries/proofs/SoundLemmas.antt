@@ -6,7 +6,8 @@ use Rattle.bicep_resolved.specs.View.{source_of}
 use Rattle.bicep_resolved.specs.declared.source.Source.{Source}
 use Rattle.bicep_declared.specs.Declarations.{BodyTree, DeclaredTree}
 use Rattle.bicep_meaning.specs.Declared.{body_of}
-use Rattle.bicep_meaning.specs.Files.{SourceFile, declaration, field_named, Parent, parent, no_parent, inside, below}
+use Rattle.bicep_resolved.specs.Source.{field_named}
+use Rattle.bicep_meaning.specs.Files.{SourceFile, declaration, Parent, parent, no_parent, inside, below}
 use Rattle.bicep_emission.specs.Emittable.{IsEmittable, IsValue}
 use Rattle.declaration_laws.specs.Sound.{IsSound}
 use Rattle.declared_entries.specs.Heads.{HasParent}

@@ -1,10 +1,10 @@
 //! Fields of resources, and what a resource is a child of.
 ghost use Rattle.std.specs.Prelude.{◌≡◌, Some, codes, map, option_map, option_and_then, bytes_eq};
 ghost use Rattle.bicep_symbols.specs.Entries.{symbol_of};
-ghost use Rattle.bicep_resolved.specs.Source.{plain};
+ghost use Rattle.bicep_resolved.specs.Source.{plain, field_named};
 ghost use Rattle.bicep_resolved.specs.View.{source_of, value_of, property_of, properties};
 ghost use Rattle.bicep_declared.specs.View.{declared_tree};
-ghost use Rattle.bicep_meaning.specs.Files.{SourceFile, field_named, fields_parent, below_value, parent, around_kind};
+ghost use Rattle.bicep_meaning.specs.Files.{SourceFile, fields_parent, below_value, parent, around_kind};
 ghost use Rattle.declared_types.specs.Types.{HasSymbols};
 ghost use Rattle.declared_entries.specs.Parents.{parent_of};
 
@@ -25,16 +25,16 @@ pub(crate) enum Up<'a> {
     Below(&'a Reach),
 }
 
-#[tactic(auto, using(bicep_resolved::proofs::ViewLemmas::structs, crate::proofs::WordLemmas::name_first))]
+#[tactic(auto, using(bicep_resolved::proofs::ViewLemmas::structs))]
 fn is_name(field: &Property) -> bool
-    ensures { result ≡ bytes_eq (codes "name") (property_of field.now).1 }
+    ensures { result ≡ bytes_eq (property_of field.now).1 (codes "name") }
 {
     is_word(field.name.as_str(), "name")
 }
 
-#[tactic(auto, using(bicep_resolved::proofs::ViewLemmas::structs, crate::proofs::WordLemmas::parent_first))]
+#[tactic(auto, using(bicep_resolved::proofs::ViewLemmas::structs))]
 fn is_parent(field: &Property) -> bool
-    ensures { result ≡ bytes_eq (codes "parent") (property_of field.now).1 }
+    ensures { result ≡ bytes_eq (property_of field.now).1 (codes "parent") }
 {
     is_word(field.name.as_str(), "parent")
 }

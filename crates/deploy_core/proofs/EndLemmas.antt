@@ -27,14 +27,14 @@ use Rattle.task_standings.specs.declared.standing.Failing.{Failing}
 use Rattle.task_standings.specs.declared.standing.Failing.TheVariants as failing
 use Rattle.task_standings.specs.Failures.{IsFaulty, NeedsUndone, Tells, TellsFault, IsFailing}
 use Rattle.task_agenda.specs.declared.agenda.Agenda.{Agenda}
-use Rattle.deploy_core.specs.Kept.{IsKept}
+use Rattle.board_dealing.specs.Kept.{IsKept}
 use Rattle.deploy_core.specs.declared.ending.Ending.{Ending}
 use Rattle.deploy_core.specs.declared.ending.Ending.TheVariants.{Succeeded, Refused, Faulty, Circular}
 use Rattle.deploy_core.specs.Endings.{NeedInTurn, IsCircular, HasTurns, IsTrueEnding, IsRefusedEnding, IsUndoneNeed}
 use Rattle.deploy_core.specs.Endings.{IsTurn, AreTurns, IsInTurn}
-use Rattle.deploy_core.proofs.Edges.{edge_to, edge_from}
+use Rattle.board_dealing.proofs.Edges.{edge_to, edge_from}
 use Rattle.deploy_core.proofs.OpenLemmas.{there, none_needed}
-use Rattle.deploy_core.proofs.Undone.{itself}
+use Rattle.board_dealing.proofs.Undone.{itself}
 
 -- ---- the first number of a list that is not done
 

@@ -1,16 +1,5 @@
-pub mod Undone
-pub mod Edges
-pub mod Covering
-pub mod Pausing
-pub mod Agendas
-pub mod Stepping
-pub mod Happening
-pub mod LookLemmas
-pub mod PassLemmas
-pub mod DealLemmas
 pub mod OpenLemmas
 pub mod StepLemmas
 pub mod EndLemmas
 pub mod NameLemmas
 pub mod ReplayLemmas
-pub mod WakeLemmas

@@ -22,10 +22,10 @@ use Rattle.task_standings.specs.Standings.{kind_of}
 use Rattle.task_agenda.specs.declared.agenda.Agenda.{Agenda}
 use Rattle.task_agenda.specs.Agendas.{count, is_listed, IsSeenTo, HasGraph, Keeps}
 use Rattle.task_agenda.specs.Lists as lists
-use Rattle.deploy_core.specs.Kept.{enters_or_leaves, kind_of_scope, IsNeeded, IsKept}
+use Rattle.board_dealing.specs.Kept.{enters_or_leaves, kind_of_scope, IsNeeded, IsKept}
 use Rattle.deploy_core.specs.Opens.{AreStartNeeds, HasNeeds, IsNeedAdded, IsFilled}
-use Rattle.deploy_core.proofs.Edges.{edge_to, edge_from}
-use Rattle.deploy_core.proofs.Agendas.{same_listed}
+use Rattle.board_dealing.proofs.Edges.{edge_to, edge_from}
+use Rattle.board_dealing.proofs.Agendas.{same_listed}
 
 listed_more : (n m : Need) (ns : List Need) → IsListed n ns → IsListed n (ns ++ m ∷ [])
 listed_more n m [] l = absurd l

@@ -27,9 +27,9 @@ use Rattle.deploy_histories.specs.Events.{is_done, changed, closed, IsBegun}
 use Rattle.deploy_histories.specs.Legal.{May, MayEnd, SuitsTask, HasEnded, IsLegal, IsLegalFrom}
 use Rattle.deploy_histories.specs.Outcome.{Target, target, target_of}
 use Rattle.history_laws.proofs.Steps.{at_itself, at_other, start_waits}
-use Rattle.deploy_core.specs.Boards.{job_of, OfScopes, HasPassed, IsBegunAs, IsNext}
+use Rattle.board_dealing.specs.Boards.{job_of, ArePasses, HasPassed, IsBegunAs, IsNext}
 use Rattle.deploy_core.specs.Steps.{begins, open_job, steps_after, steps_from, steps_of}
-use Rattle.deploy_core.proofs.DealLemmas.{put_act, delete_act}
+use Rattle.board_dealing.proofs.DealLemmas.{put_act, delete_act}
 
 -- ---- the open job after one step more
 
@@ -137,19 +137,19 @@ module _ (x : Planned) where
   pub steps_more : (h : List Event) (e : Event) → steps_of x (h ++ e ∷ []) ≡ steps_after x (steps_of x h) e
   steps_more h e = steps_then [] h (e ∷ [])
 
-  no_step : (ss : List DealerStep) (es : List Event) → OfScopes es → steps_from x ss es ≡ ss
-  no_step ss [] o = refl
-  no_step ss (event.enter u ∷ es) o = no_step ss es o.1
-  no_step ss (event.leave u ∷ es) o = no_step ss es o.1
-  no_step ss (event.begin u w b ∷ es) o = absurd o.0
-  no_step ss (event.answer u a ∷ es) o = absurd o.0
-  no_step ss (event.back u ∷ es) o = absurd o.0
-  no_step ss (event.crash ∷ es) o = absurd o.0
+  no_step : (ss : List DealerStep) (p : Progress) (es : List Event) → ArePasses x p es → steps_from x ss es ≡ ss
+  no_step ss p [] o = refl
+  no_step ss p (event.enter u ∷ es) o = no_step ss (after (event.enter u) p) es o.1
+  no_step ss p (event.leave u ∷ es) o = no_step ss (after (event.leave u) p) es o.1
+  no_step ss p (event.begin u w b ∷ es) o = absurd o.0.is_scope
+  no_step ss p (event.answer u a ∷ es) o = absurd o.0.is_scope
+  no_step ss p (event.back u ∷ es) o = absurd o.0.is_scope
+  no_step ss p (event.crash ∷ es) o = absurd o.0.is_scope
 
-  pub passed_steps : (old new : List Event) → HasPassed old new → steps_of x new ≡ steps_of x old
+  pub passed_steps : (old new : List Event) → HasPassed x old new → steps_of x new ≡ steps_of x old
   passed_steps old new p =
-      ap (λ (l : List Event). steps_of x l) p.are ∙ steps_then [] old p.events ∙ no_step (steps_of x old) p.events
-      p.of_scopes
+      ap (λ (l : List Event). steps_of x l) p.are ∙ steps_then [] old p.events
+      ∙ no_step (steps_of x old) (progress old) p.events p.are_passes
 
   -- ---- an answer to an open Begin
 
@@ -254,7 +254,7 @@ module _ (x : Planned) where
     begun_asked = (worker_is, none_open, steps_are)
 
   pub asks : (old : List Event) (worker : ℕ) (new : List Event) (r : Result Next AllocError)
-      → IfOk r (λ n. IsNext x old worker n new) → OnErr r (HasPassed old new) → IsLegal x new
+      → IfOk r (λ n. IsNext x old worker n new) → OnErr r (HasPassed x old new) → IsLegal x new
       → AsksFor worker (steps_of x old) (steps_of x new) r
   asks old worker new (Ok (Begun job)) i f l = begun_asked old worker job new i l
   asks old worker new (Ok Wait) i f l = passed_steps old new i.0.has_passed

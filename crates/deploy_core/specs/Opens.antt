@@ -9,7 +9,7 @@ use Rattle.deploy_histories.specs.Readiness.{needs_first}
 use Rattle.task_agenda.specs.declared.agenda.Agenda.{Agenda}
 use Rattle.task_agenda.specs.Agendas.{count, is_listed, IsSeenTo, Keeps}
 use Rattle.deploy_core.specs.declared.opening.Parts.{Parts}
-use Rattle.deploy_core.specs.Kept.{enters_or_leaves}
+use Rattle.board_dealing.specs.Kept.{enters_or_leaves}
 
 -- two tasks are listed exactly where the one needs the other by what is known at the start
 abbrev pub AreStartNeeds : Planned → List Need → Type 0

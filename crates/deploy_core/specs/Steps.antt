@@ -6,7 +6,7 @@ use Rattle.dealer_trait.specs.Steps as dealer
 use Rattle.deploy_histories.specs.Planned.{Planned}
 use Rattle.deploy_histories.specs.Events.{Event, enter, begin, answer, back, leave, crash, Status, is_begun}
 use Rattle.deploy_histories.specs.Outcome.{target_of}
-use Rattle.deploy_core.specs.Boards.{job_of}
+use Rattle.board_dealing.specs.Boards.{job_of}
 
 -- the job of a Begin, where the task has a target
 abbrev pub begins : Option Work → List DealerStep

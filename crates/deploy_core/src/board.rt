@@ -7,15 +7,16 @@ ghost use Rattle.deploy_histories.specs.Events as event;
 ghost use Rattle.deploy_histories.specs.Events.{at_opening, progress, IsBegun};
 ghost use Rattle.deploy_histories.specs.Legal.{HasEnded, IsLegal, MayEnd};
 ghost use Rattle.board_history.specs.Past.{event_of, with_event};
-ghost use Rattle.deploy_core.specs.Boards.{IsNext, HasPassed};
+ghost use Rattle.board_dealing.specs.Boards.{IsNext, HasPassed};
 ghost use Rattle.deploy_core.specs.Endings.{IsTrueEnding};
 ghost use Rattle.deploy_core.specs.Names.{name_of};
 
-use crate::dealing::{deal, give_back, is_refused, pause, take};
 use crate::ending::{Ending, refused_ending, unrefused_ending};
 use crate::naming::task_name;
-use crate::opening::{first_parts, run_out};
+use crate::opening::first_parts;
 use arm_value::{OutOfMemory, Text};
+use board_dealing::dealing::{deal, give_back, is_refused, pause, take};
+use board_dealing::run_out;
 use board_history::History;
 use dealer_trait::Next;
 use provider_trait::{Answer, Event};
@@ -44,7 +45,7 @@ impl<S: Standings> Model for Board<S> {
 
     ghost coded = { coded× S.code past_code };
 
-    ghost use Rattle.deploy_core.specs.Kept.{IsKept};
+    ghost use Rattle.board_dealing.specs.Kept.{IsKept};
 
     ghost view = { λ b. (b.standings, b.history) };
 
@@ -112,7 +113,7 @@ impl<S: Standings> Board<S> {
         ensures planned { S.planned self.new.0 ≡ S.planned self.old.0 }
         ensures legal { IsLegal (S.planned self.old.0) self.new.1.events }
         ensures next { IfOk result (λ n. IsNext (S.planned self.old.0) self.old.1.events worker n self.new.1.events) }
-        ensures out { OnErr result (HasPassed self.old.1.events self.new.1.events) }
+        ensures out { OnErr result (HasPassed (S.planned self.old.0) self.old.1.events self.new.1.events) }
     {
         if is_refused(&self.history) {
             return Ok(pause(&self.history));

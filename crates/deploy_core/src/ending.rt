@@ -9,8 +9,8 @@ ghost use Rattle.task_standings.specs.Failures.{IsFailing};
 ghost use Rattle.deploy_core.specs.Endings.{IsTrueEnding, IsRefusedEnding, IsUndoneNeed, HasTurns, IsTurn, AreTurns};
 ghost use Rattle.deploy_core.specs.declared.ending.Ending.TheVariants.{Faulty};
 ghost use Rattle.deploy_core.specs.Endings.{IsInTurn};
-ghost use Rattle.deploy_core.specs.Kept.{IsKept};
-ghost use Rattle.deploy_core.specs.Looks.{StaysKept};
+ghost use Rattle.board_dealing.specs.Kept.{IsKept};
+ghost use Rattle.board_dealing.specs.Looks.{StaysKept};
 
 use arm_value::{OutOfMemory, Text};
 use board_history::History;

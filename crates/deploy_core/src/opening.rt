@@ -1,14 +1,15 @@
 // The agenda of a plan of which nothing has happened.
 
-ghost use Rattle.std.specs.Prelude.{◌≡◌, ◌<◌, ◌^◌, ◌++◌, ◌∷◌, IfOk, OnOk, [], is_ok, false, length, map};
+ghost use Rattle.std.specs.Prelude.{◌≡◌, ◌<◌, ◌^◌, ◌++◌, ◌∷◌, IfOk, OnOk, [], length, map};
 ghost use Rattle.plan_cells.specs.Plan.{Need};
 ghost use Rattle.task_agenda.specs.Agendas.{count as count_of};
-ghost use Rattle.deploy_core.specs.Kept.{enters_or_leaves, kind_of_scope};
+ghost use Rattle.board_dealing.specs.Kept.{enters_or_leaves, kind_of_scope};
 ghost use Rattle.deploy_core.specs.Opens.{HasNeeds, IsNeedAdded, IsFilled, IsFirst};
 
 use arm_value::OutOfMemory;
+use board_dealing::run_out;
 use board_history::History;
-use std::alloc::{AllocError, Global};
+use std::alloc::Global;
 use task_agenda::Agenda;
 use task_standings::{Kind, Standings};
 
@@ -127,13 +128,6 @@ pub(crate) fn first_agenda<S: Standings>(
 pub(crate) struct Parts {
     pub history: History,
     pub agenda: Agenda,
-}
-
-/// Fails; the part is dropped.
-pub(crate) fn run_out<T: Drop, R: Drop>(_part: T) -> Result<R, OutOfMemory>
-    ensures { is_ok result ≡ false }
-{
-    Err(AllocError)
 }
 
 /// The history and the agenda of the tasks with these needs.

@@ -14,7 +14,8 @@ use Rattle.bicep_resolved.specs.Target.{number_of, target_of}
 use Rattle.bicep_circles.specs.Mentions.{mentions}
 use Rattle.bicep_declared.specs.Declarations.{BodyTree, DeclaredTree}
 use Rattle.bicep_declared.specs.Declarations as d
-use Rattle.bicep_meaning.specs.Files.{SourceFile, symbol_name, declaration, field_named, Parent, no_parent, inside}
+use Rattle.bicep_meaning.specs.Files.{SourceFile, symbol_name, declaration, Parent, no_parent, inside}
+use Rattle.bicep_resolved.specs.Source.{field_named}
 use Rattle.bicep_meaning.specs.Files.{below}
 use Rattle.bicep_meaning.specs.Files.{parent, type_of}
 use Rattle.bicep_meaning.specs.Declared.{body_of, body_at}

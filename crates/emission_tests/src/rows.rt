@@ -5,6 +5,7 @@ use crate::shown::put;
 use arm_expr::Expr;
 use arm_value::Text;
 use bicep_declared::{Declared, declare_file};
+use bicep_found::join::let_go;
 use bicep_lexer::tokens;
 use bicep_names::Outputs;
 use bicep_parser::{File, parse};
@@ -25,9 +26,10 @@ resource r 'T.N/a@1' existing = { name: 'x' }
 resource l 'T.N/a@1' existing = [for x in xs: { name: x }]
 module m './m.bicep' = {}
 module ms './m.bicep' = [for x in xs: {}]
+var s = 0
 "#;
 
-const NAMES: [&str; 7] = ["p", "xs", "v", "r", "l", "m", "ms"];
+const NAMES: [&str; 8] = ["p", "xs", "v", "r", "l", "m", "ms", "s"];
 
 // The outputs of the modules.
 const OUTPUTS: [&str; 2] = ["o", "last"];
@@ -69,45 +71,33 @@ fn turns(alloc: Global) -> Result<Vec<Turn>, AllocError> {
     Ok(turns)
 }
 
-fn shown(alloc: Global, found: Result<Expr, AllocError>) -> Result<String, AllocError> {
-    let mut out = String::new(alloc);
-    put(&mut out, &found?)?;
-    Ok(out)
-}
-
 // What the value becomes; of a for-expression its body.
-fn emission(alloc: Global, value: &SourceValue) -> Result<String, Fail> {
+fn value_tree(alloc: Global, value: &SourceValue) -> Result<Expr, Fail> {
     let sample = sample(alloc)?;
     match value {
-        SourceValue::Plain(_) => Ok(shown(alloc, emitted_value(alloc, &sample, value, &[]))?),
+        SourceValue::Plain(_) => Ok(emitted_value(alloc, &sample, value, &[])?),
         SourceValue::Each(_, body) => {
             let turns = turns(alloc)?;
-            Ok(shown(alloc, emitted(alloc, &sample, body, turns.as_slice()))?)
+            Ok(emitted(alloc, &sample, body, turns.as_slice())?)
         }
     }
 }
 
-fn last_emission(alloc: Global, declarations: &[Declared]) -> Result<String, Fail> {
-    match declarations.last() {
-        Some(Declared::Variable(_, value)) => emission(alloc, value),
+/// What the value of a variable becomes; of a for-expression its body.
+pub fn tree_of(alloc: Global, variable: &Declared) -> Result<Expr, Fail> {
+    match variable {
+        Declared::Variable(_, value) => value_tree(alloc, value),
         _ => Err(Fail::new(format_args!("no variable"))),
     }
 }
 
-fn declared_emission(alloc: Global, names: &FileNames, file: &File) -> Result<String, Fail> {
+fn declared(alloc: Global, names: &FileNames, file: &File) -> Result<Vec<Declared>, Fail> {
     let mut all = Vec::new(alloc);
     all.push(Outputs::new(alloc))?;
     all.push(outputs(alloc, &OUTPUTS)?)?;
     match declare_file(alloc, &names.symbols, all.as_slice(), file.as_slice()) {
-        Ok(declared) => last_emission(alloc, declared.declarations.as_slice()),
+        Ok(declared) => Ok(declared.declarations),
         Err(_) => Err(Fail::new(format_args!("a name means nothing"))),
-    }
-}
-
-fn file_emission(alloc: Global, file: &File) -> Result<String, Fail> {
-    match names_of(alloc, &[1, 1], file.as_slice()) {
-        Ok(names) => declared_emission(alloc, &names, file),
-        Err(_) => Err(Fail::new(format_args!("a name is given twice"))),
     }
 }
 
@@ -121,18 +111,69 @@ fn parsed(alloc: Global, source: &str) -> Result<File, Fail> {
     }
 }
 
-fn emission_of(alloc: Global, expression: &str) -> Result<String, Fail> {
-    let mut source = String::from_str(alloc, FRONT)?;
-    source.push_str("var w = ")?;
-    source.push_str(expression)?;
-    let file = parsed(alloc, source.as_str())?;
-    file_emission(alloc, &file)
+fn file_declarations(alloc: Global, file: &File) -> Result<Vec<Declared>, Fail> {
+    match names_of(alloc, &[1, 1], file.as_slice()) {
+        Ok(names) => {
+            let declarations = declared(alloc, &names, file);
+            let_go(names);
+            declarations
+        }
+        Err(fault) => {
+            let_go(fault);
+            Err(Fail::new(format_args!("a name is given twice")))
+        }
+    }
+}
+
+/// The declarations of a file that begins with what expressions may use.
+pub fn declarations_of(alloc: Global, rest: &str) -> Result<Vec<Declared>, Fail> {
+    let source = format!(in alloc; "{FRONT}{rest}")?;
+    match parsed(alloc, source.as_str()) {
+        Ok(file) => {
+            let declarations = file_declarations(alloc, &file);
+            let_go(file);
+            declarations
+        }
+        Err(fault) => Err(fault),
+    }
+}
+
+// The text of what a variable becomes.
+fn put_tree(out: &mut String, alloc: Global, variable: &Declared) -> Result<(), Fail> {
+    match tree_of(alloc, variable) {
+        Ok(tree) => {
+            let written = put(out, &tree);
+            let_go(tree);
+            Ok(written?)
+        }
+        Err(fault) => Err(fault),
+    }
+}
+
+fn put_last(out: &mut String, alloc: Global, declarations: &[Declared]) -> Result<(), Fail> {
+    match declarations.last() {
+        Some(variable) => put_tree(out, alloc, variable),
+        None => Ok(()),
+    }
+}
+
+fn put_emission(out: &mut String, alloc: Global, expression: &str) -> Result<(), Fail> {
+    let source = format!(in alloc; "var w = {expression}")?;
+    match declarations_of(alloc, source.as_str()) {
+        Ok(declarations) => {
+            let written = put_last(out, alloc, declarations.as_slice());
+            let_go(declarations);
+            written
+        }
+        Err(fault) => Err(fault),
+    }
 }
 
 // The row, where its expression becomes another.
 fn fault_of(alloc: Global, row: &str) -> Result<String, Fail> {
     let (expression, wanted) = row.split_once(" -> ").unwrap_or((row, "an expression"));
-    let found = emission_of(alloc, expression)?;
+    let mut found = String::new(alloc);
+    put_emission(&mut found, alloc, expression)?;
     if found.as_str() == wanted {
         return Ok(String::new(alloc));
     }

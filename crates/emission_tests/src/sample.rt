@@ -1,5 +1,5 @@
 // What the declarations of a file become whose variables and parameters have names.
-ghost use Rattle.std.specs.Prelude.{◌≡◌, option_map, slice_get};
+ghost use Rattle.std.specs.Prelude.{◌≡◌, [], option_map, slice_get};
 ghost use Rattle.bicep_meaning.specs.Meaning.{file_of};
 ghost use Rattle.bicep_emission.specs.Emitted.{index_of as index_tree};
 ghost use Rattle.emitted_parts.specs.Built.{Is};
@@ -13,6 +13,7 @@ use emitted_expressions::{Declarations, Turn};
 use emitted_parts::calls::{call_one, call_two};
 use emitted_parts::copies::copied;
 use emitted_parts::literals::{no_value, text, word};
+use emitted_parts::states::properties;
 use std::alloc::Global;
 
 /// The names of the symbols of a file, and of the outputs of the second file of its program.
@@ -41,6 +42,12 @@ fn text_at(texts: &[Text], number: usize) -> Option<&Text>
     texts.get(number)
 }
 
+fn empty(alloc: Global) -> Text
+    ensures { result ≡ [] }
+{
+    Text::from_string(String::new(alloc))
+}
+
 fn index_of(alloc: Global, turns: &[Turn]) -> Result<Expr, OutOfMemory>
     ensures { Is (index_tree (slice_get (frames_of turns.now) 0)) result }
 {
@@ -58,6 +65,9 @@ impl Declarations for Sample {
     }
 
     fn variable(&self, alloc: Global, number: usize) -> Result<Expr, OutOfMemory> {
+        if number == 7 {
+            return properties(alloc, word(alloc, "T.N/s"), &empty(alloc));
+        }
         match self.names.get(number) {
             Some(name) => call_one(alloc, "variables", text(alloc, name)),
             None => no_value(alloc),

@@ -28,34 +28,44 @@ fn put_all(out: &mut String, items: &[Expr]) -> Result<(), AllocError> {
     Ok(())
 }
 
+#[cycle(showing)]
+fn put_call(out: &mut String, name: &str, arguments: &[Expr]) -> Result<(), AllocError> {
+    out.push_str(name)?;
+    out.push_str("(")?;
+    put_all(out, arguments)?;
+    out.push_str(")")
+}
+
+#[cycle(showing)]
+fn put_member(out: &mut String, inner: &Expr, name: &str) -> Result<(), AllocError> {
+    put(out, inner)?;
+    out.push_str(".")?;
+    out.push_str(name)
+}
+
+#[cycle(showing)]
+fn put_index(out: &mut String, index: &Expr) -> Result<(), AllocError> {
+    out.push_str("[")?;
+    put(out, index)?;
+    out.push_str("]")
+}
+
+fn put_number(out: &mut String, number: i64) -> Result<(), AllocError> {
+    write!(out, "{number}")?;
+    Ok(())
+}
+
 /// Writes an expression as a template has it, without brackets.
 #[cycle(showing)]
 pub fn put(out: &mut String, e: &Expr) -> Result<(), AllocError> {
     match e {
         Expr::Text(characters) => put_quoted(out, characters.as_str()),
-        Expr::Int(number) => {
-            write!(out, "{number}")?;
-            Ok(())
-        }
-        Expr::Call(name, arguments) => {
-            out.push_str(name.as_str())?;
-            out.push_str("(")?;
-            put_all(out, arguments.as_slice())?;
-            out.push_str(")")?;
-            Ok(())
-        }
-        Expr::Member(inner, name) => {
-            put(out, inner)?;
-            out.push_str(".")?;
-            out.push_str(name.as_str())?;
-            Ok(())
-        }
+        Expr::Int(number) => put_number(out, *number),
+        Expr::Call(name, arguments) => put_call(out, name.as_str(), arguments.as_slice()),
+        Expr::Member(inner, name) => put_member(out, inner, name.as_str()),
         Expr::Index(inner, index) => {
             put(out, inner)?;
-            out.push_str("[")?;
-            put(out, index)?;
-            out.push_str("]")?;
-            Ok(())
+            put_index(out, index)
         }
     }
 }

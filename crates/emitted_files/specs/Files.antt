@@ -1,13 +1,16 @@
 -- What the template of a Bicep file has for each parameter, variable and output, and for each resource that is put and
 -- each module (Microsoft Learn, "Understand the structure and syntax of ARM templates").
 use Rattle.std.specs.Prelude.{◌≡◌, ℕ, Bool, true, false, List, [], ◌∷◌, Option, Some, None, bytes_eq, codes}
-use Rattle.std.specs.Prelude.{map, is_none, option_map, option_and_then}
+use Rattle.std.specs.Prelude.{map, is_none, option_and_then, slice_get}
 use Rattle.arm_value.specs.Json.{Json, Member, object, pairs}
 use Rattle.arm_value.specs.Look.{fold}
 use Rattle.arm_value.specs.View.{json}
+use Rattle.arm_expr.specs.Tree.{Tree, text, call}
+use Rattle.arm_ids.specs.Members.{deployment_type}
 use Rattle.template_parts.specs.declared.content.Argument.{Argument}
 use Rattle.template_parts.specs.declared.looping.ResourceCopy.{ResourceCopy}
 use Rattle.template_parts.specs.declared.mode.Form.{Form}
+use Rattle.template_parts.specs.declared.mode.Form.TheVariants.{One, Two}
 use Rattle.template_parts.specs.declared.mode.Scope.{Scope as Sight}
 use Rattle.template_parts.specs.declared.mode.Scope.TheVariants.{Inner}
 use Rattle.template_parts.specs.declared.output.Output.{Output}
@@ -16,21 +19,29 @@ use Rattle.template_parts.specs.declared.variable.Variable.{Variable}
 use Rattle.template_parameters.specs.Rule as rule
 use Rattle.template_tree.specs.Tree.{TemplateTree, BodyTree, body_members, deployment}
 use Rattle.deploy_cells.specs.Cells.{Position}
-use Rattle.plan_cells.specs.Resources.{Listed, header_in, nested_numbers, resource_at}
+use Rattle.plan_cells.specs.Resources.{Listed, header_in, nested_numbers, resource_at, resources_in}
 use Rattle.plan_cells.specs.Scopes.{template_at}
 use Rattle.plan_cells.specs.Sites as template
+use Rattle.bicep_tree.specs.declared.leaf.Literal.TheVariants as l
 use Rattle.bicep_resolved.specs.Source.{SourceTree, ValueTree, LoopTree}
-use Rattle.bicep_declared.specs.Declarations.{OutputTree}
+use Rattle.bicep_declared.specs.Declarations.{DeclaredTree, OutputTree}
+use Rattle.bicep_declared.specs.Declarations as d
 use Rattle.bicep_meaning.specs.Files.{SourceFile, symbol_name, declaration}
 use Rattle.bicep_meaning.specs.Instances as source
 use Rattle.bicep_meaning.specs.Instances.{Put, put_of, body_fields, file_at}
-use Rattle.bicep_emission.specs.Emitted.{Frame, element}
+use Rattle.bicep_emission.specs.Emitted.{Frame, element, two, no_value}
 use Rattle.cell_renaming.specs.Renaming.{from_position}
-use Rattle.source_worlds.specs.Numbers.{number_of, symbol_of, numbering}
+use Rattle.source_needs.specs.Dependencies.{dependencies}
+use Rattle.source_needs.specs.Needs.{is_looped}
+use Rattle.source_worlds.specs.Numbers.{name_of, number_of, symbol_of, numbering}
 use Rattle.emitted_declarations.specs.Declared.{Emission, whole}
 use Rattle.emitted_trees.specs.EmittedTrees.{tree_of, members_of, value_of, copy_index, count_of}
 use Rattle.emitted_trees.specs.Templates as t
 use Rattle.emitted_files.specs.Values.{AreBoth, IsTree, IsExpression, IsContent, IsCondition, plain_or_expression}
+
+-- the id of a module by its name
+abbrev pub module_id : Tree → Tree
+module_id name = call (codes "resourceId") (two (text deployment_type) name)
 
 -- the loop around a declaration: an item is that of the index of the loop of the resource
 abbrev pub frames_around : Emission → ℕ → Option LoopTree → List Frame
@@ -81,7 +92,8 @@ module _ (files : List SourceFile) (f : SourceFile) where
   -- the members of the body of a resource
   abbrev pub AreMembers : Put → List Member → Type 0
   AreMembers x ms =
-      IsTree (t.object (members_of f files emission.scope (body_fields x.body.fields) (frames_of x))) (object (pairs ms))
+      IsTree (t.object (members_of f files emission.scope (body_fields x.body.fields) (frames_of x)))
+      (object (pairs ms))
 
   -- a nested deployment of the inner scope, with an argument for each that the module has
   pub record IsModule (x : Put) (s : Sight) (xs : List Argument) : Type 0 where
@@ -104,7 +116,49 @@ module _ (files : List SourceFile) (f : SourceFile) where
     pub loop : AreBoth (IsLoop x.number) x.body.each r.declaration.copy
     pub content : IsBody x r.content
 
+  -- ---- what a resource depends on
+
+  -- the id of a resource or a module without a loop
+  abbrev pub id_by : ℕ → Option DeclaredTree → Tree
+  id_by n (Some (d.a_resource at q existing b)) = emission.scope.id n []
+  id_by n (Some (d.a_module at b)) = module_id (emission.scope.name n [])
+  id_by n o = no_value
+
+  -- the name of a symbol, which is that of its loop, or its symbolic name
+  abbrev pub name_element : ℕ → t.TemplateTree
+  name_element n = t.literal (l.Text (name_of f n))
+
+  -- the element of `dependsOn` for a resource or a module, by whether it has a loop
+  abbrev pub element_by : Form → Bool → ℕ → t.TemplateTree
+  element_by Two looped n = name_element n
+  element_by One true n = name_element n
+  element_by One false n = t.expression (id_by n (declaration f n))
+
+  abbrev pub dependency : Form → ℕ → t.TemplateTree
+  dependency z n = element_by z (is_looped f n) n
+
+  -- one element for each
+  abbrev pub AreElements : Form → List ℕ → List Json → Type 0
+  AreElements z [] [] = Unit {0}
+  AreElements z [] (j ∷ js) = ⊥
+  AreElements z (n ∷ ns) [] = ⊥
+  AreElements z (n ∷ ns) (j ∷ js) = IsTree (dependency z n) j × AreElements z ns js
+
+  -- in the second form a resource has the name of its symbol, by which others depend on it
+  abbrev pub HasSymbol : Form → ℕ → Option (List ℕ) → Type 0
+  HasSymbol One n o = o ≡ None
+  HasSymbol Two n o = o ≡ symbol_name f n
+
+  pub record IsDependent (z : Form) (x : Put) (r : Listed) : Type 0 where
+    pub symbol : HasSymbol z x.number r.declaration.symbol
+    pub depends_on : AreElements z (dependencies f x.number) r.declaration.depends_on
+
   -- ---- the template, but for those of its modules
+
+  -- the first form has no existing resources
+  abbrev pub NoneExist : Form → TemplateTree → Type 0
+  NoneExist One u = (m : ℕ) (r : Listed) → slice_get (resources_in u) m ≡ Some r → r.declaration.existing ≡ false
+  NoneExist Two u = Unit {0}
 
   pub record IsFile (z : Form) (u : TemplateTree) : Type 0 where
     pub form : (header_in u).form ≡ z
@@ -115,6 +169,9 @@ module _ (files : List SourceFile) (f : SourceFile) where
     pub outputs : (x : List ℕ) → AreBoth IsOutput (source.output_folded f x) (template.output_named x u)
     pub resources : (m : ℕ)
         → AreBoth IsResource (option_and_then (λ n. put_of n f) (symbol_of z f m)) (resource_at u m)
+    pub dependents : (m : ℕ)
+        → AreBoth (IsDependent z) (option_and_then (λ n. put_of n f) (symbol_of z f m)) (resource_at u m)
+    pub none_exist : NoneExist z u
     -- the modules of the file are the nested deployments, in their order
     pub modules : map (number_of z f) f.modules ≡ map (λ m. Some m) (nested_numbers u)
 

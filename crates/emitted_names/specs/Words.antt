@@ -10,7 +10,8 @@ use Rattle.bicep_resolved.specs.Source as s
 use Rattle.bicep_declared.specs.Declarations.{BodyTree}
 use Rattle.bicep_declared.specs.Declarations as d
 use Rattle.bicep_meaning.specs.Declared.{body_at}
-use Rattle.bicep_meaning.specs.Files.{SourceFile, declaration, field_named, parent, below}
+use Rattle.bicep_meaning.specs.Files.{SourceFile, declaration, parent, below}
+use Rattle.bicep_resolved.specs.Source.{field_named}
 use Rattle.bicep_emission.specs.Emitted.{Frame}
 
 abbrev pub HasFieldName : Field → Type 0

@@ -12,3 +12,4 @@ pub mod RuleLemmas
 pub mod PlainLemmas
 pub mod ProgramLemmas
 pub mod SameLemmas
+pub mod ReadLemmas

@@ -1,20 +1,42 @@
--- Readings of a program and of its template that are both there and have the same value, or are both absent.
-use Rattle.std.proofs.Common.{◌≡◌, Option, Some, None, refl}
+-- Readings of a program and of its template that are both there and alike, or are both absent.
+use Rattle.std.proofs.Common.{◌≡◌, Bool, Option, Some, None, refl, sym, ap, ◌∙◌}
 use Rattle.std.specs.Prelude.{option_map, option_and_then}
 use Rattle.arm_value.specs.Json.{Json}
 use Rattle.reading.specs.World.{value_in}
-use Rattle.deploy_cells.specs.Cells.{World}
+use Rattle.deploy_cells.specs.Cells.{Cell, World}
 use Rattle.deploy_cells.specs.Guarded.{Reads}
+use Rattle.deploy_cells.specs.Puts.{body_in}
+use Rattle.bicep_emission.specs.Alike.{Seen, seen_in}
+use Rattle.bicep_emission.proofs.SeenLemmas.{value-seen}
 use Rattle.emitted_files.specs.Values.{AreBoth}
 
+-- a world and its marked cells
+pub record Side : Type 0 where
+  pub world : World
+  pub marks : Cell → Bool
+
+abbrev pub sees : {A : Type 0} → Side → Reads A → Seen A
+sees x r = seen_in x.world x.marks r
+
+pub value_seen : {A : Type 0} (v w : Side) (r s : Reads A) → sees v r ≡ sees w s
+    → value_in v.world r ≡ value_in w.world s
+value_seen v w r s h = sym (value-seen v.world v.marks r) ∙ ap (λ s. s.0) h ∙ value-seen w.world w.marks s
+
 -- what the template reads, and what the program reads
-abbrev pub Same : World → World → Option (Reads Json) → Option (Reads Json) → Type 0
-Same v w a b = AreBoth (λ r s. value_in v r ≡ value_in w s) a b
+abbrev pub Same : Side → Side → Option (Reads Json) → Option (Reads Json) → Type 0
+Same v w a b = AreBoth (λ r s. sees v r ≡ sees w s) a b
+
+pub same_bodies : (v w : Side) (a b : Option (Reads Json)) → Same v w a b
+    → body_in v.world a ≡ body_in w.world b
+same_bodies v w None None h = refl
+same_bodies v w None (Some s) h = absurd h
+same_bodies v w (Some r) None h = absurd h
+same_bodies v w (Some r) (Some s) h = value_seen v w r s h
 
 -- what both make of two things that belong together
-pub same_map : {A B : Type 0} (v w : World) (R : A → B → Type 0) (f : B → Reads Json) (g : A → Reads Json)
+pub same_map : {A B : Type 0} (v w : Side) (R : A → B → Type 0) (f : B → Reads Json) (g : A → Reads Json)
     (o : Option A) (u : Option B) → AreBoth R o u
-    → ((a : A) (b : B) → o ≡ Some a → u ≡ Some b → R a b → value_in v (f b) ≡ value_in w (g a))
+    → ((a : A) (b : B) → o ≡ Some a → u ≡ Some b → R a b → sees v (f b) ≡ sees w (g a))
     → Same v w (option_map f u) (option_map g o)
 same_map v w R f g None None h k = tt
 same_map v w R f g None (Some b) h k = absurd h

@@ -14,9 +14,15 @@ use Rattle.plan_cells.specs.Meaning.{Deployment}
 use Rattle.bicep_meaning.specs.Instances as program
 use Rattle.bicep_meaning.specs.Instances.{SourceProgram}
 use Rattle.emitted_worlds.proofs.SourceLemmas as source
-use Rattle.emitted_programs.proofs.OptionLemmas.{Same}
+use Rattle.emitted_programs.proofs.OptionLemmas.{Side, Same, value_seen}
 
-module _ (t : Deployment) (d : SourceProgram) (v w : World) where
+module _ (t : Deployment) (d : SourceProgram) (x y : Side) where
+  abbrev v : World
+  v = x.world
+
+  abbrev w : World
+  w = y.world
+
   template_plain : (e : Cell) → is_state e ≡ false
       → template.plain t e ≡ there_if (option_map (template.ruled t (template.rule t e)) (template.raw t e))
   unfolding template.plain
@@ -53,7 +59,7 @@ module _ (t : Deployment) (d : SourceProgram) (v w : World) where
   kept_same f g (Some j) h =
       ap (λ b. option_and_then some_there (template.if_meets t b j)) (h j) ∙ meets_same (g j) j
 
-  by_raw : (f g : Json → Bool) (a b : Option (Reads Json)) → Same v w a b → ((j : Json) → f j ≡ g j)
+  by_raw : (f g : Json → Bool) (a b : Option (Reads Json)) → Same x y a b → ((j : Json) → f j ≡ g j)
       → value_in v (there_if (option_map (template.ruled t f) a))
       ≡ value_in w (there_if (option_map (program.ruled g) b))
   unfolding value_in
@@ -61,10 +67,11 @@ module _ (t : Deployment) (d : SourceProgram) (v w : World) where
   by_raw f g None (Some s) h k = absurd h
   by_raw f g (Some r) None h k = absurd h
   by_raw f g (Some r) (Some s) h k =
-      ruled_value f r ∙ ap (kept f) h ∙ kept_same f g (value_in w s) k ∙ sym (source.ruled_value d w g s)
+      ruled_value f r ∙ ap (kept f) (value_seen x y r s h) ∙ kept_same f g (value_in w s) k
+      ∙ sym (source.ruled_value d w g s)
 
   pub plain_same : (c e : Cell) → is_state c ≡ false → is_state e ≡ false
-      → Same v w (template.raw t e) (program.raw d c) → ((j : Json) → template.rule t e j ≡ program.rule d c j)
+      → Same x y (template.raw t e) (program.raw d c) → ((j : Json) → template.rule t e j ≡ program.rule d c j)
       → value_in v (template.plain t e) ≡ value_in w (program.plain d c)
   plain_same c e h k s rules =
       ap (value_in v) (template_plain e k)

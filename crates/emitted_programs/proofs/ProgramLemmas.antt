@@ -41,17 +41,19 @@ use Rattle.emitted_files.proofs.KindLemmas.{kinds_same}
 use Rattle.emitted_worlds.specs.Facts.{HasOwnTypes, HoldsResources, HasFacts}
 use Rattle.emitted_worlds.proofs.FactLemmas.{facts as world_facts}
 use Rattle.emitted_worlds.proofs.ListLemmas.{counts_same}
+use Rattle.emitted_sites.specs.Marks.{IsMarked}
+use Rattle.emitted_sites.proofs.SiteLemmas.{unmarked_world}
 use Rattle.emitted_programs.specs.Given.{IsBound, deployed}
 use Rattle.emitted_programs.specs.Sound.{IsSoundProgram}
 use Rattle.emitted_programs.proofs.AboveLemmas.{of_parameter, of_variable, of_offered, of_count, offered_scope}
 use Rattle.emitted_programs.proofs.AboveLemmas.{counted_scope, included_admitted}
 use Rattle.emitted_programs.proofs.ListingLemmas.{listing_same}
-use Rattle.emitted_programs.proofs.OptionLemmas.{Same, same_map}
+use Rattle.emitted_programs.proofs.OptionLemmas.{Side, Same, same_map, same_bodies}
 use Rattle.emitted_programs.proofs.ParameterLemmas.{same_parameter}
 use Rattle.emitted_programs.proofs.PlainLemmas.{plain_same}
 use Rattle.emitted_programs.proofs.ResourceLemmas.{same_count, same_included, same_name, same_body}
 use Rattle.emitted_programs.proofs.RuleLemmas.{truth_same, name_same, parameter_same, output_same}
-use Rattle.emitted_programs.proofs.ScopeLemmas.{i, v, t, matches, same_variable, same_offered, same_output}
+use Rattle.emitted_programs.proofs.ScopeLemmas.{i, v, sw, t, matches, same_variable, same_offered, same_output}
 
 -- ---- types of resources
 
@@ -85,32 +87,36 @@ module _ (d : SourceProgram) (sound : IsSoundProgram d) where
 
 module _ (z : Form) (d : SourceProgram) (u : TemplateTree) (bound : List (List ℕ × BoundMeaning))
     (m : IsEmitted z d.files u) (sound : IsSoundProgram d) (given : IsBound d u bound) (w : World)
-    (facts : HasFacts z d w) where
-  abbrev rw : World
-  rw = v z d u bound m sound w facts
+    (marked : IsMarked z d w) where
+  abbrev rw : Side
+  rw = v z d u bound m sound w marked
+
+  abbrev here : Side
+  here = sw z d u bound m sound w marked
 
   abbrev dep : template.Deployment
-  dep = t z d u bound m sound w facts
+  dep = t z d u bound m sound w marked
 
   abbrev rn : Renaming
   rn = numbering z d.files
 
   -- ---- nested deployments
 
-  same_listing : (p q : Position) → to_position rn p ≡ Some q → is_admitted w (deployments p) ≡ true
-      → Same rw w (template.raw dep (deployments q)) (program.raw d (deployments p))
+  pub same_listing : (p q : Position) → to_position rn p ≡ Some q → is_admitted w (deployments p) ≡ true
+      → Same rw here (template.raw dep (deployments q)) (program.raw d (deployments p))
   unfolding template.raw program.raw
   same_listing p q at is_open =
-      same_map rw w (Match z d.files) (λ y. listing_value q (nested_numbers y)) (λ f. listing_value p f.modules)
-      (file_at d.files p) (template_at u q) (matches z d u bound m sound w facts p q at is_open)
-      (λ f y e k h. listing_same rn (i z d u bound m sound w facts) w p q at f.modules (nested_numbers y)
+      same_map rw here (Match z d.files) (λ y. listing_value q (nested_numbers y)) (λ f. listing_value p f.modules)
+      (file_at d.files p) (template_at u q) (matches z d u bound m sound w marked p q at is_open)
+      (λ f y e k h. listing_same rn (i z d u bound m sound w marked) w marked.marks marked.are_marks.others p q at
+      f.modules (nested_numbers y)
       (subst (λ o. map (λ n. option_and_then (λ f. number_of z f n) o) f.modules ≡ map (λ m. Some m) (nested_numbers y))
       (sym e) h.modules))
 
   -- ---- cells
 
   abbrev IsPlain : Cell → Cell → Type 0
-  IsPlain c e = value_in rw (template.plain dep e) ≡ value_in w (program.plain d c)
+  IsPlain c e = value_in rw.world (template.plain dep e) ≡ value_in w (program.plain d c)
 
   state_same : (k : ResourceId) → IsPlain (state k) (state k)
   unfolding template.plain program.plain value_in
@@ -119,60 +125,63 @@ module _ (z : Form) (d : SourceProgram) (u : TemplateTree) (bound : List (List �
   parameter_cell : (p q : Position) (x : List ℕ) → to_position rn p ≡ Some q
       → is_admitted w (parameter p x) ≡ true → IsPlain (parameter p x) (parameter q x)
   parameter_cell p q x at a =
-      let o = sym (of_parameter z d w facts p x) ∙ a in
-      plain_same dep d rw w (parameter p x) (parameter q x) refl refl
-      (same_parameter z d u bound m sound given w facts p q at o x)
+      let o = sym (of_parameter z d w marked.facts p x) ∙ a in
+      plain_same dep d rw here (parameter p x) (parameter q x) refl refl
+      (same_parameter z d u bound m sound given w marked p q at o x)
       (λ j. parameter_same dep d.files z x j (file_at d.files p) (template_at u q)
-      (matches z d u bound m sound w facts p q at o))
+      (matches z d u bound m sound w marked p q at o))
 
   variable_cell : (p q : Position) (x : List ℕ) → to_position rn p ≡ Some q
       → is_admitted w (variable p x) ≡ true → IsPlain (variable p x) (variable q x)
   variable_cell p q x at a =
-      plain_same dep d rw w (variable p x) (variable q x) refl refl
-      (same_variable z d u bound m sound w facts p q at (sym (of_variable z d w facts p x) ∙ a) x) (λ j. refl)
+      plain_same dep d rw here (variable p x) (variable q x) refl refl
+      (same_variable z d u bound m sound w marked p q at (sym (of_variable z d w marked.facts p x) ∙ a) x) (λ j. refl)
 
   offered_cell : (p q : Position) (x : List ℕ) → to_position rn p ≡ Some q
       → is_admitted w (offered p x) ≡ true → IsPlain (offered p x) (offered q x)
   offered_cell p q x at a =
-      plain_same dep d rw w (offered p x) (offered q x) refl refl
-      (same_offered z d u bound m sound w facts p q at (sym (of_offered z d w facts p x) ∙ a) x) truth_same
+      plain_same dep d rw here (offered p x) (offered q x) refl refl
+      (same_offered z d u bound m sound w marked p q at (sym (of_offered z d w marked.facts p x) ∙ a) x) truth_same
 
   output_cell : (p q : Position) (x : List ℕ) → to_position rn p ≡ Some q
       → is_admitted w (output p x) ≡ true → IsPlain (output p x) (output q x)
   output_cell p q x at a =
-      let o = offered_scope z d w facts p x a in
-      plain_same dep d rw w (output p x) (output q x) refl refl
-      (same_output z d u bound m sound w facts p q at o x)
+      let o = offered_scope z d w marked.facts p x a in
+      plain_same dep d rw here (output p x) (output q x) refl refl
+      (same_output z d u bound m sound w marked p q at o x)
       (λ j. output_same dep d.files z x j (file_at d.files p) (template_at u q)
-      (matches z d u bound m sound w facts p q at o))
+      (matches z d u bound m sound w marked p q at o))
 
   count_cell : (p q : Position) (n k : ℕ) → to_position rn p ≡ Some q → rn.number p n ≡ Some k
       → is_admitted w (count p n) ≡ true → IsPlain (count p n) (count q k)
   count_cell p q n k at number a =
-      plain_same dep d rw w (count p n) (count q k) refl refl
-      (same_count z d u bound m sound w facts p q at (sym (of_count z d w facts p n) ∙ a) n k number) counts_same
+      plain_same dep d rw here (count p n) (count q k) refl refl
+      (same_count z d u bound m sound w marked p q at (sym (of_count z d w marked.facts p n) ∙ a) n k number)
+      counts_same
 
   included_cell : (p q : Position) (s : Step) (k : ℕ) → to_position rn p ≡ Some q
       → rn.number p s.resource ≡ Some k → is_admitted w (included p s) ≡ true
       → IsPlain (included p s) (included q (step k s.copy))
   included_cell p q s k at number a =
-      plain_same dep d rw w (included p s) (included q (step k s.copy)) refl refl
-      (same_included z d u bound m sound w facts p q at (counted_scope z d w facts p s a) s.resource k number s.copy a)
+      plain_same dep d rw here (included p s) (included q (step k s.copy)) refl refl
+      (same_included z d u bound m sound w marked p q at (counted_scope z d w marked.facts p s a) s.resource k number
+      s.copy a)
       truth_same
 
   name_cell : (p q : Position) (s : Step) (k : ℕ) → to_position rn p ≡ Some q
       → rn.number p s.resource ≡ Some k → is_admitted w (name p s) ≡ true
       → IsPlain (name p s) (name q (step k s.copy))
   name_cell p q s k at number a =
-      plain_same dep d rw w (name p s) (name q (step k s.copy)) refl refl
-      (same_name z d u bound m sound w facts p q at (counted_scope z d w facts p s a) s.resource k number s.copy a)
+      plain_same dep d rw here (name p s) (name q (step k s.copy)) refl refl
+      (same_name z d u bound m sound w marked p q at (counted_scope z d w marked.facts p s a) s.resource k number s.copy
+      a)
       (λ j. name_same dep j (resource_of u q k)
       ∙ ap (program.is_name d.place j) (kinds_same z d dep m p q s.resource k at number))
 
   deployments_cell : (p q : Position) → to_position rn p ≡ Some q → is_admitted w (deployments p) ≡ true
       → IsPlain (deployments p) (deployments q)
   deployments_cell p q at a =
-      plain_same dep d rw w (deployments p) (deployments q) refl refl (same_listing p q at a) (λ j. refl)
+      plain_same dep d rw here (deployments p) (deployments q) refl refl (same_listing p q at a) (λ j. refl)
 
   cell_same : (c e : Cell) → to_cell rn c ≡ Some e → is_admitted w c ≡ true → IsPlain c e
   cell_same (parameter p x) e h a =
@@ -202,28 +211,30 @@ module _ (z : Form) (d : SourceProgram) (u : TemplateTree) (bound : List (List �
   cell_same (state k) e h a = subst (IsPlain (state k)) (same_some h) (state_same k)
 
   by_admitted : (c e : Cell) → to_cell rn c ≡ Some e → (b : Bool) → is_admitted w c ≡ b
-      → (if b then value_in rw (template.plain dep e) else Some None)
+      → (if b then value_in rw.world (template.plain dep e) else Some None)
       ≡ (if b then value_in w (program.plain d c) else Some None)
   by_admitted c e h true a = cell_same c e h a
   by_admitted c e h false a = refl
 
   pub means : (c e : Cell) → to_cell rn c ≡ Some e
-      → value_in rw (template.meaning dep e) ≡ value_in w (program.meaning d c)
+      → value_in rw.world (template.meaning dep e) ≡ value_in w (program.meaning d c)
   unfolding template.meaning program.meaning
   means c e h =
-      guarded_value rw e (template.plain dep e)
-      ∙ ap (λ b. if b then value_in rw (template.plain dep e) else Some None)
-      (admitted_same rn (i z d u bound m sound w facts) w c e h)
+      guarded_value rw.world e (template.plain dep e)
+      ∙ ap (λ b. if b then value_in rw.world (template.plain dep e) else Some None)
+      (admitted_same rn (i z d u bound m sound w marked) w c e h)
       ∙ by_admitted c e h (is_admitted w c) refl
       ∙ sym (guarded_value w c (program.plain d c))
 
   pub bodies : (p q : Position) (n k j : ℕ) (kind : Kind) → to_position rn p ≡ Some q → rn.number p n ≡ Some k
       → program.kinds d p n ≡ Some kind → kind.is_deployment ≡ false
       → w (included p (step n j)) ≡ Some (bool true)
-      → body_in rw (template.bodies dep q (step k j)) ≡ body_in w (program.bodies d p (step n j))
+      → body_in rw.world (template.bodies dep q (step k j)) ≡ body_in w (program.bodies d p (step n j))
   bodies p q n k j kind at number e own c =
-      let a = included_admitted z d w facts p (step n j) (ap is_true c) in
-      same_body z d u bound m sound w facts p q at (counted_scope z d w facts p (step n j) a) n k number j a kind e own
+      let a = included_admitted z d w marked.facts p (step n j) (ap is_true c) in
+      same_bodies rw here (template.bodies dep q (step k j)) (program.bodies d p (step n j))
+      (same_body z d u bound m sound w marked p q at (counted_scope z d w marked.facts p (step n j) a) n k number j a
+      kind e own)
 
 pub program_law : (z : Form) (d : SourceProgram) (u : TemplateTree) (bound : List (List ℕ × BoundMeaning))
     (opening : ResourceId → Option Json) (held : List HeldResource) → IsEmitted z d.files u → IsSoundProgram d
@@ -232,9 +243,9 @@ pub program_law : (z : Form) (d : SourceProgram) (u : TemplateTree) (bound : Lis
 program_law z d u bound opening held m sound given holds same = record {
   place = refl;
   held = same;
-  means = λ w n e c x h. means z d u bound m sound given w (facts_of w n e) c x h;
-  bodies = λ w n e p q a b j kind at number k own c. bodies z d u bound m sound given w (facts_of w n e) p q a b j kind
-      at number k own c;
+  means = λ w n e c x h. means z d u bound m sound given w (unmarked_world z d w (facts_of w n e)) c x h;
+  bodies = λ w n e p q a b j kind at number k own c. bodies z d u bound m sound given w
+      (unmarked_world z d w (facts_of w n e)) p q a b j kind at number k own c;
   kinds = λ p q a b at number. kinds_same z d (deployed d u bound) m p q a b at number;
   undeclared = λ w c k a. absent z d.files (deployed d u bound) m w c k a;
 }

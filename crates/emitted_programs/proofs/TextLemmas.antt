@@ -3,21 +3,15 @@ use Rattle.std.proofs.Common.{◌≡◌, ℕ, ℤ, true, List, [], ◌∷◌, Op
 use Rattle.std.specs.Prelude.{option_map, option_and_then}
 use Rattle.arm_value.specs.Json.{Json, bool, int}
 use Rattle.arm_expr.specs.Brackets.{escaped}
-use Rattle.arm_expr.specs.Print.{printed}
 use Rattle.arm_expr.specs.Tree.{Tree}
 use Rattle.arm_expr.specs.Tree as tree
 use Rattle.arm_expr.proofs.BracketLemmas.{meaning-escaped}
-use Rattle.arm_expr.proofs.PrintLemmas.{printed_spells}
-use Rattle.arm_expr.proofs.Reading.{spelled_means}
-use Rattle.arm_functions.specs.Table.{table, row_in}
-use Rattle.arm_functions.specs.Values.{function_value, value_of, of_lists}
 use Rattle.function_lists.specs.Sizes.{size, size_of}
 use Rattle.function_numbers.specs.Numbers.{from_zero}
 use Rattle.reading.specs.Reading.{done, pure, continued}
 use Rattle.arm_env.specs.Look.{Looking, Surroundings}
 use Rattle.arm_env.specs.Names.{lazy_named, strict_named, placed_named}
 use Rattle.arm_eval.specs.Trees.{tree_value, said_value}
-use Rattle.arm_eval.proofs.TextLemmas.{expression_read}
 use Rattle.expression_values.specs.Meaning.{value}
 use Rattle.deploy_cells.specs.Guarded.{Reads}
 use Rattle.bicep_tree.specs.declared.leaf.Literal.TheVariants as l
@@ -29,16 +23,11 @@ use Rattle.bicep_emission.proofs.SeenLemmas.{seen-same}
 use Rattle.bicep_emission.proofs.KeptLemmas.{kept_of}
 use Rattle.bicep_emission.proofs.CallLemmas.{seen, seen-capped-on, like_one}
 use Rattle.bicep_emission.proofs.BinaryLemmas.{text_like, like_literal}
+use Rattle.emitted_trees.proofs.LoopLemmas.{size_json, size_made}
+use Rattle.emitted_trees.proofs.TreeLemmas.{written_value}
 use Rattle.emitted_trees.specs.EmittedTrees.{count_of}
-use Rattle.emitted_trees.specs.Written.{expression_json, tree_json, literal_json, IsWritable, IsWithin}
+use Rattle.emitted_trees.specs.Written.{tree_json, literal_json, IsWithin}
 use Rattle.emitted_files.specs.Values.{IsTree, IsExpression, plain_or_expression}
-
-abbrev size_json : Json → Option Json
-size_json j = option_map int (option_and_then from_zero (size_of j))
-
-size_made : (v : Json) → kept_of (function_value (codes "length") (v ∷ [])) ≡ kept_of (size_json v)
-unfolding table row_in value_of of_lists
-size_made v = refl
 
 int_kept : (o : Option ℤ) → kept_of (option_map int o) ≡ option_map int o
 int_kept None = refl
@@ -51,27 +40,18 @@ module _ (x : Sides) (around : Surroundings) where
   abbrev sees : Looking Json → Seen Json
   sees r = seen_in x.template x.template_marks r
 
-  -- the text of an expression within the limits has the value of the expression
-  written : (e : Tree) → IsWritable e → tree_value (expression_json e) around ≡ value around e
-  unfolding continued
-  written e h =
-      let spells = printed_spells e h.names h.ints in
-      ap (said_value around (printed e)) (spelled_means (printed e) e spells)
-      ∙ ap (λ o. continued (done o) (value around))
-      ((expression_read (printed e) e).1 (spells, (h.is_short, h.is_flat)))
-
   -- an expression that stands for a reading
   pub expression_like : (e : Tree) (j : Json) (r : Reads Json) → IsExpression e j → Stands x around e r
       → IsCapped x r → Like x (tree_value j around) r
   expression_like e j r h st c =
-      ap (λ j. sees (tree_value j around)) h.is ∙ ap sees (written e h.is_writable) ∙ st.alike ∙ c
+      ap (λ j. sees (tree_value j around)) h.is ∙ ap sees (written_value around e h.is_writable) ∙ st.alike ∙ c
 
   -- the count of a resource
   pub count_like : (xs : Tree) (j : Json) (r : Reads Json) → IsExpression (count_of xs) j
       → Like x (value around xs) r → Like x (tree_value j around) (continued r (λ j. done (size (j ∷ []))))
   unfolding lazy_named strict_named placed_named
   count_like xs j r h k =
-      ap (λ j. sees (tree_value j around)) h.is ∙ ap sees (written (count_of xs) h.is_writable)
+      ap (λ j. sees (tree_value j around)) h.is ∙ ap sees (written_value around (count_of xs) h.is_writable)
       ∙ like_one x around (codes "length") xs r size_json refl refl size_made k
       ∙ seen-capped-on x r size_json
       ∙ seen-same x.source x.source_marks r (λ j. done (kept_of (size_json j))) (λ j. done (size (j ∷ [])))
@@ -86,10 +66,10 @@ module _ (x : Sides) (around : Surroundings) where
   name_read : (e : Tree) → IsWithin (plain_or_expression e)
       → sees (tree_value (tree_json (plain_or_expression e)) around) ≡ sees (value around e)
   name_read (tree.text t) h = text_read t
-  name_read (tree.int z) h = ap sees (written (tree.int z) h)
-  name_read (tree.call f es) h = ap sees (written (tree.call f es) h)
-  name_read (tree.member e k) h = ap sees (written (tree.member e k) h)
-  name_read (tree.index e i) h = ap sees (written (tree.index e i) h)
+  name_read (tree.int z) h = ap sees (written_value around (tree.int z) h)
+  name_read (tree.call f es) h = ap sees (written_value around (tree.call f es) h)
+  name_read (tree.member e k) h = ap sees (written_value around (tree.member e k) h)
+  name_read (tree.index e i) h = ap sees (written_value around (tree.index e i) h)
 
   pub name_like : (e : Tree) (j : Json) (r : Reads Json) → IsTree (plain_or_expression e) j → Stands x around e r
       → IsCapped x r → Like x (tree_value j around) r

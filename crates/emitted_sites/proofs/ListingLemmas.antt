@@ -1,5 +1,5 @@
 -- What is sought among the nested deployments of a scope.
-use Rattle.std.proofs.Common.{◌≡◌, ℕ, zero, suc, Bool, true, length, List, [], ◌∷◌, map, Option, Some, None}
+use Rattle.std.proofs.Common.{◌≡◌, ℕ, zero, suc, Bool, true, false, length, List, [], ◌∷◌, map, Option, Some, None}
 use Rattle.std.proofs.Common.{refl, sym, ap, ◌∙◌}
 use Rattle.std.specs.Prelude.{option_map, slice_get}
 use Rattle.foundation.proofs.Options.{same_some}
@@ -9,13 +9,13 @@ use Rattle.arm_ids.specs.declared.id.Place.{Place}
 use Rattle.arm_ids.specs.declared.id.ResourceId.{ResourceId}
 use Rattle.arm_ids.proofs.SegmentLemmas.{segments-fold}
 use Rattle.reading.specs.Reading.{done, pure, continued}
-use Rattle.reading.specs.World.{value_in}
 use Rattle.template_tree.specs.Tree.{TemplateTree}
-use Rattle.deploy_cells.specs.Cells.{Position, World, deployments}
+use Rattle.deploy_cells.specs.Cells.{Position, Cell, World, deployments}
 use Rattle.deploy_cells.specs.Listing.{Named, Sought, found, left_away, not_here, sought, IsSought}
 use Rattle.deploy_cells.specs.Puts.{key_at}
 use Rattle.deploy_cells.proofs.SameLemmas.{id_is}
 use Rattle.plan_cells.specs.Sites.{Found, instance_of, is_left_away, is_nowhere, found_or, seek, nested_numbers_at}
+use Rattle.bicep_emission.specs.Alike.{Seen, seen_in, after}
 use Rattle.bicep_emission.specs.Answered.{deployment_types}
 use Rattle.bicep_meaning.specs.Meaning.{has_key}
 
@@ -25,28 +25,38 @@ found_by q rs (found k i) = instance_of q (slice_get rs k) i
 found_by q rs left_away = is_left_away
 found_by q rs not_here = is_nowhere
 
-module _ (v : World) (u : TemplateTree) (test : List ℕ → Bool) (q : Position) where
-  found_value : (rs : List ℕ) (s : Sought)
-      → value_in v (found_or q rs s (pure is_nowhere)) ≡ Some (found_by q rs s)
-  unfolding value_in
-  found_value rs (found k i) = refl
-  found_value rs left_away = refl
-  found_value rs not_here = refl
+module _ (v : World) (n : Cell → Bool) (u : TemplateTree) (test : List ℕ → Bool) (q : Position) where
+  abbrev found_seen : Found → Seen Found
+  found_seen o = (Some o, false)
+
+  found_sees : (rs : List ℕ) (s : Sought)
+      → seen_in v n (found_or q rs s (pure is_nowhere)) ≡ found_seen (found_by q rs s)
+  unfolding seen_in
+  found_sees rs (found k i) = refl
+  found_sees rs left_away = refl
+  found_sees rs not_here = refl
 
   by_listing : (o : Option Json) (j : Json) → o ≡ Some j
-      → value_in v
+      → seen_in v n
       (continued (done o) (λ j. found_or q (nested_numbers_at u q) (sought test j) (pure is_nowhere)))
-      ≡ Some (found_by q (nested_numbers_at u q) (sought test j))
+      ≡ found_seen (found_by q (nested_numbers_at u q) (sought test j))
   unfolding continued
   by_listing None j e = absurd cc
   by_listing (Some i) j e =
-      found_value (nested_numbers_at u q) (sought test i)
-      ∙ ap (λ j. Some (found_by q (nested_numbers_at u q) (sought test j))) (same_some e)
+      found_sees (nested_numbers_at u q) (sought test i)
+      ∙ ap (λ j. found_seen (found_by q (nested_numbers_at u q) (sought test j))) (same_some e)
 
-  pub seek_value : (j : Json) → v (deployments q) ≡ Some j
-      → value_in v (seek u test (q ∷ [])) ≡ Some (found_by q (nested_numbers_at u q) (sought test j))
-  unfolding value_in continued
-  seek_value j e = by_listing (v (deployments q)) j e
+  pub seek_sees : (j : Json) → v (deployments q) ≡ Some j → n (deployments q) ≡ false
+      → seen_in v n (seek u test (q ∷ [])) ≡ found_seen (found_by q (nested_numbers_at u q) (sought test j))
+  unfolding seen_in continued
+  seek_sees j e h =
+      ap
+      (λ b. after b
+      (seen_in v n
+      (continued (done (v (deployments q)))
+      (λ j. found_or q (nested_numbers_at u q) (sought test j) (pure is_nowhere)))))
+      h
+      ∙ ap (after false) (by_listing (v (deployments q)) j e)
 
 -- ---- keys of other types
 

@@ -1,15 +1,18 @@
 -- The place of a scope is that of the instance of its file.
-use Rattle.std.proofs.Common.{◌≡◌, [], ◌∷◌, Option, Some, None, refl, sym, ap, ◌∙◌, subst}
-use Rattle.std.specs.Prelude.{option_and_then}
+use Rattle.std.proofs.Common.{◌≡◌, Bool, false, [], ◌∷◌, Option, Some, None, refl, sym, ap, ap₂, ◌∙◌, subst}
+use Rattle.std.specs.Prelude.{◌||◌, option_and_then}
 use Rattle.foundation.proofs.Options.{same_some}
 use Rattle.arm_value.specs.Json.{Json, null, bool, int, text, array, object}
 use Rattle.arm_ids.specs.declared.id.Place.{Place}
 use Rattle.reading.specs.Reading.{done, read, continued}
 use Rattle.reading.specs.World.{value_in}
-use Rattle.deploy_cells.specs.Cells.{step, Position, Cell, World, name}
+use Rattle.deploy_cells.specs.Cells.{Step, step, Position, Cell, World, name}
+use Rattle.deploy_cells.specs.Guarded.{Reads}
 use Rattle.plan_cells.specs.Scopes as template
 use Rattle.plan_cells.specs.Scopes.{own_place}
+use Rattle.bicep_emission.specs.Alike.{Seen, seen_in}
 use Rattle.bicep_emission.specs.Answered.{IsPlainPlace}
+use Rattle.bicep_emission.proofs.SeenLemmas.{value-seen}
 use Rattle.bicep_meaning.specs.Instances as source
 use Rattle.bicep_meaning.specs.Instances.{place_at}
 use Rattle.cell_renaming.specs.Renaming.{Renaming, IsOneToOne, to_position, renamed}
@@ -58,6 +61,47 @@ module _ (r : Renaming) (i : IsOneToOne r) (w : World) (place : Place) where
       (to_both (to_position r p) (r.number p s.resource) (λ q m. name q (step m s.copy)) b.left b.right b.first
       b.second))
       ∙ sym (named_place w (name p s) (λ j. source.with_deployment place j)))
+
+-- ---- names are not marked, by which places are found
+
+-- a reading that reads no marked cell
+pub unmarked_seen : {A : Type 0} (w : World) (n : Cell → Bool) (r : Reads A) → (seen_in w n r).1 ≡ false
+    → seen_in w n r ≡ (value_in w r, false)
+unmarked_seen {A} w n r e = paired (seen_in w n r) (value_in w r) (value-seen w n r) e
+  where
+    paired : (s : Seen A) (o : Option A) → s.0 ≡ o → s.1 ≡ false → s ≡ (o, false)
+    paired (a, b) o h k = ap₂ (λ o b. let s : Seen A = (o, b) in s) h k
+
+module _ (w : World) (n : Cell → Bool) (unmarked : (p : Position) (s : Step) → n (name p s) ≡ false)
+    (place : Place) where
+  abbrev after_value : (Json → Option Place) → Option Json → Bool → Bool
+  after_value f o b = (seen_in w n (continued (done o) (λ j. done (f j)))).1 || b
+
+  no_mark_after : (f : Json → Option Place) (o : Option Json) → after_value f o false ≡ false
+  unfolding seen_in continued
+  no_mark_after f None = refl
+  no_mark_after f (Some j) = refl
+
+  named_unmarked : (p : Position) (s : Step) (f : Json → Option Place)
+      → (seen_in w n (continued (read (name p s)) (λ j. done (f j)))).1 ≡ false
+  unfolding seen_in continued
+  named_unmarked p s f = ap (after_value f (w (name p s))) (unmarked p s) ∙ no_mark_after f (w (name p s))
+
+  pub source_place : (p : Position) → seen_in w n (place_at place p) ≡ (value_in w (place_at place p), false)
+  unfolding seen_in
+  source_place p = unmarked_seen w n (place_at place p) (by_position p)
+    where
+      by_position : (p : Position) → (seen_in w n (place_at place p)).1 ≡ false
+      by_position [] = refl
+      by_position (s ∷ p) = named_unmarked p s (λ j. source.with_deployment place j)
+
+  pub template_place : (q : Position) → seen_in w n (own_place place q) ≡ (value_in w (own_place place q), false)
+  unfolding seen_in
+  template_place q = unmarked_seen w n (own_place place q) (by_position q)
+    where
+      by_position : (q : Position) → (seen_in w n (own_place place q)).1 ≡ false
+      by_position [] = refl
+      by_position (s ∷ q) = named_unmarked q s (λ j. template.with_deployment place j)
 
 -- a place has the subscription and the group of the program
 plain_deployment : (place pl : Place) (j : Json) → IsPlainPlace place → source.with_deployment place j ≡ Some pl

@@ -48,10 +48,10 @@ use Rattle.emitted_trees.specs.Standing.{AreInner}
 
 -- ---- how often
 
-abbrev size_json : Json → Option Json
+abbrev pub size_json : Json → Option Json
 size_json j = option_map int (option_and_then from_zero (size_of j))
 
-size_made : (v : Json) → kept_of (function_value (codes "length") (v ∷ [])) ≡ kept_of (size_json v)
+pub size_made : (v : Json) → kept_of (function_value (codes "length") (v ∷ [])) ≡ kept_of (size_json v)
 unfolding table row_in value_of of_lists
 size_made v = refl
 

@@ -60,7 +60,7 @@ use Rattle.emitted_trees.proofs.LoopLemmas as loops
 -- ---- texts
 
 -- the text of an expression within the limits has the value of the expression
-written_value : (around : Surroundings) (e : Tree) → IsWritable e
+pub written_value : (around : Surroundings) (e : Tree) → IsWritable e
     → tree_value (expression_json e) around ≡ value around e
 unfolding continued
 written_value around e h =

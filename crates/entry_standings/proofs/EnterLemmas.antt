@@ -45,7 +45,7 @@ use Rattle.point_rows.specs.declared.later.Later.{Later}
 use Rattle.point_rows.specs.Rows.{known_now}
 use Rattle.scope_entries.specs.Entries.{plain_now, own_of, IsSettled, IsCircle, WaitsForState, WaitsForLine, HasNothing}
 use Rattle.scope_entries.specs.Entries.{line_cell}
-use Rattle.entry_standings.proofs.OwnCellLemmas.{own_cell}
+use Rattle.scope_entries.proofs.OwnLemmas.{own_cell}
 use Rattle.awaited_cells.specs.Awaited.{MaySee, MaySeeAround}
 use Rattle.awaited_cells.proofs.ValueLemmas.{entries_await}
 use Rattle.task_standings.specs.Standings.{IsStanding, IsScopeSeen, IsNone, Enters}

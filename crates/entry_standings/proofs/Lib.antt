@@ -1,4 +1,3 @@
-pub mod OwnCellLemmas
 pub mod DemandLemmas
 pub mod CircleLemmas
 pub mod EnterLemmas

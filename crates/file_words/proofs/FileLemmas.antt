@@ -36,7 +36,8 @@ use Rattle.bicep_numbers.proofs.FoundLemmas.{WhereFound, where-mapped, where-bot
 use Rattle.bicep_meaning.specs.Declared.{body_at}
 use Rattle.bicep_meaning.specs.Declared as meaning
 use Rattle.bicep_meaning.specs.Files as files
-use Rattle.bicep_meaning.specs.Files.{SourceFile, declaration, field_named, parent, around_kind}
+use Rattle.bicep_meaning.specs.Files.{SourceFile, declaration, parent, around_kind}
+use Rattle.bicep_resolved.specs.Source.{field_named}
 use Rattle.emitted_names.specs.Words.{HasWords, FileHasWords, OutputsAreNames}
 use Rattle.sound_values.proofs.FoundLemmas.{of_mapped}
 use Rattle.sound_declarations.specs.Few.{LoopHasFew, ConditionHasFew, BodyHasFew, DeclaredHasFew, FileHasFew}
@@ -49,7 +50,8 @@ use Rattle.file_words.specs.Words.{ObjectIsWorded, MembersAreWorded, MemberIsWor
 use Rattle.file_words.specs.Words.{BodyIsWorded, IsDeclaredWorded, FileIsWorded}
 use Rattle.file_words.proofs.TokenLemmas.{tokens_fine, count_of_tokens}
 use Rattle.file_words.proofs.ReadLemmas.{read_file}
-use Rattle.file_words.proofs.WordLemmas.{Good, GoodValue, AreGood, members_few, members_all, worded, worded_members, worded_value}
+use Rattle.file_words.proofs.WordLemmas.{Good, GoodValue, AreGood, members_few, members_all, worded, worded_members}
+use Rattle.file_words.proofs.WordLemmas.{worded_value}
 
 -- ---- files that are read
 
@@ -319,7 +321,7 @@ good_named : (name : List ℕ) (ps : PropertyTrees) (v : ValueTree) → AreGood 
     → GoodValue v
 good_named name s.no_property v h e = absurd (none-some v e)
 good_named name (s.property at x y ps) v h e =
-    good_by name y v ps (bytes_eq name x) h.0 (good_named name ps v h.1) e
+    good_by name y v ps (bytes_eq x name) h.0 (good_named name ps v h.1) e
 
 body_is_good : (o : Option DeclaredTree) (b : d.BodyTree) → option_and_then meaning.body_of o ≡ Some b
     → ((x : DeclaredTree) → o ≡ Some x → IsGood x) → GoodBody b

@@ -1,5 +1,5 @@
 -- Values that are found by their compact texts.
-use Rattle.std.proofs.Common.{◌≡◌, ℕ, ℤ, pos, negsuc, Bool, true, false, ◌||◌, List, [], ◌∷◌, ◌++◌, Some, bytes_eq}
+use Rattle.std.proofs.Common.{◌≡◌, ℕ, true, ◌||◌, List, [], ◌∷◌, ◌++◌, Some, bytes_eq}
 use Rattle.std.proofs.Common.{refl, ap, ap₂, sym, ◌∙◌}
 use Rattle.std.specs.Prelude.{cond}
 use Rattle.std.specs.Cmp.{both_ways}
@@ -10,43 +10,15 @@ use Rattle.std.specs.declared.alloc.Global.{Global}
 use Rattle.std.proofs.lemmas.List.Folds.{list_any-append}
 use Rattle.std.proofs.lemmas.Map.Text.{is_eq-slice_cmp}
 use Rattle.std.proofs.lemmas.Slice.Eq.{bytes_eq-Decides}
-use Rattle.std.proofs.lemmas.Str.{encodes_same}
-use Rattle.serde_json.specs.Data as d
-use Rattle.serde_json.specs.Data.{Data}
-use Rattle.serde_json.specs.Find.{of_integer}
-use Rattle.arm_value.specs.Json.{Json, null, bool, int, text, array, object, Row, no_items, item, Pairs, no_pairs, pair}
-use Rattle.arm_value.specs.Reading.{data_of, row_data, pairs_data, reading}
+use Rattle.arm_value.specs.Json.{Json}
+use Rattle.arm_value.specs.Reading.{data_of, reading}
 use Rattle.arm_value.specs.Same.{is_same}
 use Rattle.arm_value.proofs.SameLemmas.{decides_equal}
 use Rattle.function_lists.specs.Items.{is_among}
 use Rattle.function_lists.specs.Index.{text_of, ReadsBack, text_cmp, IsIndexOf}
 use Rattle.foundation.proofs.Words.{swapped}
 use Rattle.foundation.proofs.TruthValues.{last_or}
-use Rattle.arm_value.proofs.TreeLemmas.{integer_in, integer_back}
-
--- ---- a tree and its data
-
-mutual
-  same_data : (j k : Json) → data_of j ≡ data_of k → j ≡ k
-  same_data null null e = refl
-  same_data (bool a) (bool b) e = let same : a ≡ b = cc in ap bool same
-  same_data (int x) (int y) e = let same : of_integer x ≡ of_integer y = cc in
-      ap int (sym (integer_back x) ∙ ap integer_in same ∙ integer_back y)
-  same_data (text s) (text t) e = ap text (encodes_same s t (cc))
-  same_data (array js) (array ks) e = ap array (same_row js ks (cc))
-  same_data (object ms) (object ns) e = ap object (same_pairs ms ns (cc))
-  same_data _ _ e = absurd (cc)
-
-  same_row : (js ks : Row) → row_data js ≡ row_data ks → js ≡ ks
-  same_row no_items no_items e = refl
-  same_row (item j js) (item k ks) e = ap₂ item (same_data j k (cc)) (same_row js ks (cc))
-  same_row _ _ e = absurd (cc)
-
-  same_pairs : (ms ns : Pairs) → pairs_data ms ≡ pairs_data ns → ms ≡ ns
-  same_pairs no_pairs no_pairs e = refl
-  same_pairs (pair s j ms) (pair t k ns) e =
-      λ i. pair (encodes_same s t (cc) i) (same_data j k (cc) i) (same_pairs ms ns (cc) i)
-  same_pairs _ _ e = absurd (cc)
+use Rattle.arm_value.proofs.EqualData.{same_data}
 
 -- ---- a text and its value
 

@@ -1,4 +1,4 @@
--- Each put is listed once among the tasks.
+-- Each put and each leave is listed once among the tasks.
 use Rattle.std.proofs.Common.{◌≡◌, inl, inr, ℕ, zero, suc, ◌+◌, ◌<◌, ◌≤◌, Bool, true, false, List, []}
 use Rattle.std.proofs.Common.{◌∷◌, ◌++◌, length, Option, Some, None, refl, sym, ap, subst, ◌∙◌, arith, length-append}
 use Rattle.std.proofs.Common.{append_assoc}
@@ -47,8 +47,14 @@ same_step_at (c ∷ l) (k ∷ m) a b p e = same_step_at l m a b p (rest_same c k
 ends_same : (x : Position) (a b : Step) (p : Position) → Ends x (a ∷ p) → Ends x (b ∷ p) → a ≡ b
 ends_same x a b p f g = same_step_at f.0 g.0 a b p (sym f.1 ∙ g.1)
 
-ends_further : (x : Position) (a b : Step) (p : Position) → Ends x (a ∷ (b ∷ p)) → Ends x (b ∷ p)
-ends_further x a b p f = (f.0 ++ a ∷ [], f.1 ∙ sym (append_assoc f.0 (a ∷ []) (b ∷ p)))
+ends_further : (x : Position) (a : Step) (p : Position) → Ends x (a ∷ p) → Ends x p
+ends_further x a p f = (f.0 ++ a ∷ [], f.1 ∙ sym (append_assoc f.0 (a ∷ []) p))
+
+ends_itself : (x p : Position) → x ≡ p → Ends x p
+ends_itself x p e = ([], e)
+
+ends_apart : (x : Position) (a : Step) (p : Position) → Ends x (a ∷ p) → x ≡ p → ⊥
+ends_apart x a p f e = never_longer p f.0 a (sym e ∙ f.1)
 
 copy_same : (r i j : ℕ) → step r i ≡ step r j → i ≡ j
 copy_same r i j e = ap (λ (s : Step). s.copy) e
@@ -56,19 +62,25 @@ copy_same r i j e = ap (λ (s : Step). s.copy) e
 number_same : (r k i j : ℕ) → step r i ≡ step k j → r ≡ k
 number_same r k i j e = ap (λ (s : Step). s.resource) e
 
-module _ (w : World) (q : Position) (s : Step) where
+-- a task at a position: it enters no scope, and leaves the scope or puts the instance at that position alone
+pub record IsPlaced (k : Task) (z : Position) : Type 0 where
+  pub no_enter : (p : Position) → enter p ≡ k → ⊥
+  pub by_leave : (p : Position) → leave p ≡ k → z ≡ p
+  pub by_put : (p : Position) (s : Step) → put p s ≡ k → z ≡ s ∷ p
+
+module _ (w : World) (k : Task) (z : Position) (placed : IsPlaced k z) where
   abbrev Mine : List Task → Type 0
-  Mine ts = Has (put q s) ts
+  Mine ts = Has k ts
 
   -- it is listed at most once
   abbrev Once : List Task → Type 0
   Once [] = Unit {0}
-  Once (t ∷ ts) = ((t ≡ put q s) → Mine ts → ⊥) × Once ts
+  Once (t ∷ ts) = ((t ≡ k) → Mine ts → ⊥) × Once ts
 
   once_joined : (xs ys : List Task) → Once xs → Once ys → (Mine xs → Mine ys → ⊥) → Once (xs ++ ys)
   once_joined [] ys a b n = b
   once_joined (t ∷ xs) ys a b n = (
-    (λ e h. elim (has_joined (put q s) xs ys h) [ inl i ↦ a.0 e i | inr i ↦ n (inl e) i ]),
+    (λ e h. elim (has_joined k xs ys h) [ inl i ↦ a.0 e i | inr i ↦ n (inl e) i ]),
     once_joined xs ys a.1 b (λ i j. n (inr i) j),
   )
 
@@ -89,7 +101,7 @@ module _ (w : World) (q : Position) (s : Step) where
       subst (λ (l : List Task). Lone l R) (sym e)
       (record {
         once = once_joined xs ys a.once b.once (λ i j. n (a.only i) (b.only j));
-        only = λ h. elim (has_joined (put q s) xs ys h) [ inl i ↦ f (a.only i) | inr i ↦ g (b.only i) ];
+        only = λ h. elim (has_joined k xs ys h) [ inl i ↦ f (a.only i) | inr i ↦ g (b.only i) ];
       })
 
   -- what is read after a cell
@@ -112,7 +124,7 @@ module _ (w : World) (q : Position) (s : Step) where
   -- ---- instances
 
   abbrev At : Position → ℕ → ℕ → Type 0
-  At p r j = Ends (s ∷ q) (step r j ∷ p)
+  At p r j = Ends z (step r j ∷ p)
 
   abbrev Each : Position → ℕ → (Step → Reads (List Task)) → Type 0
   Each p r f = (j : ℕ) (us : List Task) → value_in w (f (step r j)) ≡ Some us → Lone us (At p r j)
@@ -141,8 +153,8 @@ module _ (w : World) (q : Position) (s : Step) where
       lone_both b.one b.two ts (At p r i) (From p r (suc i)) (From p r i) b.is
       (of_instance p r i f each b.one b.one_read)
       (of_instances p r f each n (suc i) b.two b.two_read)
-      (λ a c. let k : i ≡ c.0 = copy_same r i c.0 (ends_same (s ∷ q) (step r i) (step r c.0) p a c.1.1) in
-      let l : suc i ≤ c.0 = c.1.0 in omega (arith, k, l))
+      (λ a c. let m : i ≡ c.0 = copy_same r i c.0 (ends_same z (step r i) (step r c.0) p a c.1.1) in
+      let l : suc i ≤ c.0 = c.1.0 in omega (arith, m, l))
       (λ a. (i, (omega arith, a)))
       (λ c. let l : suc i ≤ c.0 = c.1.0 in (c.0, (omega (arith, l), c.1.1)))
 
@@ -165,66 +177,57 @@ module _ (w : World) (q : Position) (s : Step) where
   -- ---- resources from number r on
 
   abbrev Among : Position → ℕ → ℕ → Type 0
-  Among p r n = (k : ℕ) × ((r ≤ k) × ((k < r + n) × OfOne p k))
+  Among p r n = (i : ℕ) × ((r ≤ i) × ((i < r + n) × OfOne p i))
 
-  apart : (p : Position) (k m : ℕ) → (k ≡ m → ⊥) → OfOne p k → OfOne p m → ⊥
-  apart p k m n a b =
-      n (number_same k m a.0 b.0 (ends_same (s ∷ q) (step k a.0) (step m b.0) p a.1 b.1))
-
-  one_put : (p : Position) (st : Step) → put p st ≡ put q s → Ends (s ∷ q) (st ∷ p)
-  one_put p st e = ([], sym (ap of_task e))
-    where
-      of_task : Task → Position
-      of_task (put a b) = b ∷ a
-      of_task _ = []
-
-  enter_not : (p : Position) → enter p ≡ put q s → ⊥
-  enter_not p e = cc
-
-  leave_not : (p : Position) → leave p ≡ put q s → ⊥
-  leave_not p e = cc
+  apart : (p : Position) (i m : ℕ) → (i ≡ m → ⊥) → OfOne p i → OfOne p m → ⊥
+  apart p i m n a b =
+      n (number_same i m a.0 b.0 (ends_same z (step i a.0) (step m b.0) p a.1 b.1))
 
   -- an instance of a scope
-  abbrev OfScope : Position → Type 0
-  OfScope p = (st : Step) × Ends (s ∷ q) (st ∷ p)
+  abbrev Inside : Position → Type 0
+  Inside p = (st : Step) × Ends z (st ∷ p)
 
   read_one : (p : Position) (st : Step) (ts : List Task) → value_in w (pure (put p st ∷ [])) ≡ Some ts
       → put p st ∷ [] ≡ ts
   unfolding value_in
   read_one p st ts e = some_of (put p st ∷ []) ts e
 
-  lone_put : (p : Position) (st : Step) → Lone (put p st ∷ []) (Ends (s ∷ q) (st ∷ p))
+  lone_put : (p : Position) (st : Step) → Lone (put p st ∷ []) (Ends z (st ∷ p))
   lone_put p st = record {
     once = (λ e h. absurd h, tt);
-    only = λ h. elim h [ inl e ↦ one_put p st e | inr i ↦ absurd i ];
+    only = λ h. elim h [ inl e ↦ ends_itself z (st ∷ p) (placed.by_put p st e) | inr i ↦ absurd i ];
   }
 
-  with_ends : (p : Position) (us ts : List Task) → ts ≡ enter p ∷ (us ++ leave p ∷ []) → (P : Type 0) → Lone us P
-      → Lone ts P
-  with_ends p us ts e P l =
-      subst (λ (z : List Task). Lone z P) (sym e)
+  -- a scope with its entry and its leave
+  with_ends : (p : Position) (us ts : List Task) → ts ≡ enter p ∷ (us ++ leave p ∷ []) → Lone us (Inside p)
+      → Lone ts (Ends z p)
+  with_ends p us ts e l =
+      subst (λ (y : List Task). Lone y (Ends z p)) (sym e)
       (record {
         once = (
-          (λ f h. enter_not p f),
-          once_joined us (leave p ∷ []) l.once ((λ f h. leave_not p f), tt)
-              (λ i j. elim j [ inl f ↦ leave_not p f | inr k ↦ k ]),
+          (λ f h. placed.no_enter p f),
+          once_joined us (leave p ∷ []) l.once ((λ f h. absurd h), tt)
+              (λ i j. let a = l.only i in elim j [
+                | inl f ↦ ends_apart z a.0 p a.1 (placed.by_leave p f)
+                | inr m ↦ m
+              ]),
         );
         only = λ h. elim h [
-          | inl f ↦ absurd (enter_not p f)
-          | inr i ↦ (elim (has_joined (put q s) us (leave p ∷ []) i) [
-            | inl k ↦ l.only k
-            | inr k ↦ (elim k [ inl f ↦ absurd (leave_not p f) | inr z ↦ absurd z ])
+          | inl f ↦ absurd (placed.no_enter p f)
+          | inr i ↦ (elim (has_joined k us (leave p ∷ []) i) [
+            | inl m ↦ (let a = l.only m in ends_further z a.0 p a.1)
+            | inr m ↦ (elim m [ inl f ↦ ends_itself z p (placed.by_leave p f) | inr n ↦ absurd n ])
           ])
         ];
       })
 
   mutual
     of_template : (t : TemplateTree) (p : Position) (ts : List Task) → value_in w (template_tasks p t) ≡ Some ts
-        → Lone ts (OfScope p)
+        → Lone ts (Ends z p)
     of_template (template h rs) p ts e =
         let l = scope_list w p (template h rs) ts e in
-        with_ends p l.inside ts l.is (OfScope p)
-        (lone_more l.inside (Among p 0 (trees_count rs)) (OfScope p) (of_trees rs p 0 l.inside l.is_read)
+        with_ends p l.inside ts l.is
+        (lone_more l.inside (Among p 0 (trees_count rs)) (Inside p) (of_trees rs p 0 l.inside l.is_read)
         (λ a. (step a.0 a.1.1.1.0, a.1.1.1.1)))
 
     of_trees : (xs : Trees) (p : Position) (r : ℕ) (ts : List Task) → value_in w (trees_tasks p r xs) ≡ Some ts
@@ -236,58 +239,56 @@ module _ (w : World) (q : Position) (s : Step) where
         lone_both b.one b.two ts (Among p r (tree_count t)) (Among p (r + tree_count t) (trees_count xs))
         (Among p r (tree_count t + trees_count xs)) b.is
         (of_tree t p r b.one b.one_read) (of_trees xs p (r + tree_count t) b.two b.two_read)
-        (λ a c. let k : a.0 < r + tree_count t = a.1.1.0 in let l : r + tree_count t ≤ c.0 = c.1.0 in
-        apart p a.0 c.0 (λ z. omega (arith, k, l, z)) a.1.1.1 c.1.1.1)
-        (λ a. let k : a.0 < r + tree_count t = a.1.1.0 in (a.0, (a.1.0, (omega (arith, k), a.1.1.1))))
-        (λ c. let k : c.0 < (r + tree_count t) + trees_count xs = c.1.1.0 in let l : r + tree_count t ≤ c.0 = c.1.0 in
-        (c.0, (omega (arith, l), (omega (arith, k), c.1.1.1))))
+        (λ a c. let m : a.0 < r + tree_count t = a.1.1.0 in let l : r + tree_count t ≤ c.0 = c.1.0 in
+        apart p a.0 c.0 (λ i. omega (arith, m, l, i)) a.1.1.1 c.1.1.1)
+        (λ a. let m : a.0 < r + tree_count t = a.1.1.0 in (a.0, (a.1.0, (omega (arith, m), a.1.1.1))))
+        (λ c. let m : c.0 < (r + tree_count t) + trees_count xs = c.1.1.0 in let l : r + tree_count t ≤ c.0 = c.1.0 in
+        (c.0, (omega (arith, l), (omega (arith, m), c.1.1.1))))
 
     of_tree : (t : ResourceTree) (p : Position) (r : ℕ) (ts : List Task) → value_in w (tree_tasks p r t) ≡ Some ts
         → Lone ts (Among p r (tree_count t))
     of_tree (resource dc b xs) p r ts e =
-        let z = both_of w (tasks.unless_existing dc (all_instances p r (λ st. body_tasks p st b)))
+        let y = both_of w (tasks.unless_existing dc (all_instances p r (λ st. body_tasks p st b)))
         (trees_tasks p (suc r) xs) ts e in
-        lone_both z.one z.two ts (OfOne p r) (Among p (suc r) (trees_count xs)) (Among p r (suc (trees_count xs))) z.is
-        (unless_old p r (λ st. body_tasks p st b) (λ j us g. of_body b p (step r j) us g) dc.existing z.one z.one_read)
-        (of_trees xs p (suc r) z.two z.two_read)
-        (λ a c. let l : suc r ≤ c.0 = c.1.0 in apart p r c.0 (λ k. omega (arith, l, k)) a c.1.1.1)
+        lone_both y.one y.two ts (OfOne p r) (Among p (suc r) (trees_count xs)) (Among p r (suc (trees_count xs))) y.is
+        (unless_old p r (λ st. body_tasks p st b) (λ j us g. of_body b p (step r j) us g) dc.existing y.one y.one_read)
+        (of_trees xs p (suc r) y.two y.two_read)
+        (λ a c. let l : suc r ≤ c.0 = c.1.0 in apart p r c.0 (λ i. omega (arith, l, i)) a c.1.1.1)
         (λ a. (r, (omega arith, (omega arith, a))))
-        (λ c. let k : c.0 < suc r + trees_count xs = c.1.1.0 in let l : suc r ≤ c.0 = c.1.0 in
-        (c.0, (omega (arith, l), (omega (arith, k), c.1.1.1))))
+        (λ c. let m : c.0 < suc r + trees_count xs = c.1.1.0 in let l : suc r ≤ c.0 = c.1.0 in
+        (c.0, (omega (arith, l), (omega (arith, m), c.1.1.1))))
 
     of_body : (b : BodyTree) (p : Position) (st : Step) (ts : List Task) → value_in w (body_tasks p st b) ≡ Some ts
-        → Lone ts (Ends (s ∷ q) (st ∷ p))
+        → Lone ts (Ends z (st ∷ p))
     of_body (body_members ms) p st ts e =
-        subst (λ (l : List Task). Lone l (Ends (s ∷ q) (st ∷ p))) (read_one p st ts e) (lone_put p st)
-    of_body (deployment sc ps t) p st ts e =
-        lone_more ts (OfScope (st ∷ p)) (Ends (s ∷ q) (st ∷ p)) (of_template t (st ∷ p) ts e)
-        (λ a. ends_further (s ∷ q) a.0 st p a.1)
+        subst (λ (l : List Task). Lone l (Ends z (st ∷ p))) (read_one p st ts e) (lone_put p st)
+    of_body (deployment sc ps t) p st ts e = of_template t (st ∷ p) ts e
 
   -- ---- numbers
 
-  has_at : (ts : List Task) (u : ℕ) → slice_get ts u ≡ Some (put q s) → Mine ts
-  has_at [] u e = let f : None ≡ Some (put q s) = e in absurd (cc)
-  has_at (t ∷ ts) zero e = inl (some_of t (put q s) e)
+  has_at : (ts : List Task) (u : ℕ) → slice_get ts u ≡ Some k → Mine ts
+  has_at [] u e = let f : None ≡ Some k = e in absurd (cc)
+  has_at (t ∷ ts) zero e = inl (some_of t k e)
   has_at (t ∷ ts) (suc u) e = inr (has_at ts u e)
 
-  pub one_number : (ts : List Task) → Once ts → (u v : ℕ) → slice_get ts u ≡ Some (put q s)
-      → slice_get ts v ≡ Some (put q s) → u ≡ v
-  one_number [] o u v e f = let g : None ≡ Some (put q s) = e in absurd (cc)
+  pub one_number : (ts : List Task) → Once ts → (u v : ℕ) → slice_get ts u ≡ Some k
+      → slice_get ts v ≡ Some k → u ≡ v
+  one_number [] o u v e f = let g : None ≡ Some k = e in absurd (cc)
   one_number (t ∷ ts) o zero zero e f = refl
-  one_number (t ∷ ts) o zero (suc v) e f = absurd (o.0 (some_of t (put q s) e) (has_at ts v f))
-  one_number (t ∷ ts) o (suc u) zero e f = absurd (o.0 (some_of t (put q s) f) (has_at ts u e))
+  one_number (t ∷ ts) o zero (suc v) e f = absurd (o.0 (some_of t k e) (has_at ts v f))
+  one_number (t ∷ ts) o (suc u) zero e f = absurd (o.0 (some_of t k f) (has_at ts u e))
   one_number (t ∷ ts) o (suc u) (suc v) e f = ap suc (one_number ts o.1 u v e f)
 
-  -- deletes are no puts
-  only_deletes : (ds : List Task) → ((t : Task) → Has t ds → t ≡ put q s → ⊥) → Once ds × (Mine ds → ⊥)
+  -- it is none of the deletes
+  only_deletes : (ds : List Task) → ((t : Task) → Has t ds → t ≡ k → ⊥) → Once ds × (Mine ds → ⊥)
   only_deletes [] n = (tt, λ h. absurd h)
   only_deletes (t ∷ ds) n =
       let r = only_deletes ds (λ u h. n u (inr h)) in
       (((λ e h. n t (inl refl) e), r.0), λ h. elim h [ inl e ↦ n t (inl refl) e | inr i ↦ r.1 i ])
 
   pub listed_once : (t : TemplateTree) (ts ds all : List Task) → value_in w (template_tasks [] t) ≡ Some ts
-      → ((u : Task) → Has u ds → u ≡ put q s → ⊥) → all ≡ ts ++ ds → (u v : ℕ) → slice_get all u ≡ Some (put q s)
-      → slice_get all v ≡ Some (put q s) → u ≡ v
+      → ((u : Task) → Has u ds → u ≡ k → ⊥) → all ≡ ts ++ ds → (u v : ℕ) → slice_get all u ≡ Some k
+      → slice_get all v ≡ Some k → u ≡ v
   listed_once t ts ds all e n is u v a b =
       let l = of_template t [] ts e in
       let r = only_deletes ds n in

@@ -1,15 +1,13 @@
 -- No bytes state two lists of resources.
-use Rattle.std.proofs.Common.{◌≡◌, ◌≤◌, ◌<◌, ℕ, ℤ, pos, negsuc, Bool, true, false, true≢false, List, [], Option, Some}
-use Rattle.std.proofs.Common.{None, refl, sym, ap, ap₂, ◌∙◌, subst, arith}
+use Rattle.std.proofs.Common.{◌≡◌, ◌≤◌, ◌<◌, ℕ, List, [], Option, Some}
+use Rattle.std.proofs.Common.{None, refl, sym, ap, ◌∙◌, subst, arith}
 use Rattle.std.specs.Prelude.{IsSomeAnd, IfOk, IfErr, Result, Ok, Err}
 use Rattle.std.specs.declared.vec.Vec.{Vec}
 use Rattle.std.specs.declared.alloc.Global.{Global}
-use Rattle.std.proofs.lemmas.Str.{encodes_same}
 use Rattle.serde_json.specs.Data as d
 use Rattle.serde_json.specs.Data.{Data, depth}
-use Rattle.serde_json.specs.Find.{of_integer}
-use Rattle.arm_value.specs.Json.{Json, null, bool, int, text, array, object, Row, no_items, item, Pairs, no_pairs, pair}
-use Rattle.arm_value.specs.Reading.{data_of, row_data, pairs_data, reading, not_whole}
+use Rattle.arm_value.specs.Json.{Json, null}
+use Rattle.arm_value.specs.Reading.{data_of, reading, not_whole}
 use Rattle.arm_value.specs.Fault.{Gives, Explains}
 use Rattle.arm_value.specs.declared.read.JsonFault.{JsonFault}
 use Rattle.arm_value.specs.declared.read.JsonFault.TheVariants.{NotJson, NotWhole, TooDeep, OutOfMemory}
@@ -17,101 +15,7 @@ use Rattle.literal_template.specs.Template.{template_of, StatedBy, StateOneList}
 use Rattle.literal_template.specs.declared.resource.Resource.{Resource}
 use Rattle.literal_template.specs.declared.reader.TemplateFault.{TemplateFault}
 use Rattle.literal_template.specs.declared.reader.TemplateFault.TheVariants as fault
-use Rattle.arm_value.proofs.TreeLemmas.{integer_in, integer_back}
-
--- ---- a tree is determined by its data
-
-abbrev bool_in : Data → Bool
-bool_in (d.boolean b) = b
-bool_in _ = false
-
-abbrev number_in : Data → ℤ
-number_in (d.number n) = integer_in n
-number_in _ = pos 0
-
-abbrev text_in : Data → List ℕ
-text_in (d.string s) = s
-text_in _ = []
-
-abbrev items_in : Data → d.Items
-items_in (d.array ds) = ds
-items_in _ = d.no_items
-
-abbrev members_in : Data → d.Members
-members_in (d.object ms) = ms
-members_in _ = d.no_members
-
-abbrev same_kind : Data → Data → Bool
-same_kind d.null d.null = true
-same_kind (d.boolean a) (d.boolean b) = true
-same_kind (d.number a) (d.number b) = true
-same_kind (d.string a) (d.string b) = true
-same_kind (d.array a) (d.array b) = true
-same_kind (d.object a) (d.object b) = true
-same_kind _ _ = false
-
-kind_itself : (x : Data) → same_kind x x ≡ true
-kind_itself d.null = refl
-kind_itself (d.boolean b) = refl
-kind_itself (d.number n) = refl
-kind_itself (d.string s) = refl
-kind_itself (d.array ds) = refl
-kind_itself (d.object ms) = refl
-
-abbrev item_in : Data → d.Items → Data
-item_in x d.no_items = x
-item_in x (d.item y ds) = y
-
-abbrev later_items : d.Items → d.Items
-later_items d.no_items = d.no_items
-later_items (d.item y ds) = ds
-
-abbrev has_item : d.Items → Bool
-has_item d.no_items = false
-has_item (d.item y ds) = true
-
-abbrev key_in : d.Members → List ℕ
-key_in d.no_members = []
-key_in (d.member k x ms) = k
-
-abbrev value_in : Data → d.Members → Data
-value_in y d.no_members = y
-value_in y (d.member k x ms) = x
-
-abbrev later_members : d.Members → d.Members
-later_members d.no_members = d.no_members
-later_members (d.member k x ms) = ms
-
-abbrev has_member : d.Members → Bool
-has_member d.no_members = false
-has_member (d.member k x ms) = true
-
-mutual
-  pub same_by_data : (v w : Json) → data_of v ≡ data_of w → v ≡ w
-  same_by_data null null e = refl
-  same_by_data (bool a) (bool b) e = ap bool (ap bool_in e)
-  same_by_data (int a) (int b) e = ap int (sym (integer_back a) ∙ ap number_in e ∙ integer_back b)
-  same_by_data (text a) (text b) e = ap text (encodes_same a b (ap text_in e))
-  same_by_data (array a) (array b) e = ap array (row_by_data a b (ap items_in e))
-  same_by_data (object a) (object b) e = ap object (pairs_by_data a b (ap members_in e))
-  same_by_data v w e = absurd (true≢false (sym (kind_itself (data_of v)) ∙ ap (same_kind (data_of v)) e))
-
-  row_by_data : (js ks : Row) → row_data js ≡ row_data ks → js ≡ ks
-  row_by_data no_items no_items e = refl
-  row_by_data no_items (item k ks) e = absurd (true≢false (sym (ap has_item e)))
-  row_by_data (item j js) no_items e = absurd (true≢false (ap has_item e))
-  row_by_data (item j js) (item k ks) e =
-      ap₂ item (same_by_data j k (ap (item_in d.null) e)) (row_by_data js ks (ap later_items e))
-
-  pairs_by_data : (ms ns : Pairs) → pairs_data ms ≡ pairs_data ns → ms ≡ ns
-  pairs_by_data no_pairs no_pairs e = refl
-  pairs_by_data no_pairs (pair l k ns) e = absurd (true≢false (sym (ap has_member e)))
-  pairs_by_data (pair k j ms) no_pairs e = absurd (true≢false (ap has_member e))
-  pairs_by_data (pair k j ms) (pair l i ns) e =
-      let key = encodes_same k l (ap key_in e) in
-      let value = same_by_data j i (ap (value_in d.null) e) in
-      let rest = pairs_by_data ms ns (ap later_members e) in
-      λ i. pair (key i) (value i) (rest i)
+use Rattle.arm_value.proofs.EqualData.{same_data}
 
 -- ---- bytes
 
@@ -120,7 +24,7 @@ some_in x None = x
 some_in x (Some y) = y
 
 pub one_value : (o : Option Data) (v w : Json) → Gives o v → Gives o w → v ≡ w
-one_value o v w g h = same_by_data v w (ap (some_in d.null) (sym g.0 ∙ h.0))
+one_value o v w g h = same_data v w (ap (some_in d.null) (sym g.0 ∙ h.0))
 
 abbrev list_in : Option (List Resource) → List Resource
 list_in None = []

@@ -10,10 +10,10 @@ mod extents;
 pub mod laws;
 mod limits;
 mod measure;
-mod spans;
+pub mod spans;
 mod trees;
 
 pub use extents::Extents;
 pub use limits::Beyond;
-pub use measure::Measure;
+pub use measure::{Measure, of_expression};
 pub use trees::{measured_tree, measured_written};

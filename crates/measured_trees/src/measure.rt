@@ -58,7 +58,7 @@ impl Measure {
     }
 
     /// Of these values, where no other is left.
-    pub(crate) fn ended(self) -> Measure
+    pub fn ended(self) -> Measure
         ensures { (all : Extremes) → Begins self no_extremes all → IsOf all result }
     {
         self
@@ -101,7 +101,7 @@ pub(crate) fn of_literal() -> Measure
 }
 
 /// Of an expression.
-pub(crate) fn of_expression(extent: Extent) -> Measure
+pub fn of_expression(extent: Extent) -> Measure
     ensures { (e : Tree) → IsExtent e extent → IsOf (tree_extremes (t.expression e)) result }
 {
     let longest = extent.length.saturating_add(2);

@@ -15,7 +15,7 @@ use measured_expressions::Span;
 use std::alloc::Global;
 
 /// How often a loop over a value runs.
-pub(crate) fn count_of(over: Extent) -> Extent
+pub fn count_of(over: Extent) -> Extent
     ensures { (xs : Tree) → IsOf xs over → IsOf (count_tree xs) result }
 {
     call_one(6, over)
@@ -31,8 +31,8 @@ fn copy_index(name: Option<&Text>) -> Extent
     }
 }
 
-// The run of the loop of a name over a value.
-fn run_of(name: Option<&Text>, over: Extent) -> Span
+/// The run of the loop of a name over a value. The loop of a resource, a module or an output has no name.
+pub fn run_of(name: Option<&Text>, over: Extent) -> Span
     ensures { (xs : Tree) → IsOf xs over
         → IsSpan (frame_at xs (index_tree (option_map (λ t. t.now) name.entry))) result }
 {

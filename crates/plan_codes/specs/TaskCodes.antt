@@ -37,7 +37,7 @@ pub record IsDepending (d : Deployment) (q : Table) (i : Instance) (vs : List Js
   pub are_read : AreRead d q i.0 i.1 listed.declaration.depends_on vs
 
 abbrev pub AreDepending : Deployment → Table → Option Instance → List Json → Type 0
-AreDepending d q None vs = Unit {0}
+AreDepending d q None vs = vs ≡ []
 AreDepending d q (Some i) vs = IsDepending d q i vs
 
 abbrev pub MayBeNamed : Deployment → Table → Option Instance → Type 0

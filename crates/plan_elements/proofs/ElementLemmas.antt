@@ -144,9 +144,9 @@ entered t g x vs o a =
     subst (λ p. AreDepending (whole_of t) (start_of t) (started (enter p)) vs) (sym o.is_scope.position) a
 
 pub entered_root : (t : Table) (g : ℕ) (vs : List Json) → (scope_at t g).position ≡ []
-    → AreDepending (whole_of t) (start_of t) (started (enter (scope_at t g).position)) vs
-entered_root t g vs e =
-    subst (λ p. AreDepending (whole_of t) (start_of t) (started (enter p)) vs) (sym e) tt
+    → vs ≡ [] → AreDepending (whole_of t) (start_of t) (started (enter (scope_at t g).position)) vs
+entered_root t g vs e n =
+    subst (λ p. AreDepending (whole_of t) (start_of t) (started (enter p)) vs) (sym e) n
 
 -- ---- one task after another
 

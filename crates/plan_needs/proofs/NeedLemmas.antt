@@ -198,7 +198,7 @@ module _ (t : Table) (start : IsStartTable t) where
       subst (IsAsking (asks_of_deletes t (k ∷ ks)) 0) same (record {
         values = [];
         is_there = refl;
-        depends = tt;
+        depends = refl;
         within = tt;
       })
   delete_asks (k ∷ ks) (suc i) u e =

@@ -204,9 +204,9 @@ fn is_whole(alloc: Global, plan: &Plan, numbers: &Numbers) -> Result<bool, OutOf
     Ok(are_true(few, entered, left, of_table))
 }
 
-/// The numbers of the tasks of a plan. None exactly where two tasks put at one key or the key of a put is missing, where
-/// a scope of the table is not entered or not left, where a task is not of the table, or where there are more than
-/// 4,294,967,295 tasks.
+/// The numbers of the tasks of a plan. None exactly where two tasks put at one key or the key of a put is missing,
+/// where a scope of the table is not entered or not left, where a task is not of the table, or where there are more
+/// than 4,294,967,295 tasks.
 pub fn number_tasks(alloc: Global, plan: &Plan) -> Result<Option<Numbers>, OutOfMemory>
     ensures { IfOk result (λ o. MatchOption o
         (AreOfScopes plan.now.start.register.table plan.now.tasks.items plan.now.keys.items → ⊥)

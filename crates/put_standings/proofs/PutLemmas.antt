@@ -7,7 +7,8 @@ use Rattle.arm_value.specs.View.{json}
 use Rattle.arm_value.specs.declared.value.Value.{Value}
 use Rattle.arm_ids.specs.Held.{HeldResource}
 use Rattle.reading.specs.Reading.{pure}
-use Rattle.reading.specs.Knowledge.{Told, value, no_value, waits, and_then, told}
+use Rattle.reading.specs.Knowledge.{Told, value, no_value, waits, and_then, told, Grows, IsToldStill}
+use Rattle.reading.proofs.Growth.{told_still}
 use Rattle.template_tree.specs.Tree.{BodyTree, body_members, deployment}
 use Rattle.deploy_cells.specs.Cells.{Cell, Position, step}
 use Rattle.deploy_cells.specs.Guarded.{Reads, there, there_if}
@@ -44,13 +45,13 @@ use Rattle.awaited_cells.proofs.ValueLemmas.{bodies_await}
 use Rattle.body_shapes.proofs.ShapeLemmas.{fits}
 use Rattle.task_standings.specs.Standings.{StandsAs, IsStanding}
 use Rattle.task_standings.specs.declared.standing.Standing.{Standing}
-use Rattle.task_standings.specs.declared.standing.Standing.TheVariants.{Ready}
+use Rattle.task_standings.specs.declared.standing.Standing.TheVariants.{Ready, Stuck}
 use Rattle.task_waits.specs.Waits.{table_of, IsNext, IsAtPoint, IsEntered}
 use Rattle.task_waits.specs.Answers.{IsLacking, IsAnswer}
 use Rattle.task_waits.proofs.NumberedLemmas.{planned_task, position_itself, entered_before, start_entered}
 use Rattle.task_waits.proofs.WaitLemmas.{in_sight}
 use Rattle.task_waits.proofs.AnswerLemmas.{start_of_plan}
-use Rattle.put_standings.specs.Puts.{IsLookAt}
+use Rattle.put_standings.specs.Puts.{IsLookAt, IsBodyless}
 
 pub complete : (g : Plan) (held : List HeldResource) → IsPlanned g held → IsComplete g.start.register
 complete g held p = record {
@@ -187,3 +188,21 @@ pub some_look : (g : Plan) (held : List HeldResource) (h : List Event) (l m : La
     (s : Standing) → o ≡ Some s → IsLookAt g held h l m u o
     → IsStanding (planned_by g held) (progress h) (known_now (table_of g) m) u s
 some_look g held h l m u o s e a = subst (IsLookAt g held h l m u) e a
+
+-- a body that has no value has none as more is known
+module _ (g : Plan) (l m : Later) (f : ℕ) (i : Instance) (grows : Grows (known_now (table_of g) l)
+    (known_now (table_of g) m)) where
+  abbrev the_body : Reads (Option Json)
+  the_body = there_if (bodies (whole_of (table_of g)) (scope_at (table_of g) f).position (step_of i))
+
+  bodyless_on : IsBodyless g l f i → IsBodyless g m f i
+  bodyless_on e =
+      subst (IsToldStill (known_now (table_of g) m) the_body) e
+      (told_still Cell Json (Option Json) (known_now (table_of g) l) (known_now (table_of g) m) grows the_body)
+
+  pub bodyless_by : (r : Result (Option Standing) AllocError) (e : Lack)
+      → Lacks (table_of g) e (told_now (table_of g) l the_body) → IfOk r (λ o. o ≡ Some Stuck → e ≡ lack.NoValue)
+      → IfOk r (λ o. o ≡ Some Stuck → IsBodyless g m f i)
+  bodyless_by (Ok o) e lacks a = λ h.
+      bodyless_on (subst (λ z. Lacks {A = Json} (table_of g) z (told_now (table_of g) l the_body)) (a h) lacks)
+  bodyless_by (Err b) e lacks a = tt

@@ -1,14 +1,15 @@
 // How a put stands.
-ghost use Rattle.std.specs.Prelude.{ℕ, IfOk};
+ghost use Rattle.std.specs.Prelude.{◌≡◌, ℕ, Some, IfOk};
 ghost use Rattle.plan_assembly.specs.declared.plan.Task.TheVariants.{Put};
 ghost use Rattle.plan_numbers.specs.Numbers.{IsOfTable};
 ghost use Rattle.deploy_histories.specs.Events.{progress};
 ghost use Rattle.history_plans.specs.Planned.{planned_by};
 ghost use Rattle.point_rows.specs.Rows.{known_now};
+ghost use Rattle.task_standings.specs.declared.standing.Standing.TheVariants as standing_of;
 ghost use Rattle.task_standings.specs.Standings.{IsStanding};
 ghost use Rattle.task_waits.specs.Waits.{table_of, IsNext, IsAtPoint, HasStates};
 ghost use Rattle.task_waits.specs.Answers.{IsOneMore};
-ghost use Rattle.put_standings.specs.Puts.{IsLookAt};
+ghost use Rattle.put_standings.specs.Puts.{IsLookAt, IsBodyless};
 
 use arm_ids::Held;
 use arm_value::OutOfMemory;
@@ -40,6 +41,7 @@ fn look_at(
     ensures more { IfOk result (IsOneMore later.old later.new) }
     ensures look { (u : ℕ) → IsNext plan.now held.now history.now.events u (Put frame instance.resource instance.copy)
         → IfOk result (IsLookAt plan.now held.now history.now.events later.old later.new u) }
+    ensures stuck { IfOk result (λ o. o ≡ Some standing_of.Stuck → IsBodyless plan.now later.new frame instance) }
 {
     seen_tasks_are_ready();
     match told_of_body(alloc, &plan.start.register, later, frame, instance) {
@@ -49,7 +51,7 @@ fn look_at(
 }
 
 /// How the put of an instance stands at the point after a history, where it waits and what it needs at the start is
-/// done. Only states become known, also after `OutOfMemory`.
+/// done. It is stuck only where the body has no value. Only states become known, also after `OutOfMemory`.
 pub fn put_standing(
     alloc: Global,
     plan: &Plan,
@@ -66,6 +68,7 @@ pub fn put_standing(
     ensures stands { (u : ℕ) → IsNext plan.now held.now history.now.events u (Put frame instance.resource instance.copy)
         → IfOk result (IsStanding (planned_by plan.now held.now) (progress history.now.events)
         (known_now (table_of plan.now) later.new) u) }
+    ensures stuck { IfOk result (λ s. s ≡ standing_of.Stuck → IsBodyless plan.now later.new frame instance) }
 {
     'looks: loop {
         match look_at(alloc, plan, numbers, held, history, later, frame, instance) {

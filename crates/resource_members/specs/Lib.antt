@@ -1,3 +1,4 @@
 pub mod Settings
 pub mod Copies
 pub mod Members
+pub mod Singles

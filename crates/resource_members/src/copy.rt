@@ -1,6 +1,6 @@
 // Why the loop of a resource is refused.
 
-ghost use Rattle.std.specs.Prelude.{◌≡◌, IfOk};
+ghost use Rattle.std.specs.Prelude.{◌≡◌, IfOk, refl};
 ghost use Rattle.arm_value.specs.Json.{text};
 ghost use Rattle.arm_value.specs.View.{json};
 ghost use Rattle.resource_members.specs.Copies.{loop_name_fault, is_mode, mode_fault, size_fault, batch_fault};
@@ -106,6 +106,8 @@ impl<'a> MemberRule for CopyRule<'a> {
     ghost use Rattle.template_members.specs.Objects.{every};
 
     ghost single = { λ rule. every };
+
+    ghost folds = { λ rule j k e. refl };
 
     ghost fault = { λ rule here k j. copy_member here rule.names.now k j };
 

@@ -184,8 +184,11 @@ fn other_fault(
 impl<'a> MemberRule for ResourceRule<'a> {
     ghost use Rattle.resource_members.specs.Members.{member_fault};
     ghost use Rattle.resource_members.specs.Settings.{is_single};
+    ghost use Rattle.resource_members.specs.Singles.{single_folds};
 
     ghost single = { λ rule. is_single rule.setting };
+
+    ghost folds = { λ rule. single_folds rule.setting };
 
     ghost fault = { λ rule here k j. member_fault here rule.setting rule.names.now k j };
 

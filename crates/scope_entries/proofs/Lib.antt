@@ -1,7 +1,7 @@
 pub mod AnswerNowLemmas
 pub mod ThereNowLemmas
 pub mod GoesLemmas
-mod OwnLemmas
+pub mod OwnLemmas
 mod LineLemmas
 mod TurnLemmas
 mod RoundLemmas

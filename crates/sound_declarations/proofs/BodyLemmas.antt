@@ -31,7 +31,7 @@ use Rattle.bicep_misplaced.specs.Resources.{bad_in_all_fields, bad_in_field}
 use Rattle.bicep_placed.specs.Loops.{loop_in, loop_in_value}
 use Rattle.bicep_declared.specs.Declarations.{BodyTree}
 use Rattle.bicep_declared.specs.Declare.{body_of, plain_body, body_if, body_each, body_each_if}
-use Rattle.bicep_meaning.specs.Files.{field_named}
+use Rattle.bicep_resolved.specs.Source.{field_named}
 use Rattle.bicep_emission.specs.Emittable.{IsEmittable, IsValue, IsReach}
 use Rattle.emitted_trees.specs.EmittedTrees.{has_copy}
 use Rattle.emitted_trees.specs.Sound.{allowed, IsSound, AreSoundMembers, IsSoundValue}
@@ -62,7 +62,7 @@ pub link_named : (name : List ℕ) (ps : PropertyTrees) (v : ValueTree) → AreL
     → Link v
 link_named name s.no_property v h e = absurd (none-some v e)
 link_named name (s.property at x y ps) v h e =
-    by_name name y v ps (bytes_eq name x) h.0 (link_named name ps v h.1) e
+    by_name name y v ps (bytes_eq x name) h.0 (link_named name ps v h.1) e
 
 -- ---- names of fields
 

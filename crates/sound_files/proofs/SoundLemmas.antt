@@ -6,7 +6,6 @@ use Rattle.std.specs.Prelude.{◌&&◌, not, bytes_eq, slice_get, option_map, op
 use Rattle.std.specs.List.{AllByRecursion}
 use Rattle.std.proofs.lemmas.Option.{none-some, same_Some}
 use Rattle.foundation.specs.Options.{or_else}
-use Rattle.foundation.proofs.Words.{swapped}
 use Rattle.bicep_tree.specs.declared.leaf.Quoted.{Quoted}
 use Rattle.bicep_resolved.specs.declared.leaf.Target.TheVariants as t
 use Rattle.bicep_resolved.specs.Place.{value_offset}
@@ -27,7 +26,8 @@ use Rattle.bicep_program.proofs.LoadLemmas.{at_place}
 use Rattle.bicep_checks.specs.Faults.{symbol_kind}
 use Rattle.bicep_meaning.specs.Declared.{body_of, body_at}
 use Rattle.bicep_meaning.specs.Files as files
-use Rattle.bicep_meaning.specs.Files.{SourceFile, declaration, field_named, inside, below}
+use Rattle.bicep_meaning.specs.Files.{SourceFile, declaration, inside, below}
+use Rattle.bicep_resolved.specs.Source.{field_named}
 use Rattle.bicep_meaning.specs.Files.{below_value, fields_parent, inside_or, around_kind, parent, type_of}
 use Rattle.bicep_emission.specs.Emittable.{IsValue}
 use Rattle.emitted_declarations.specs.ChildTypes.{IsChildType}
@@ -57,8 +57,7 @@ found_field word bad all step s.no_property v e g = absurd (none-some v g)
 found_field word bad all step (s.property at x y ps) v e g =
     let one = if bytes_eq x word then bad y else None in
     let both = sym (step at x y ps) ∙ e in
-    field_by word bad (bytes_eq word x) y v ps
-    (ap (λ b. if b then bad y else None) (swapped word x) ∙ first_none one (all ps) both)
+    field_by word bad (bytes_eq x word) y v ps (first_none one (all ps) both)
     (found_field word bad all step ps v (second_none one (all ps) both)) g
 
 plain_name : (ps : PropertyTrees) (v : ValueTree) → bad_names ps ≡ None → field_named (codes "name") ps ≡ Some v

@@ -12,7 +12,8 @@ use Rattle.bicep_resolved.specs.Source as s
 use Rattle.bicep_declared.specs.Declarations.{DeclaredTree, OutputTree}
 use Rattle.bicep_declared.specs.Declarations as d
 use Rattle.bicep_program.proofs.LoadLemmas.{at_place}
-use Rattle.bicep_meaning.specs.Files.{SourceFile, declaration, field_named}
+use Rattle.bicep_meaning.specs.Files.{SourceFile, declaration}
+use Rattle.bicep_resolved.specs.Source.{field_named}
 use Rattle.bicep_meaning.specs.Instances.{Put, put_by, resource_kind, module_kind, is_own}
 use Rattle.bicep_meaning.specs.Instances.{body_fields, variable_by, symbol_folded, argument_named, argument_in}
 use Rattle.bicep_meaning.specs.Instances.{argument_of, default_of}
@@ -34,7 +35,7 @@ value_named : (name : List ℕ) (ps : PropertyTrees) (v : ValueTree) → AreSoun
     → field_named name ps ≡ Some v → IsSoundValue allowed v
 value_named name s.no_property v h e = absurd (none-some v e)
 value_named name (s.property at x y ps) v h e =
-    value_by name y v ps (bytes_eq name x) h.0 (value_named name ps v h.1) e
+    value_by name y v ps (bytes_eq x name) h.0 (value_named name ps v h.1) e
 
 -- ---- arguments
 

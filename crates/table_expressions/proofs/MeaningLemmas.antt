@@ -23,7 +23,8 @@ use Rattle.declared_table.specs.Seen.{whole_sight}
 use Rattle.agreeing_files.proofs.AgreeLemmas.{become, expressions, sound}
 use Rattle.table_expressions.specs.Meaning.{MeansTheSame}
 
-module _ (file : SourceFile) (files : List SourceFile) (is_sound : IsSound file) (e : SourceTree) (fs : List Frame) where
+module _ (file : SourceFile) (files : List SourceFile) (is_sound : IsSound file) (e : SourceTree)
+    (fs : List Frame) where
   means_the_same : (t : Tree) → t ≡ emitted file files (whole file files).scope e fs → MeansTheSame file files e fs t
   means_the_same t is = λ x here loops agree outputs plain answers variables gs emittable stand.
       subst (λ u. Stands x (surroundings here loops) u (bare here (meaning.whole here) e gs))

@@ -19,7 +19,8 @@ abbrev last_place : Bool → ℕ → Option ℕ
 last_place b n = if b then Some n else None
 
 suc_or : (o : Option ℕ) (b : Bool) (n : ℕ)
-    → option_map (λ m. suc m) (or_place o (last_place b n)) ≡ or_place (option_map (λ m. suc m) o) (last_place b (suc n))
+    → option_map (λ m. suc m) (or_place o (last_place b n))
+    ≡ or_place (option_map (λ m. suc m) o) (last_place b (suc n))
 suc_or (Some m) b n = refl
 suc_or None true n = refl
 suc_or None false n = refl
@@ -68,7 +69,9 @@ pub new_place : (m n : Places) (os : List (Option Tag)) (tag : Vec ℕ Global) (
     → place ≡ length os → first_place tag.items os ≡ None → Updates tag_cmp m n tag (Some place)
     → ArePlaces n (os ++ Some tag.items ∷ [])
 new_place m n os tag place h p e u = λ t.
-    u.0 t ∙ ap (λ b. cond b (Some place) (get tag_cmp m t)) (is_eq-slice_cmp tag.items t.items ∙ swapped tag.items t.items)
+    u.0 t
+    ∙ ap (λ b. cond b (Some place) (get tag_cmp m t))
+    (is_eq-slice_cmp tag.items t.items ∙ swapped tag.items t.items)
     ∙ by_test t (bytes_eq t.items tag.items) refl
     ∙ sym (one_more t.items os (Some tag.items))
   where

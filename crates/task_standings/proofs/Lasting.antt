@@ -28,7 +28,8 @@ use Rattle.history_laws.specs.Past.{StaysDone}
 use Rattle.history_replays.proofs.Later.{known_later}
 use Rattle.task_standings.specs.Standings.{WaitsFor, IsNone, Needs, IsStuck}
 use Rattle.task_standings.specs.Standings.{IsScopeSeen}
-use Rattle.task_standings.proofs.Agreement.{known_or, joined, AreOne, grows_left, grows_right, one_known, more_completes}
+use Rattle.task_standings.proofs.Agreement.{known_or, joined, AreOne, grows_left, grows_right, one_known}
+use Rattle.task_standings.proofs.Agreement.{more_completes}
 use Rattle.task_standings.proofs.Agreement.{awaited_is_read}
 
 or_second : (a b : Bool) → b ≡ true → (a || b) ≡ true

@@ -9,7 +9,7 @@ use std::alloc::Global;
 ///
 /// What it knows is true at the point that it was asked at, and at each later one.
 pub trait Standings: Drop {
-    ghost use Rattle.std.specs.Prelude.{◌≡◌, ◌<◌, ℕ, List, Some, length, IfOk, slice_get, option_map};
+    ghost use Rattle.std.specs.Prelude.{◌≡◌, ◌<◌, ℕ, List, Some, None, length, IfOk, slice_get, option_map};
     ghost use Rattle.reading.specs.Knowledge.{Grows};
     ghost use Rattle.deploy_cells.specs.Cells.{Position};
     ghost use Rattle.plan_cells.specs.Known.{Table};
@@ -104,8 +104,8 @@ pub trait Standings: Drop {
         ensures grows { Grows (known self.old) (known self.new) }
         ensures left { IsScopeSeen (planned self.old) (known self.new) task };
 
-    /// Why the task cannot begin after this history, in which no Begin is open and nothing more may come. It may look
-    /// at the states that are stored in it.
+    /// Why the task cannot begin after this history, in which no answer has refused, no Begin is open and nothing more
+    /// may come. It may look at the states that are stored in it.
     fn failing(
         &mut self,
         alloc: Global,
@@ -116,6 +116,7 @@ pub trait Standings: Drop {
         requires within { task < length (planned self.old).tasks }
         requires legal { IsLegal (planned self.old) history.now.events }
         requires waits { (progress history.now.events).status task ≡ is_waiting }
+        requires unrefused { (progress history.now.events).refusal ≡ None }
         requires idle { NoneBegun (progress history.now.events) }
         requires over { NothingMay (planned self.old) (progress history.now.events) }
         requires needs { AreStartNeedsDone (planned self.old) (progress history.now.events) task }

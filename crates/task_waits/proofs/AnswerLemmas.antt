@@ -1,6 +1,6 @@
 -- What is answered of a task of which a value lacks something.
-use Rattle.std.proofs.Common.{◌≡◌, ℕ, ◌<◌, List, length, Some, refl, sym, ap, subst, ◌∙◌}
-use Rattle.std.specs.Prelude.{slice_get}
+use Rattle.std.proofs.Common.{◌≡◌, ℕ, ◌<◌, List, length, Option, Some, Result, Ok, Err, refl, sym, ap, subst, ◌∙◌}
+use Rattle.std.specs.Prelude.{slice_get, IfOk}
 use Rattle.arm_ids.specs.Held.{HeldResource}
 use Rattle.reading.specs.Knowledge.{waits}
 use Rattle.plan_cells.specs.Tasks.{Task}
@@ -18,6 +18,7 @@ use Rattle.history_plans.specs.Planned.{planned_by}
 use Rattle.point_rows.specs.declared.later.Later.{Later}
 use Rattle.point_rows.specs.Rows.{known_now, told_now}
 use Rattle.task_standings.specs.Standings.{StandsAs, IsNone}
+use Rattle.task_standings.specs.declared.standing.Standing.{Standing}
 use Rattle.task_standings.specs.declared.standing.Standing.TheVariants.{Waits, Stuck}
 use Rattle.task_waits.specs.Waits.{table_of, line_frame, IsStartOf, IsAtPoint}
 use Rattle.task_waits.specs.Answers.{IsLacking}
@@ -58,3 +59,9 @@ module _ (g : Plan) (held : List HeldResource) (n : Numbers) (h : List Event) (l
         (b.in_sight (cell_of (scopes_of t) (line_at t.lines.items j).spot) awaited) v
         (leave_task (planned_by g held) t g.tasks.items g.keys.items refl at.under_way.numbers.of_scopes
         (line_frame t j) v e)
+
+-- what is never stuck is so only where anything holds
+pub never_stuck : {E : Type 0} (P : Type 0) (r : Result (Option Standing) E) → IfOk r (λ o. o ≡ Some Stuck → ⊥)
+    → IfOk r (λ o. o ≡ Some Stuck → P)
+never_stuck P (Ok o) h = λ e. absurd (h e)
+never_stuck P (Err e) h = tt

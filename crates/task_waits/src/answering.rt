@@ -1,9 +1,10 @@
 // What comes of a value that lacks something.
-ghost use Rattle.std.specs.Prelude.{◌≡◌, ◌<◌, ℕ, length, IfOk};
+ghost use Rattle.std.specs.Prelude.{◌≡◌, ◌<◌, ℕ, length, Some, IfOk};
 ghost use Rattle.plan_cells.specs.Tasks as cells;
 ghost use Rattle.plan_assembly.specs.declared.plan.Plan as plans;
 ghost use Rattle.plan_sight.specs.declared.lack.Lack.TheVariants as lack_of;
 ghost use Rattle.point_rows.specs.Rows.{AreIndexed};
+ghost use Rattle.task_standings.specs.declared.standing.Standing.TheVariants as standing_of;
 ghost use Rattle.task_waits.specs.Waits.{table_of, IsAtPoint, HasStates};
 ghost use Rattle.task_waits.specs.Answers.{IsLacking, IsOneMore, IsAnswer};
 
@@ -36,6 +37,7 @@ fn answer_state(
     ensures answered { (g : plans.Plan) → IsAtPoint g held.now numbers.now history.now.events later.old
         → (u : ℕ) (task : cells.Task) → IsLacking g held.now history.now.events later.old task (lack_of.State key)
         → IfOk result (IsAnswer g held.now history.now.events later.old later.new u task) }
+    ensures waits { IfOk result (λ o. o ≡ Some standing_of.Stuck → ⊥) }
 {
     match take_state(alloc, numbers, held, history, later, key) {
         Ok(Taken::Known) => Ok(None),
@@ -45,7 +47,7 @@ fn answer_state(
 }
 
 /// How a task stands of which a value lacks something. None where that is a state which is known now, so that the value
-/// may be told again; only states become known, also after `OutOfMemory`.
+/// may be told again; it is stuck only where the value is none. Only states become known, also after `OutOfMemory`.
 pub fn answer_lack(
     alloc: Global,
     plan: &Plan,
@@ -62,6 +64,7 @@ pub fn answer_lack(
     ensures more { IfOk result (IsOneMore later.old later.new) }
     ensures answered { (u : ℕ) (task : cells.Task) → IsLacking plan.now held.now history.now.events later.old task lack
         → IfOk result (IsAnswer plan.now held.now history.now.events later.old later.new u task) }
+    ensures stuck { IfOk result (λ o. o ≡ Some standing_of.Stuck → lack ≡ lack_of.NoValue) }
 {
     match lack {
         Lack::NotThere => unreachable!(),

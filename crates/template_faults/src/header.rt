@@ -1,6 +1,6 @@
 // Why the members of a template are refused, but for its resources.
 
-ghost use Rattle.std.specs.Prelude.{◌≡◌, IfOk, chars, option_map, string_bytes};
+ghost use Rattle.std.specs.Prelude.{◌≡◌, IfOk, chars, option_map, string_bytes, refl};
 ghost use Rattle.arm_value.specs.Look.{fold};
 ghost use Rattle.arm_value.specs.Json.{array, object, pairs, row};
 ghost use Rattle.arm_value.specs.View.{json};
@@ -211,6 +211,8 @@ impl MemberRule for TemplateRule {
     ghost use Rattle.template_members.specs.Objects.{every};
 
     ghost single = { λ rule. every };
+
+    ghost folds = { λ rule j k e. refl };
 
     ghost fault = { λ rule here k j. template_member here rule.place k j };
 

@@ -1,6 +1,6 @@
 // Why the properties of a nested deployment are refused, but for its template.
 
-ghost use Rattle.std.specs.Prelude.{◌≡◌, IfOk, chars, option_map};
+ghost use Rattle.std.specs.Prelude.{◌≡◌, IfOk, chars, option_map, refl};
 ghost use Rattle.arm_value.specs.Json.{pairs};
 ghost use Rattle.arm_value.specs.View.{json};
 ghost use Rattle.template_faults.specs.Properties.{mode_fault, is_scope, scope_fault, options_fault, scope_named};
@@ -66,6 +66,8 @@ impl MemberRule for OptionsRule {
 
     ghost single = { λ rule. every };
 
+    ghost folds = { λ rule j k e. refl };
+
     ghost fault = { λ rule here k j. option_member k j };
 
     fn is_single(&self, _name: &Text) -> bool {
@@ -102,6 +104,8 @@ impl MemberRule for PropertiesRule {
     ghost use Rattle.template_members.specs.Objects.{every};
 
     ghost single = { λ rule. every };
+
+    ghost folds = { λ rule j k e. refl };
 
     ghost fault = { λ rule here k j. property_member here k j };
 

@@ -23,6 +23,10 @@ Rule = List ℕ → Json → Option TemplateFault
 abbrev pub member_by : Single → Rule → List (List ℕ) → List ℕ → Json → Option TemplateFault
 member_by single rule seen k j = if single k && is_named seen k then Some (WrongForm []) else rule k j
 
+-- these names, and one more where no two members have it
+abbrev pub with_single : Single → List (List ℕ) → List ℕ → List (List ℕ)
+with_single single seen k = if single k then seen ++ k ∷ [] else seen
+
 -- the first member that is refused, after members of these names
 abbrev pub faulty_by : Single → Rule → List (List ℕ) → Pairs → Option Faulty
 faulty_by single rule seen no_pairs = None

@@ -1,6 +1,6 @@
 // Why what a nested deployment gives for the parameters of its template is refused.
 
-ghost use Rattle.std.specs.Prelude.{◌≡◌, map, chars, IfOk};
+ghost use Rattle.std.specs.Prelude.{◌≡◌, map, chars, IfOk, refl};
 ghost use Rattle.arm_value.specs.Json.{array, pairs, row};
 ghost use Rattle.arm_value.specs.View.{json};
 ghost use Rattle.template_members.specs.Arguments.{has_item, pairs_loop, argument_members, argument_in};
@@ -64,6 +64,8 @@ impl<'a> MemberRule for ArgumentRule<'a> {
     ghost use Rattle.template_members.specs.Objects.{every};
 
     ghost single = { λ rule. every };
+
+    ghost folds = { λ rule j k e. refl };
 
     ghost fault = { λ rule here k j. argument_member here (keys rule.fields.now) k j };
 
@@ -134,6 +136,8 @@ impl MemberRule for ArgumentsRule {
     ghost use Rattle.template_members.specs.Objects.{every};
 
     ghost single = { λ rule. every };
+
+    ghost folds = { λ rule j k e. refl };
 
     ghost fault = { λ rule here k j. arguments_member here k j };
 

@@ -1,6 +1,6 @@
 // Loops that give a name of their own to variables, or the value to an argument.
 
-ghost use Rattle.std.specs.Prelude.{◌≡◌, [], Some, IfOk};
+ghost use Rattle.std.specs.Prelude.{◌≡◌, [], Some, IfOk, refl};
 ghost use Rattle.arm_value.specs.Json.{row, text};
 ghost use Rattle.arm_value.specs.View.{json};
 ghost use Rattle.template_members.specs.Loops.{may_give, new_name_fault, loop_fault, row_loops_fault, loops_fault};
@@ -91,6 +91,8 @@ impl<'a> MemberRule for LoopRule<'a> {
     ghost use Rattle.template_members.specs.Objects.{every};
 
     ghost single = { λ rule. every };
+
+    ghost folds = { λ rule j k e. refl };
 
     ghost fault = { λ rule here k j. loop_member here rule.place rule.owner rule.names.now k j };
 

@@ -3,7 +3,7 @@
 ghost use Rattle.std.specs.Prelude.{◌≡◌, [], Some, map, chars, IfOk};
 ghost use Rattle.arm_value.specs.Json.{pairs};
 ghost use Rattle.arm_value.specs.View.{json};
-ghost use Rattle.template_members.specs.Objects.{faulty_by, member_by, members_fault, object_fault};
+ghost use Rattle.template_members.specs.Objects.{faulty_by, member_by, members_fault, object_fault, with_single};
 
 use arm_value::{Field, Fields, OutOfMemory, Text, Value};
 use name_set::NameSet;
@@ -16,6 +16,7 @@ use template_values::order::{Faulty, decided, missing, wrong_form};
 pub trait MemberRule {
     ghost use Rattle.std.specs.Prelude.{◌≡◌, ℕ, Bool, List, Option, IfOk};
     ghost use Rattle.arm_value.specs.Json.{Json};
+    ghost use Rattle.arm_value.specs.Look.{fold};
     ghost use Rattle.arm_value.specs.View.{json};
     ghost use Rattle.template_parts.specs.declared.fault.TemplateFault.{TemplateFault};
     ghost use Rattle.template_texts.specs.declared.sight.Sight.{Sight};
@@ -38,6 +39,9 @@ pub trait MemberRule {
         field: &Field,
     ) -> Result<Option<TemplateFault>, OutOfMemory>
         ensures { IfOk result (λ f. f ≡ fault self.now here.now field.now.name (json field.now.value)) };
+
+    /// Of names that are equal but for the case of ASCII letters, no two members have both or neither.
+    ghost folds: { (rule : Self) (j k : List ℕ) → fold j ≡ fold k → single rule j ≡ single rule k };
 }
 
 // Why the member is refused after members of these names.
@@ -55,6 +59,22 @@ fn member_fault<R: MemberRule>(
         return Ok(Some(wrong_form(alloc)));
     }
     rule.fault(alloc, here, field)
+}
+
+// The names with one more, where no two members have it. Others are never looked up.
+fn with_single<R: MemberRule>(
+    alloc: Global,
+    rule: &R,
+    seen: NameSet,
+    name: &Text,
+) -> Result<NameSet, OutOfMemory>
+    ensures { IfOk result (λ s. s ≡ with_single (R.single rule.now) seen name.now) }
+{
+    if rule.is_single(name) {
+        seen.with(alloc, name)
+    } else {
+        Ok(seen)
+    }
 }
 
 // The member of this name with its fault; the names are dropped.
@@ -85,7 +105,7 @@ pub fn first_faulty<R: MemberRule>(
     let mut seen = NameSet::new(alloc);
     for field in fields.as_slice() {
         match member_fault(alloc, rule, here, &seen, field) {
-            Ok(None) => seen = seen.with(alloc, &field.name)?,
+            Ok(None) => seen = with_single(alloc, rule, seen, &field.name)?,
             Ok(Some(fault)) => return found(alloc, seen, &field.name, fault),
             Err(_) => return run_out(seen),
         }

@@ -1,6 +1,6 @@
 // Why the outputs of a template are refused.
 
-ghost use Rattle.std.specs.Prelude.{◌≡◌, IfOk, map, chars};
+ghost use Rattle.std.specs.Prelude.{◌≡◌, IfOk, map, chars, refl};
 ghost use Rattle.arm_value.specs.View.{json};
 ghost use Rattle.template_members.specs.Outputs.{copy_fault, has_copy, output_members, output_value, output_fault};
 ghost use Rattle.template_members.specs.Outputs.{outputs_fault};
@@ -31,6 +31,8 @@ impl MemberRule for CopyRule {
     ghost use Rattle.template_members.specs.Objects.{every};
 
     ghost single = { λ rule. every };
+
+    ghost folds = { λ rule j k e. refl };
 
     ghost fault = { λ rule here k j. copy_member here k j };
 
@@ -84,6 +86,8 @@ impl MemberRule for OutputRule {
     ghost use Rattle.template_members.specs.Objects.{every};
 
     ghost single = { λ rule. every };
+
+    ghost folds = { λ rule j k e. refl };
 
     ghost fault = { λ rule here k j. output_member here rule.looped k j };
 
@@ -157,6 +161,8 @@ impl MemberRule for OutputsRule {
     ghost use Rattle.template_members.specs.Objects.{every};
 
     ghost single = { λ rule. every };
+
+    ghost folds = { λ rule j k e. refl };
 
     ghost fault = { λ rule here k j. output_fault here j };
 

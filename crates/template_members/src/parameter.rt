@@ -1,6 +1,6 @@
 // Why the parameters of a template are refused.
 
-ghost use Rattle.std.specs.Prelude.{◌≡◌, IfOk};
+ghost use Rattle.std.specs.Prelude.{◌≡◌, IfOk, refl};
 ghost use Rattle.arm_value.specs.View.{json};
 ghost use Rattle.template_members.specs.Parameters.{is_bound, other_fault, parameters_fault};
 
@@ -57,6 +57,8 @@ impl MemberRule for ParameterRule {
 
     ghost single = { λ rule. every };
 
+    ghost folds = { λ rule j k e. refl };
+
     ghost fault = { λ rule here k j. parameter_member here rule.place k j };
 
     fn is_single(&self, _name: &Text) -> bool {
@@ -88,6 +90,8 @@ impl MemberRule for ParametersRule {
     ghost use Rattle.template_members.specs.Objects.{every};
 
     ghost single = { λ rule. every };
+
+    ghost folds = { λ rule j k e. refl };
 
     ghost fault = { λ rule here k j. parameter_fault here rule.place j };
 

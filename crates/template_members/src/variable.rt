@@ -1,6 +1,6 @@
 // Why the variables of a template are refused.
 
-ghost use Rattle.std.specs.Prelude.{◌≡◌, IfOk};
+ghost use Rattle.std.specs.Prelude.{◌≡◌, IfOk, refl};
 ghost use Rattle.arm_value.specs.Json.{keys};
 ghost use Rattle.arm_value.specs.View.{json};
 ghost use Rattle.template_members.specs.Variables.{variables_fault};
@@ -39,6 +39,8 @@ impl<'a> MemberRule for VariablesRule<'a> {
     ghost use Rattle.template_members.specs.Variables.{variable_member};
 
     ghost single = { λ rule. every };
+
+    ghost folds = { λ rule j k e. refl };
 
     ghost fault = { λ rule here k j. variable_member here rule.place (keys rule.fields.now) k j };
 

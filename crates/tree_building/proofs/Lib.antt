@@ -1,5 +1,5 @@
 mod NestLemmas
 mod GrownLemmas
 mod LeftLemmas
-mod WithinLemmas
+pub mod WithinLemmas
 mod SizeLemmas

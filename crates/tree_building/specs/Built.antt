@@ -1,7 +1,7 @@
 -- What functions return that build values of a template.
 use Rattle.std.specs.Prelude.{◌≡◌, ◌≤◌, ℕ, List, [], ◌∷◌, ◌++◌, Result, IfOk}
 use Rattle.std.specs.declared.alloc.AllocError.{AllocError}
-use Rattle.arm_value.specs.Json.{Json, Member, nesting, put, row}
+use Rattle.arm_value.specs.Json.{Json, Member, nesting, object, pairs, put, row}
 use Rattle.arm_value.specs.View.{json}
 use Rattle.arm_value.specs.declared.value.Value.{Value}
 use Rattle.arm_expr.specs.Print.{printed}
@@ -67,3 +67,7 @@ all_grown (t.member name v ms) p = all_grown ms (grown name v p)
 -- these members, or no memory
 abbrev pub AreParts : Members → Result Parts AllocError → Type 0
 AreParts p r = IfOk r (λ q. members_of q ≡ p)
+
+-- the members of the object of these, or no memory
+abbrev pub AreFields : TemplateMembers → Result (List Member) AllocError → Type 0
+AreFields ms r = IfOk r (λ f. object (pairs f) ≡ tree_json (t.object ms))

@@ -9,6 +9,6 @@ mod parts;
 pub mod texts;
 pub mod trees;
 
-pub use parts::{Looped, Written};
+pub use parts::{Looped, Parts, Written, fields_of, no_parts};
 pub use texts::Texts;
-pub use trees::{tree, written};
+pub use trees::{tree, with_member, written};

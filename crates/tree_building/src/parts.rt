@@ -9,7 +9,7 @@ ghost use Rattle.emitted_trees.specs.Templates.{TemplateTree, TemplateItems, Tem
 ghost use Rattle.emitted_trees.specs.Templates as t;
 ghost use Rattle.emitted_trees.specs.Written.{items_json, tree_json, loop_json, copy_member};
 ghost use Rattle.tree_building.specs.Built.{IsTree, AreItems, IsLoop, Matches, IsValue, Fits, NestsWithin, members_of};
-ghost use Rattle.tree_building.specs.Built.{grown, all_grown, AreParts};
+ghost use Rattle.tree_building.specs.Built.{grown, all_grown, AreParts, AreFields};
 
 use arm_env::objects::{with_copy, with_value};
 use arm_value::{Fields, Items, OutOfMemory, Text, Value};
@@ -36,7 +36,7 @@ pub enum Written {
 
 /// The members of an object, as far as they are built.
 #[derive(Drop)]
-pub(crate) struct Parts {
+pub struct Parts {
     pub(crate) own: Fields,
     pub(crate) loops: Items,
 }
@@ -82,7 +82,7 @@ pub(crate) fn array_of(items: Result<Items, OutOfMemory>) -> Result<Value, OutOf
 // ---- objects
 
 /// No members yet.
-pub(crate) fn no_parts() -> Parts
+pub fn no_parts() -> Parts
     ensures { members_of result ≡ ([], []) }
 {
     Parts {
@@ -216,6 +216,21 @@ fn with_loops(alloc: Global, own: Fields, loops: Items) -> Result<Fields, OutOfM
     with_value(alloc, own, "copy", Value::Array(loops))
 }
 
+/// The members of an object, whose loops are in its member `copy`.
+///
+/// # Errors
+///
+/// `OutOfMemory`, also where the members could not be built.
+pub fn fields_of(alloc: Global, parts: Result<Parts, OutOfMemory>) -> Result<Fields, OutOfMemory>
+    requires { IfOk parts (λ p. items_nesting (members_of p).1 ≤ 118) }
+    ensures { (ms : TemplateMembers) → AreParts (all_grown ms ([], [])) parts → AreFields ms result }
+{
+    match parts {
+        Ok(parts) => with_loops(alloc, parts.own, parts.loops),
+        Err(error) => Err(error),
+    }
+}
+
 /// The object of members.
 pub(crate) fn object_of(
     alloc: Global,
@@ -224,11 +239,8 @@ pub(crate) fn object_of(
     requires { IfOk parts (λ p. items_nesting (members_of p).1 ≤ 118) }
     ensures { (ms : TemplateMembers) → AreParts (all_grown ms ([], [])) parts → IsTree (t.object ms) result }
 {
-    match parts {
-        Ok(parts) => {
-            let whole = with_loops(alloc, parts.own, parts.loops)?;
-            Ok(Value::Object(whole))
-        }
+    match fields_of(alloc, parts) {
+        Ok(whole) => Ok(Value::Object(whole)),
         Err(error) => Err(error),
     }
 }

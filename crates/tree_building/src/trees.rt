@@ -143,10 +143,14 @@ pub fn written<K: Texts>(
     }
 }
 
-// The members so far, with what one more becomes.
+/// The members so far, with what one more becomes. Of members of one name the last stays.
+///
+/// # Errors
+///
+/// `OutOfMemory`.
 #[cycle(building)]
 #[tactic(auto, using(bicep_resolved::proofs::ViewLemmas::structs))]
-fn with_member<K: Texts>(
+pub fn with_member<K: Texts>(
     alloc: Global,
     texts: &K,
     parts: Parts,

@@ -21,8 +21,8 @@ pub struct Expressions<'a, K> {
     pub declarations: &'a K,
 }
 
-// The text of an expression that was made.
-fn printed_text(alloc: Global, made: Result<Expr, OutOfMemory>) -> Result<Text, OutOfMemory>
+/// The text of an expression that was made, in brackets.
+pub fn printed_text(alloc: Global, made: Result<Expr, OutOfMemory>) -> Result<Text, OutOfMemory>
     ensures { (t : Tree) → Is t made → IsText (printed t) result }
 {
     match made {

@@ -7,7 +7,7 @@
 pub mod building;
 mod expressions;
 mod extents;
-mod turns;
+pub mod turns;
 
 pub use building::{TreeFault, built_tree, built_value};
-pub use expressions::Expressions;
+pub use expressions::{Expressions, printed_text};

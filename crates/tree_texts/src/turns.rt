@@ -18,7 +18,7 @@ use emitted_parts::{lacks, with};
 use std::alloc::Global;
 
 /// The index of the loop of a name, or of one without a name.
-pub(crate) fn copy_index(alloc: Global, name: Option<&Text>) -> Result<Expr, OutOfMemory>
+pub fn copy_index(alloc: Global, name: Option<&Text>) -> Result<Expr, OutOfMemory>
     ensures { Is (index_tree (option_map (λ t. t.now) name.entry)) result }
 {
     match name {
@@ -65,7 +65,7 @@ fn run_at(alloc: Global, over: Result<Expr, OutOfMemory>, index: Expr) -> Result
 }
 
 /// The run of a loop over a value at an index.
-pub(crate) fn run(
+pub fn run(
     alloc: Global,
     over: Result<Expr, OutOfMemory>,
     index: Result<Expr, OutOfMemory>,

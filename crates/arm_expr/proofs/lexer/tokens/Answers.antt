@@ -1,38 +1,34 @@
-use Rattle.std.proofs.Common.{length, map}
-use Rattle.std.proofs.lemmas.Iterator.{YieldsList-from_chars}
-use Rattle.std.proofs.lemmas.Iterator.Consumers.{YieldsList-turn, YieldsList-end}
-use Rattle.std.proofs.lemmas.List.{length_push}
-use Rattle.std.specs.Str.{chars}
-use Rattle.arm_expr.specs.Pending.{pending_of}
+use Rattle.std.proofs.Common.{◌≡◌, ◌∙◌, ◌∷◌, ap, sym, subst, arith, length, map}
+use Rattle.std.specs.Str.{chars, IsUtf8}
+use Rattle.std.specs.Str.Iter.{chars_rest}
+use Rattle.std.proofs.lemmas.Str.{chars_past_char}
+use Rattle.arm_expr.specs.Lexer.{lex, between}
+use Rattle.arm_expr.specs.Runs.{onto}
 use Rattle.arm_expr.specs.Tokens.{token_of}
-use Rattle.arm_expr.proofs.LexerLemmas.{loop_step, loop_fails, loop_ends, end_fails}
+use Rattle.arm_expr.proofs.LexerLemmas.{all_found}
 use Rattle.arm_expr.proofs.lexer.tokens.Goals as goal
 
-pub loop-c-preserved : goal.loop-c-preserved
-loop-c-preserved c =
-    let t = YieldsList-turn (YieldsList-from_chars c.args.text.now c.utf8.text cc) c.loop-c.yielded _
-    c.loop-c.yielded_by _ _ c.in-Some.c c.in-Some.is c.next.ensures.steps in
-    loop_step (map token_of c.loop-c.found.items) (map token_of c.go_on.new.tokens.items)
-    (pending_of c.loop-c.pending) (pending_of c.in-Ok.next) c.in-Some.c (chars c.args.text.now)
-    (length c.loop-c.yielded) _ t (length_push c.loop-c.yielded c.in-Some.c) c.in-Ok.ensures c.loop-c.invariant
+pub read_token-requires : goal.read_token-requires
+read_token-requires c =
+    let l = c.loop-c in
+    ap chars l.invariant.1
+    ∙ chars_past_char (chars_rest l.characters) (chars_rest c.next.new.self) c.in-Some.c
+    (subst IsUtf8 l.invariant.1 l.invariant.3) c.in-Some.ensures.steps.0
+    ∙ ap (λ s. c.in-Some.c ∷ chars s) (sym c.as_str.ensures)
 
-pub returns-in-Err : goal.returns-in-Err
-returns-in-Err c =
-    let t = YieldsList-turn (YieldsList-from_chars c.args.text.now c.utf8.text cc) c.loop-c.yielded _
-    c.loop-c.yielded_by _ _ c.in-Some.c c.in-Some.is c.next.ensures.steps in
-    loop_fails c.in-Err.e (map token_of c.loop-c.found.items) (pending_of c.loop-c.pending) c.in-Some.c
-    (chars c.args.text.now) (length c.loop-c.yielded) t c.in-Err.ensures c.loop-c.invariant
+pub loop-c-smaller : goal.loop-c-smaller
+loop-c-smaller c =
+    let l = c.loop-c in
+    let first : chars l.left.now ≡ c.in-Some.c ∷ chars c.as_str.result.now =
+    ap chars l.invariant.1
+    ∙ chars_past_char (chars_rest l.characters) (chars_rest c.next.new.self) c.in-Some.c
+    (subst IsUtf8 l.invariant.1 l.invariant.3) c.in-Some.ensures.steps.0
+    ∙ ap (λ s. c.in-Some.c ∷ chars s) (sym c.as_str.ensures) in
+    omega (arith, c.in-Ok.ensures.1, ap length first)
 
-pub returns-in-Ok-end : goal.returns-in-Ok-end
-returns-in-Ok-end c =
-    let t = YieldsList-end (YieldsList-from_chars c.args.text.now c.utf8.text cc) c.loop-c.yielded _
-    c.loop-c.yielded_by _ _ c.in-None.is c.next.ensures.steps in
-    loop_ends (map token_of c.end.new.tokens.items) (map token_of c.loop-c.found.items) (pending_of c.loop-c.pending)
-    (chars c.args.text.now) (length c.loop-c.yielded) t.1 c.in-Ok-end.ensures c.loop-c.invariant
-
-pub returns-in-Err-end : goal.returns-in-Err-end
-returns-in-Err-end c =
-    let t = YieldsList-end (YieldsList-from_chars c.args.text.now c.utf8.text cc) c.loop-c.yielded _
-    c.loop-c.yielded_by _ _ c.in-None.is c.next.ensures.steps in
-    end_fails c.in-Err-end.e (map token_of c.loop-c.found.items) (pending_of c.loop-c.pending) (chars c.args.text.now)
-    (length c.loop-c.yielded) t.1 c.in-Err-end.ensures c.loop-c.invariant
+pub returns : goal.returns
+returns c =
+    let l = c.loop-c in
+    all_found (map token_of l.found.items) (chars_rest l.characters) (chars c.args.text.now)
+    c.in_default.ensures.steps.0.0
+    (ap (λ s. onto (map token_of l.found.items) (lex between (chars s))) (sym l.invariant.1) ∙ l.invariant.2)

@@ -4,7 +4,7 @@ use Rattle.bicep_resolved.specs.View.{property_of, properties}
 use Rattle.bicep_declared.specs.View.{declared_tree, body_tree}
 use Rattle.bicep_declared.specs.declared.declared.Declared.{Declared}
 use Rattle.bicep_meaning.specs.Declared.{body_of}
-use Rattle.bicep_meaning.specs.Files.{field_named}
+use Rattle.bicep_resolved.specs.Source.{field_named}
 use Rattle.declared_table.specs.Seen.{file_in}
 use Rattle.declared_entries.proofs.SoundLemmas.{name_value}
 use Rattle.declared_entries.proofs.names.declared_name.Goals as goal

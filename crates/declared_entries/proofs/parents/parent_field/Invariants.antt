@@ -1,6 +1,6 @@
 use Rattle.std.proofs.Common.{◌≡◌, map, drop, codes}
 use Rattle.bicep_resolved.specs.View.{property_of, properties}
-use Rattle.bicep_meaning.specs.Files.{field_named}
+use Rattle.bicep_resolved.specs.Source.{field_named}
 use Rattle.declared_entries.proofs.parents.parent_field.Given as goal
 
 -- none of the fields before has that name

@@ -13,7 +13,8 @@ returns-in-Some c = λ i h.
     let own = (whole_in s).scope.items n in
     subst (λ b. IfOk c.element_frame.result (IsKeptFrame (element (if b then own else no_value) i)))
     c.in-Some.ensures.known
-    (c.element_frame.ensures own i (has_holes (file_in s) (files_in s) c.requires.sound (length (file_in s).symbols) n).items
+    (c.element_frame.ensures own i
+    (has_holes (file_in s) (files_in s) c.requires.sound (length (file_in s).symbols) n).items
     c.in-Some.ensures.entry.items h)
 
 pub returns-in-None : goal.returns-in-None

@@ -12,4 +12,5 @@ returns-in-Variable c =
     let s = c.args.table.now in
     subst (λ o. IfOk c.own_variable.result
     (IsKept (variable_of (file_in s) (files_in s) (emission_in s) c.args.number o)))
-    (sym (ap (λ (x : Declared). Some (declared_tree x)) c.in-Variable.is)) (c.own_variable.ensures c.in-Variable.field-0)
+    (sym (ap (λ (x : Declared). Some (declared_tree x)) c.in-Variable.is))
+    (c.own_variable.ensures c.in-Variable.field-0)

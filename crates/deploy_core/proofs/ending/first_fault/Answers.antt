@@ -1,7 +1,7 @@
 use Rattle.std.proofs.Common.{◌∙◌}
 use Rattle.deploy_histories.specs.Events.{progress}
 use Rattle.deploy_core.proofs.EndLemmas.{turn_none}
-use Rattle.deploy_core.proofs.LookLemmas.{kept_then, kept_as}
+use Rattle.board_dealing.proofs.LookLemmas.{kept_then, kept_as}
 use Rattle.deploy_core.proofs.ending.first_fault.Goals as goal
 
 pub turn-requires-clause-kept : goal.turn-requires-clause-kept

@@ -1,7 +1,7 @@
 use Rattle.std.proofs.Common.{◌≡◌}
 use Rattle.deploy_histories.specs.Events.{progress}
 use Rattle.deploy_core.specs.Endings.{HasTurns}
-use Rattle.deploy_core.specs.Looks.{StaysKept}
+use Rattle.board_dealing.specs.Looks.{StaysKept}
 use Rattle.deploy_core.proofs.ending.first_fault.Given as goal
 
 abbrev pub invariant-loop-task : goal.invariant-loop-task

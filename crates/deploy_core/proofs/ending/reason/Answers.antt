@@ -1,7 +1,7 @@
 use Rattle.deploy_histories.specs.Events.{progress}
-use Rattle.deploy_core.proofs.Agendas.{kept_knowing}
+use Rattle.board_dealing.proofs.Agendas.{kept_knowing}
 use Rattle.deploy_core.proofs.EndLemmas.{undone_waits, nothing_comes, need_by_all, found_need}
-use Rattle.deploy_core.proofs.LookLemmas.{needs_done}
+use Rattle.board_dealing.proofs.LookLemmas.{needs_done}
 use Rattle.deploy_core.proofs.ending.reason.Goals as goal
 
 pub failing-requires-clause-waits : goal.failing-requires-clause-waits

@@ -1,5 +1,5 @@
 use Rattle.std.proofs.Common.{ap, sym, ◌∙◌, ◌++◌, ◌∷◌, [], List, Bool, map, take}
-use Rattle.deploy_core.specs.Kept.{enters_or_leaves}
+use Rattle.board_dealing.specs.Kept.{enters_or_leaves}
 use Rattle.deploy_core.proofs.OpenLemmas.{kinds_more}
 use Rattle.deploy_core.proofs.opening.kinds.Goals as goal
 

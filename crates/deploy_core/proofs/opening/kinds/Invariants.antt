@@ -1,5 +1,5 @@
 use Rattle.std.proofs.Common.{◌≡◌, map, take}
-use Rattle.deploy_core.specs.Kept.{enters_or_leaves}
+use Rattle.board_dealing.specs.Kept.{enters_or_leaves}
 use Rattle.deploy_core.proofs.opening.kinds.Given as goal
 
 abbrev pub invariant-loop-task : goal.invariant-loop-task

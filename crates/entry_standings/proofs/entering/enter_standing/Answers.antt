@@ -44,8 +44,8 @@ looks-preserved c =
 pub looks-smaller : goal.looks-smaller
 looks-smaller c =
     fewer_looks c.args.plan.now c.args.held.now c.args.numbers.now c.args.history.now.events c.looks.later
-    c.settle.new.later c.answer_settling.new.later c.in-Ok-None.field-0 c.settle.ensures.goes.states c.in-Ok-None.field-0-is
-    c.in-Ok-None.ensures.more
+    c.settle.new.later c.answer_settling.new.later c.in-Ok-None.field-0 c.settle.ensures.goes.states
+    c.in-Ok-None.field-0-is c.in-Ok-None.ensures.more
 
 pub returns-in-Err-clause-more : goal.returns-in-Err-clause-more
 returns-in-Err-clause-more c =

@@ -1,6 +1,7 @@
 use Rattle.std.proofs.Common.{refl}
 use Rattle.task_waits.proofs.StateLemmas.{nothing_more}
 use Rattle.put_standings.proofs.PutLemmas.{complete, not_lacking, is_task, body_lacks, body_stands, look_by}
+use Rattle.put_standings.proofs.PutLemmas.{bodyless_by}
 use Rattle.task_waits.specs.Waits.{table_of}
 use Rattle.put_standings.proofs.putting.look_at.Goals as goal
 
@@ -39,3 +40,11 @@ returns-in-Err-clause-look c = λ u next.
     (c.answer_lack.ensures.answered u _
     (body_lacks g c.args.held.now c.args.numbers.now c.args.history.now.events c.args.later.now c.requires.point
     c.args.frame c.args.instance c.requires.put u next c.in-Err.lack c.in-Err.ensures))
+
+pub returns-in-Ok-clause-stuck : goal.returns-in-Ok-clause-stuck
+returns-in-Ok-clause-stuck c = λ e. absurd (cc)
+
+pub returns-in-Err-clause-stuck : goal.returns-in-Err-clause-stuck
+returns-in-Err-clause-stuck c =
+    bodyless_by c.args.plan.now c.args.later.now c.answer_lack.new.later c.args.frame c.args.instance
+    c.answer_lack.ensures.states.grows c.answer_lack.result c.in-Err.lack c.in-Err.ensures c.answer_lack.ensures.stuck

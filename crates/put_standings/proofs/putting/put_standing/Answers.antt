@@ -1,4 +1,4 @@
-use Rattle.std.proofs.Common.{refl}
+use Rattle.std.proofs.Common.{Some, refl, ap, ◌∙◌}
 use Rattle.task_waits.proofs.StateLemmas.{nothing_more, states_on, point_on, fewer_after}
 use Rattle.put_standings.proofs.PutLemmas.{some_look}
 use Rattle.put_standings.proofs.putting.put_standing.Goals as goal
@@ -37,3 +37,6 @@ pub looks-smaller : goal.looks-smaller
 looks-smaller c =
     fewer_after c.looks.later c.look_at.new.later c.in-Ok-None.field-0 c.in-Ok-None.field-0-is
     c.in-Ok-None.ensures.more
+
+pub returns-in-Ok-Some-clause-stuck : goal.returns-in-Ok-Some-clause-stuck
+returns-in-Ok-Some-clause-stuck c = λ e. c.in-Ok-Some.ensures.stuck (c.in-Ok-Some.field-0-is ∙ ap (λ s. Some s) e)

@@ -33,3 +33,9 @@ returns-in-Ok-Undone-clause-answered c = λ g at u task b. (
       (asked g c.args.held.now c.args.numbers.now c.args.history.now.events c.args.later.now c.take_state.new.later at))
       u task b.lacking b.is_value b.lacks,
 )
+
+pub returns-in-Ok-Known-clause-waits : goal.returns-in-Ok-Known-clause-waits
+returns-in-Ok-Known-clause-waits c = λ e. cc
+
+pub returns-in-Ok-Undone-clause-waits : goal.returns-in-Ok-Undone-clause-waits
+returns-in-Ok-Undone-clause-waits c = λ e. cc

@@ -11,8 +11,8 @@ returns-then-entry c = λ f h.
     let s = c.args.self.now in
     let n = c.args.number in
     let parts = (whole_in s).parts n (holes ∷ []) in
-    id_measured (file_in s) (whole_in s) n f c.id_extent.result c.args.entry.now.is_resource c.if-entry.true c.requires.id
-    (c.id_extent.ensures (type_of (file_in s) n).kind parts f c.kind_extent.ensures
+    id_measured (file_in s) (whole_in s) n f c.id_extent.result c.args.entry.now.is_resource c.if-entry.true
+    c.requires.id (c.id_extent.ensures (type_of (file_in s) n).kind parts f c.kind_extent.ensures
     (subst (AreKeptHoles parts) (sym c.as_slice.ensures.value) c.requires.parts) h)
 
 pub returns-else-entry : goal.returns-else-entry

@@ -1,4 +1,4 @@
-use Rattle.deploy_core.proofs.PassLemmas.{kept_of}
+use Rattle.board_dealing.proofs.PassLemmas.{kept_of}
 use Rattle.deploy_core.proofs.board.Board.end.Goals as goal
 
 pub invariant_of-self : goal.invariant_of-self

@@ -1,6 +1,6 @@
 use Rattle.std.proofs.Common.{subst}
-use Rattle.deploy_core.specs.Boards.{IsNext}
-use Rattle.deploy_core.proofs.DealLemmas.{refused_next}
+use Rattle.board_dealing.specs.Boards.{IsNext}
+use Rattle.board_dealing.proofs.DealLemmas.{refused_next}
 use Rattle.deploy_core.proofs.board.Board.next.Goals as goal
 
 pub returns-then-is_refused-clause-next : goal.returns-then-is_refused-clause-next

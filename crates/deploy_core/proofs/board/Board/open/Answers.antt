@@ -1,6 +1,6 @@
 use Rattle.std.proofs.Common.{length, refl, sym, subst}
 use Rattle.board_history.specs.Past.{Past}
-use Rattle.deploy_core.specs.Kept.{IsKept}
+use Rattle.board_dealing.specs.Kept.{IsKept}
 use Rattle.deploy_core.proofs.OpenLemmas.{kept_first}
 use Rattle.deploy_core.proofs.board.Board.open.Goals as goal
 

@@ -1,0 +1,12 @@
+pub mod Undone
+pub mod Edges
+pub mod Covering
+pub mod Pausing
+pub mod Agendas
+pub mod Stepping
+pub mod Passages
+pub mod Happening
+pub mod LookLemmas
+pub mod PassLemmas
+pub mod DealLemmas
+pub mod WakeLemmas

@@ -1,0 +1,4 @@
+pub mod Boards
+pub mod Kept
+pub mod Looks
+pub mod Passes

@@ -1,0 +1,14 @@
+pub mod OrderLemmas
+pub mod ChildLemmas
+pub mod SeenReads
+pub mod MarkLemmas
+pub mod ValueLemmas
+pub mod TitleLemmas
+pub mod NameLemmas
+pub mod ElementLemmas
+pub mod TargetLemmas
+pub mod MentionLemmas
+pub mod DependLemmas
+pub mod StartLemmas
+pub mod RuleLemmas
+pub mod NeedLemmas

@@ -1,0 +1,2 @@
+mod IntLemmas
+mod TreeLemmas

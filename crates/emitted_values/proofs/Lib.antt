@@ -1,0 +1,3 @@
+mod ContentLemmas
+pub mod KindLemmas
+mod PartLemmas

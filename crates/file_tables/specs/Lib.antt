@@ -1,0 +1,4 @@
+pub mod Checked
+pub mod Emittable
+pub mod Orders
+pub mod Tables

@@ -11,7 +11,7 @@ Boxes a (Ok p) = a ≡ Ok p.value
 Boxes a (Err (stop.Unknown at)) = a ≡ Err (stop.Unknown at)
 Boxes a (Err stop.OutOfMemory) = Unit {0}
 
--- the first is unknown, or the first is there and the second is unknown
+-- the first is not there for this, or the first is there and the second is not there for this
 abbrev pub FirstUnknown : {A B : Type 0} → Result A Stop → Result B Stop → Stop → Type 0
 FirstUnknown {A} a b stop = (a ≡ Err stop) ⊎ ((x : A) × (a ≡ Ok x) × (b ≡ Err stop))
 
@@ -21,11 +21,10 @@ Joins a b (Ok p) = (a ≡ Ok p.0.value) × (b ≡ Ok p.1.value)
 Joins a b (Err (stop.Unknown at)) = FirstUnknown a b (stop.Unknown at)
 Joins a b (Err stop.OutOfMemory) = Unit {0}
 
--- the values of both, or the first `Unknown`
+-- the values of both, or why there is none: of the first before the second
 abbrev pub Pairs : {A B : Type 0} → Result A Stop → Result B Stop → Result (A × B) Stop → Type 0
 Pairs a b (Ok p) = (a ≡ Ok p.0) × (b ≡ Ok p.1)
-Pairs a b (Err (stop.Unknown at)) = FirstUnknown a b (stop.Unknown at)
-Pairs a b (Err stop.OutOfMemory) = Unit {0}
+Pairs a b (Err why) = FirstUnknown a b why
 
 -- the values of three in boxes, or the first `Unknown`
 abbrev pub Joins3 : {A : Type 0} → Result A Stop → Result A Stop → Result A Stop

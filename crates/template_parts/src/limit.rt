@@ -1,5 +1,8 @@
 // The quantities that have a limit.
 
+ghost use Rattle.std.specs.Prelude.{◌≡◌};
+ghost use Rattle.template_parts.specs.Words.{word_of};
+
 /// A quantity that has a limit.
 #[derive(Clone, Copy, Debug, PartialEq, Eq)]
 pub enum Which {
@@ -27,7 +30,9 @@ pub enum Which {
 
 impl Which {
     /// The word for the quantity, as messages have it.
-    pub fn word(self) -> &'static str {
+    pub fn word(self) -> &'static str
+        ensures { result.now ≡ word_of self }
+    {
         match self {
             Which::Parameters => "Parameters",
             Which::Variables => "Variables",

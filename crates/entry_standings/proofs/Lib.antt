@@ -1,3 +1,0 @@
-pub mod DemandLemmas
-pub mod CircleLemmas
-pub mod EnterLemmas

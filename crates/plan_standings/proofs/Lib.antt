@@ -1,0 +1,9 @@
+pub mod NumberedLemmas
+pub mod WaitLemmas
+pub mod StateLemmas
+pub mod AnswerLemmas
+pub mod PutLemmas
+pub mod DemandLemmas
+pub mod CircleLemmas
+pub mod EnterLemmas
+pub mod LeaveLemmas

@@ -1,0 +1,5 @@
+pub mod Waits
+pub mod Answers
+pub mod Puts
+pub mod Entering
+pub mod Leaving

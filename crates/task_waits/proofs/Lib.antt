@@ -1,4 +1,0 @@
-pub mod NumberedLemmas
-pub mod WaitLemmas
-pub mod StateLemmas
-pub mod AnswerLemmas

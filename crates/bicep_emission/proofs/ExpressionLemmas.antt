@@ -41,7 +41,7 @@ use Rattle.bicep_resolved.specs.declared.leaf.Selector.TheVariants as selector
 use Rattle.bicep_resolved.specs.Source.{SourceTree, SourceTrees, PieceTrees, PropertyTrees, ReachTree, ValueTree}
 use Rattle.bicep_resolved.specs.Source as s
 use Rattle.bicep_resolved.specs.Target.{number_of, target_of}
-use Rattle.bicep_names.specs.Functions.{may_call}
+use Rattle.bicep_meaning.specs.Functions.{may_call}
 use Rattle.bicep_meaning.specs.Files.{symbol_name, type_of}
 use Rattle.bicep_meaning.specs.Around as source
 use Rattle.bicep_meaning.specs.Around.{Here}

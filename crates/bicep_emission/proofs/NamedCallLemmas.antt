@@ -27,7 +27,7 @@ use Rattle.expression_values.specs.Row as row
 use Rattle.expression_values.specs.Meaning.{held, value, values, used, called, call_by, strict_call, strict_row}
 use Rattle.expression_values.proofs.Equations.{lazy_call}
 use Rattle.deploy_cells.specs.Guarded.{Reads}
-use Rattle.bicep_names.specs.Functions.{reserved, may_call}
+use Rattle.bicep_meaning.specs.Functions.{reserved, may_call}
 use Rattle.bicep_meaning.specs.Rows as rows
 use Rattle.bicep_meaning.specs.Rows.{all, placed_value, value_by, coalesced}
 use Rattle.bicep_emission.specs.Alike.{Seen, seen_in}

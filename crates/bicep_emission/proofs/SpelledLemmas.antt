@@ -13,7 +13,7 @@ use Rattle.arm_env.specs.declared.function.Strict.{Strict}
 use Rattle.arm_env.specs.declared.function.Strict.TheVariants as strict
 use Rattle.reading.specs.Reading.{done, continued}
 use Rattle.deploy_cells.specs.Guarded.{Reads}
-use Rattle.bicep_names.specs.Functions.{reserved, may_call}
+use Rattle.bicep_meaning.specs.Functions.{reserved, may_call}
 use Rattle.bicep_meaning.specs.Rows.{all, value_by, coalesced, called}
 use Rattle.bicep_emission.specs.Spelled.{capitals, spelling_in, spelled_or, spelled}
 

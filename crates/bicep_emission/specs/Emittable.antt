@@ -1,7 +1,7 @@
 -- Expressions that a program without faults has: each function is one that a file may call, a loop is no part of an
 -- expression, and a text has at most 2 ^ 64 holes.
 use Rattle.std.specs.Prelude.{◌≡◌, ◌≤◌, ◌^◌, ℕ, suc, true}
-use Rattle.bicep_names.specs.Functions.{may_call}
+use Rattle.bicep_meaning.specs.Functions.{may_call}
 use Rattle.bicep_resolved.specs.Source.{SourceTree, SourceTrees, PieceTrees, PropertyTrees, ReachTree, ValueTree}
 use Rattle.bicep_resolved.specs.Source as s
 

@@ -6,3 +6,6 @@ pub mod Emittable
 pub mod Answered
 pub mod Stands
 pub mod Made
+pub use Rattle.bicep_meaning.specs.Declared
+pub use Rattle.bicep_meaning.specs.Files
+pub use Rattle.bicep_meaning.specs.Meaning

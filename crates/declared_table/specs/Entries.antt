@@ -7,7 +7,7 @@ use Rattle.emission_laws.specs.Holes.{holes}
 use Rattle.ordered_emissions.specs.Orders.{IsPaired}
 use Rattle.declared_types.specs.Types.{AreTypes}
 use Rattle.declared_types.specs.declared.resources.Typed.{Typed}
-use Rattle.kept_expressions.specs.Kept.{IsKept, IsKeptHoles, AreKeptHoles}
+use Rattle.kept_parts.specs.Kept.{IsKept, IsKeptHoles, AreKeptHoles}
 use Rattle.declared_table.specs.declared.entry.Entry.{Entry}
 use Rattle.declared_table.specs.Seen.{file_of, files_of}
 use Rattle.resolved_program.specs.declared.resolved.ResolvedFile.{ResolvedFile}

@@ -1,6 +1,6 @@
 //! Entries of a table.
 
-use kept_expressions::{Kept, KeptHoles};
+use kept_parts::{Kept, KeptHoles};
 
 /// What a declaration becomes where expressions and other declarations use it, and the whole name and the condition
 /// that it has in a template.

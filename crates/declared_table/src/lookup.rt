@@ -7,7 +7,7 @@ ghost use Rattle.emitted_declarations.specs.Declared.{id_of_parts};
 ghost use Rattle.emitted_expressions.specs.Sight.{frames_of};
 ghost use Rattle.emitted_parts.specs.Built.{Is};
 ghost use Rattle.measured_expressions.specs.Spans.{IsSpan, AreSpans};
-ghost use Rattle.kept_expressions.specs.Kept.{IsKeptHoles, AreKeptHoles};
+ghost use Rattle.kept_parts.specs.Kept.{IsKeptHoles, AreKeptHoles};
 
 use arm_expr::Expr;
 use arm_value::{OutOfMemory, Text};
@@ -15,8 +15,7 @@ use emitted_expressions::Turn;
 use emitted_parts::letting_go;
 use emitted_parts::literals::no_value;
 use emitted_sizes::literals as literal_sizes;
-use kept_expressions::KeptHoles;
-use kept_parts::id_of_parts;
+use kept_parts::{KeptHoles, id_of_parts};
 use measured_expressions::Span;
 use std::alloc::Global;
 

@@ -23,7 +23,7 @@ use Rattle.plan_tasks.proofs.AnswerLemmas.{gates_known}
 use Rattle.plan_tasks.specs.InOrder.{is_in}
 use Rattle.plan_tasks.specs.Start.{start_of, IsStartTable}
 use Rattle.plan_openers.specs.declared.opener.Opener.{Opener}
-use Rattle.plan_elements.specs.Elements.{element_at}
+use Rattle.lack_faults.specs.Elements.{element_at}
 use Rattle.plan_paths.specs.CellPaths.{element_path}
 use Rattle.plan_faults.specs.Known.{IsElementAt}
 use Rattle.plan_faults.specs.Dependencies.{is_title_at}

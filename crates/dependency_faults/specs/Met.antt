@@ -7,7 +7,7 @@ use Rattle.deploy_cells.specs.Cells.{Step, step, Position}
 use Rattle.deploy_cells.specs.Same.{same_id}
 use Rattle.plan_cells.specs.Resources.{Listed}
 use Rattle.plan_cells.specs.Scopes.{resource_of}
-use Rattle.plan_elements.specs.Elements.{element_at}
+use Rattle.lack_faults.specs.Elements.{element_at}
 use Rattle.plan_openers.specs.declared.opener.Opener.{Opener}
 use Rattle.plan_faults.specs.Dependencies.{is_title_at, IsNamed, IsUnknown, IsAmbiguous}
 use Rattle.plan_table.specs.declared.line.Spot.{Spot}

@@ -24,7 +24,7 @@ use crate::names::{classes_of_lines, names_of_lines};
 use arm_env::stop::let_go;
 use arm_value::Value;
 use dependency_titles::titles_of_scopes;
-use plan_elements::elements_of_tasks;
+use lack_faults::elements_of_tasks;
 use plan_faults::PlanFault;
 use plan_openers::Opener;
 use plan_table::line::Spot;

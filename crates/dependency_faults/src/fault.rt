@@ -6,14 +6,13 @@ ghost use Rattle.deploy_cells.specs.Cells.{step};
 ghost use Rattle.plan_filling.specs.Steps.{Filled};
 ghost use Rattle.plan_table.specs.Whole.{whole_of, rows_in, IsLaid};
 ghost use Rattle.plan_table.specs.Found.{scope_at};
-ghost use Rattle.plan_elements.specs.Elements.{IsUnread};
+ghost use Rattle.lack_faults.specs.Elements.{IsUnread};
 ghost use Rattle.plan_paths.specs.CellPaths.{element_path};
 ghost use Rattle.plan_faults.specs.Faults.{IsFault};
 ghost use Rattle.plan_faults.specs.declared.fault.PlanFault.TheVariants.{UnknownDependency, AmbiguousDependency};
 
 use arm_value::{OutOfMemory, Path};
-use lack_faults::element_fault;
-use plan_elements::Unread;
+use lack_faults::{Unread, element_fault};
 use plan_faults::PlanFault;
 use plan_openers::Opener;
 use plan_paths::element_path;

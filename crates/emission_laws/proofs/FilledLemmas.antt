@@ -21,11 +21,11 @@ use Rattle.bicep_meaning.specs.Files.{parent, type_of}
 use Rattle.bicep_meaning.specs.Declared.{body_of, body_at}
 use Rattle.bicep_emission.specs.Emittable.{IsEmittable, IsValue}
 use Rattle.bicep_emission.specs.Emitted.{Frame, emitted, emitted_value, frames_of}
-use Rattle.emitted_declarations.specs.Declared.{Emission, variable_entry, named_by_symbol, parts_of}
-use Rattle.emitted_declarations.specs.Declared.{parts_by_number, segments_from, split_name}
-use Rattle.emitted_declarations.specs.Declared.{number_of_parts, value_or_none, variable_of, over}
-use Rattle.emitted_declarations.specs.Declared.{module_name}
-use Rattle.emitted_declarations.specs.Declared.{name_by, name_of, parts_by, parts_at, id_at, next, through}
+use Rattle.declaration_laws.specs.Declared.{Emission, variable_entry, named_by_symbol, parts_of}
+use Rattle.declaration_laws.specs.Declared.{parts_by_number, segments_from, split_name}
+use Rattle.declaration_laws.specs.Declared.{number_of_parts, value_or_none, variable_of, over}
+use Rattle.declaration_laws.specs.Declared.{module_name}
+use Rattle.declaration_laws.specs.Declared.{name_by, name_of, parts_by, parts_at, id_at, next, through}
 use Rattle.declaration_laws.specs.Sound.{IsSound}
 use Rattle.emission_laws.specs.Holes.{fill, fill_all, holes, nearest, HasHoles, refilled}
 use Rattle.emission_laws.specs.Same.{SameScope}

@@ -22,10 +22,10 @@ use Rattle.bicep_meaning.specs.Declared.{body_of}
 use Rattle.bicep_meaning_laws.specs.Ranked.{mentioned_in, mentioned_around, mentions_at, IsRanked}
 use Rattle.bicep_meaning_laws.proofs.SameLemmas.{first, second, reached}
 use Rattle.bicep_emission.specs.Emitted.{Frame, two, emitted, emitted_value, frames_of}
-use Rattle.emitted_declarations.specs.Declared.{Emission, with_slash, variable_entry, parts_of, number_of_parts}
-use Rattle.emitted_declarations.specs.Declared.{id_of_parts, value_or_none, variable_of, over, module_name}
-use Rattle.emitted_declarations.specs.Declared.{name_by, name_of, full_name_by, condition_by, condition_of, parts_by}
-use Rattle.emitted_declarations.specs.Declared.{parts_at, id_at, next, through}
+use Rattle.declaration_laws.specs.Declared.{Emission, with_slash, variable_entry, parts_of, number_of_parts}
+use Rattle.declaration_laws.specs.Declared.{id_of_parts, value_or_none, variable_of, over, module_name}
+use Rattle.declaration_laws.specs.Declared.{name_by, name_of, full_name_by, condition_by, condition_of, parts_by}
+use Rattle.declaration_laws.specs.Declared.{parts_at, id_at, next, through}
 use Rattle.emission_laws.specs.Same.{SameScope, SameEmission}
 use Rattle.emission_laws.proofs.SameLemmas.{one_run, same_emitted, same_value, same_frames}
 

@@ -1,7 +1,7 @@
 -- Declarations that become the same.
 use Rattle.std.specs.Prelude.{◌≡◌, ℕ, List}
 use Rattle.bicep_emission.specs.Emitted.{Frame, Scope}
-use Rattle.emitted_declarations.specs.Declared.{Emission}
+use Rattle.declaration_laws.specs.Declared.{Emission}
 use Rattle.emission_laws.specs.Holes.{IsRun}
 
 -- where expressions use the declaration of that number, it becomes the same in both

@@ -5,7 +5,7 @@ ghost use Rattle.bicep_meaning.specs.Files.{SourceFile};
 ghost use Rattle.bicep_meaning_laws.specs.Ranked.{IsRanked};
 ghost use Rattle.bicep_emission.specs.Emitted.{Frame, emitted};
 ghost use Rattle.declaration_laws.specs.Sound.{IsSound};
-ghost use Rattle.emitted_declarations.specs.Declared.{next, through};
+ghost use Rattle.declaration_laws.specs.Declared.{next, through};
 ghost use Rattle.emission_laws.specs.Holes.{HasHoles, refilled};
 ghost use Rattle.emission_laws.specs.Same.{SameEmission};
 

@@ -16,7 +16,7 @@ use Rattle.arm_ids.specs.declared.id.ResourceId.{ResourceId}
 use Rattle.arm_ids.proofs.SegmentLemmas.{any_empty-fold}
 use Rattle.function_texts.specs.Cuts.{texts_in}
 use Rattle.function_numbers.specs.Kinds.{text_of}
-use Rattle.bicep_meaning.specs.Declared.{id_after, id_with}
+use Rattle.bicep_emission.specs.Declared.{id_after, id_with}
 use Rattle.bicep_emission.specs.Made.{made, is_made, made_whole}
 use Rattle.emitted_declarations.specs.Parts.{made_of}
 use Rattle.emitted_declarations.specs.ChildTypes.{IsChildType}

@@ -25,8 +25,8 @@ use Rattle.arm_env.specs.declared.function.Strict.TheVariants as strict
 use Rattle.expression_values.specs.Meaning.{held, value, values, used, called, strict_row}
 use Rattle.expression_values.proofs.Equations.{texts}
 use Rattle.deploy_cells.specs.Guarded.{Reads}
-use Rattle.bicep_meaning.specs.Declared.{id_named, id_after}
-use Rattle.bicep_meaning.specs.Meaning.{id_text}
+use Rattle.bicep_emission.specs.Declared.{id_named, id_after}
+use Rattle.bicep_emission.specs.Meaning.{id_text}
 use Rattle.bicep_emission.specs.Alike.{Seen, seen_in}
 use Rattle.bicep_emission.specs.Answered.{Sides}
 use Rattle.bicep_emission.specs.Emitted.{two}

@@ -4,7 +4,7 @@ use Rattle.std.specs.Prelude.{Result, Ok, Err}
 use Rattle.std.specs.declared.vec.Vec.{Vec}
 use Rattle.std.specs.declared.alloc.Global.{Global}
 use Rattle.std.specs.declared.alloc.AllocError.{AllocError}
-use Rattle.bicep_emission.specs.Emitted.{Frame}
+use Rattle.emitted_parts.specs.Emitted.{Frame}
 use Rattle.emitted_parts.specs.Built.{IsAdded}
 use Rattle.emitted_expressions.specs.Sight.{frames_of, IsFrame, AreFrames}
 use Rattle.emitted_expressions.specs.declared.turns.Turn.{Turn}

@@ -6,7 +6,7 @@ use Rattle.std.specs.declared.alloc.AllocError.{AllocError}
 use Rattle.arm_expr.specs.Tree.{Tree}
 use Rattle.arm_expr.specs.View.{tree_of}
 use Rattle.bicep_meaning.specs.Files.{SourceFile}
-use Rattle.bicep_emission.specs.Emitted.{Frame, Scope}
+use Rattle.emitted_parts.specs.Emitted.{Frame, Scope}
 use Rattle.emitted_expressions.specs.declared.turns.Turn.{Turn}
 
 -- the file, all files of the program, and what the declarations of the file become

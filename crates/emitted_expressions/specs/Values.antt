@@ -6,9 +6,9 @@ use Rattle.bicep_resolved.specs.declared.leaf.Field.{Field}
 use Rattle.bicep_resolved.specs.declared.leaf.Target.{Target}
 use Rattle.bicep_resolved.specs.Source.{SourceTree, SourceTrees, PieceTrees, PropertyTrees, ReachTree, ValueTree}
 use Rattle.bicep_resolved.specs.Target.{number_of}
-use Rattle.bicep_emission.specs.Emitted as e
-use Rattle.bicep_emission.specs.Emitted.{Frame}
-use Rattle.bicep_emission.specs.Texts.{format_text}
+use Rattle.emitted_parts.specs.Emitted as e
+use Rattle.emitted_parts.specs.Emitted.{Frame}
+use Rattle.emitted_parts.specs.Texts.{format_text}
 use Rattle.emitted_expressions.specs.Sight.{Sight}
 
 abbrev pub expression : Sight → SourceTree → List Frame → Tree

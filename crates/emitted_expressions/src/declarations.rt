@@ -1,7 +1,7 @@
 //! What the declarations of a file become, by the numbers of their symbols.
 ghost use Rattle.std.specs.Prelude.{◌≡◌, option_map};
 ghost use Rattle.bicep_meaning.specs.Files.{symbol_name, type_of};
-ghost use Rattle.bicep_emission.specs.Emitted.{output_named};
+ghost use Rattle.emitted_parts.specs.Emitted.{output_named};
 ghost use Rattle.emitted_parts.specs.Built.{Is, IsText};
 ghost use Rattle.emitted_expressions.specs.Sight.{Sight, frames_of};
 

@@ -3,7 +3,7 @@ ghost use Rattle.std.specs.Prelude.{◌≡◌, ℕ, List};
 ghost use Rattle.arm_expr.specs.Tree.{Tree, text as text_tree};
 ghost use Rattle.bicep_resolved.specs.View.{property_of};
 ghost use Rattle.bicep_meaning.specs.Files.{symbol_name, type_of};
-ghost use Rattle.bicep_emission.specs.Emitted.{Frame, parameter_of, properties_of, state_member_of};
+ghost use Rattle.emitted_parts.specs.Emitted.{Frame, parameter_of, properties_of, state_member_of};
 ghost use Rattle.emitted_parts.specs.Built.{Is, IsText};
 ghost use Rattle.emitted_expressions.specs.Sight.{AreFrames, frames_of};
 ghost use Rattle.emitted_expressions.specs.Values as spec;

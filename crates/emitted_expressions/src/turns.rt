@@ -1,7 +1,7 @@
 //! The runs of the loops around an expression.
 ghost use Rattle.std.specs.Prelude.{◌∷◌, [], slice_get};
 ghost use Rattle.arm_expr.specs.Tree.{Tree};
-ghost use Rattle.bicep_emission.specs.Emitted.{item_of as item_tree, index_of as index_tree, element as frame_at};
+ghost use Rattle.emitted_parts.specs.Emitted.{item_of as item_tree, index_of as index_tree, element as frame_at};
 ghost use Rattle.emitted_parts.specs.Built.{Is};
 ghost use Rattle.emitted_expressions.specs.Sight.{framed, frames_of, IsFrame, AreFrames};
 

@@ -7,7 +7,7 @@ use Rattle.arm_expr.specs.Grammar.{doubled}
 use Rattle.arm_expr.proofs.PrintLemmas.{counts_one}
 use Rattle.arm_expr.specs.Tree.{Tree, call}
 use Rattle.bicep_tree.specs.declared.leaf.Operator.{Operator}
-use Rattle.bicep_emission.specs.Emitted.{two, small}
+use Rattle.emitted_parts.specs.Emitted.{two, small}
 use Rattle.emitted_parts.specs.Words.{operator_word, is_lowered, compared}
 use Rattle.emitted_sizes.specs.Extent.{bounded, IsOf}
 use Rattle.emitted_sizes.specs.declared.extent.Extent.{Extent}

@@ -1,7 +1,7 @@
 //! What accesses become.
 ghost use Rattle.std.specs.Prelude.{◌≡◌, ℕ, List, length};
 ghost use Rattle.arm_expr.specs.Tree.{Tree, index as part_tree, member as member_tree};
-ghost use Rattle.bicep_emission.specs.Emitted.{member_of, part_at};
+ghost use Rattle.emitted_parts.specs.Emitted.{member_of, part_at};
 ghost use Rattle.emitted_sizes.specs.Extent.{IsOf};
 
 use crate::calls::call_two;

@@ -1,7 +1,7 @@
 //! Calls of template functions.
 ghost use Rattle.std.specs.Prelude.{◌≡◌, ℕ, List, chars, length};
 ghost use Rattle.arm_expr.specs.Tree.{Tree, Trees, call as call_tree, none};
-ghost use Rattle.bicep_emission.specs.Emitted.{one, two, three};
+ghost use Rattle.emitted_parts.specs.Emitted.{one, two, three};
 ghost use Rattle.emitted_sizes.specs.Extent.{IsOf, AreOf};
 
 use crate::extent::{Extent, Row};

@@ -12,4 +12,5 @@ pub mod literals;
 pub mod operators;
 pub mod states;
 
+pub use emitted_parts::texts;
 pub use extent::{Extent, Row};

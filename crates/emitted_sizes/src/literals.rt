@@ -2,7 +2,7 @@
 ghost use Rattle.std.specs.Prelude.{◌≡◌, ◌==◌, ◌≤◌, true, length, chars, if◌then◌else◌};
 ghost use Rattle.std.specs.Fmt.{decimal, signed_decimal};
 ghost use Rattle.arm_expr.specs.Tree.{text as text_tree, int as int_tree};
-ghost use Rattle.bicep_emission.specs.Emitted.{literal_of, no_value as no_value_tree};
+ghost use Rattle.emitted_parts.specs.Emitted.{literal_of, no_value as no_value_tree};
 ghost use Rattle.emitted_parts.specs.Built.{is_ascii};
 ghost use Rattle.emitted_sizes.specs.Extent.{IsOf, bounded, quoted};
 

@@ -1,7 +1,7 @@
 //! What operators become.
 ghost use Rattle.std.specs.Prelude.{◌≡◌, codes, length};
 ghost use Rattle.arm_expr.specs.Tree.{Tree, call};
-ghost use Rattle.bicep_emission.specs.Emitted.{binary_of, prefix_of, not_of, small, two, three};
+ghost use Rattle.emitted_parts.specs.Emitted.{binary_of, prefix_of, not_of, small, two, three};
 ghost use Rattle.emitted_parts.specs.Words.{operator_word, is_lowered, is_negated, compared};
 ghost use Rattle.emitted_sizes.specs.Extent.{IsOf};
 

@@ -1,7 +1,7 @@
 //! What fields of resources and outputs of modules become.
 ghost use Rattle.std.specs.Prelude.{◌≡◌, ℕ, List, Some, length};
 ghost use Rattle.arm_expr.specs.Tree.{Tree, text};
-ghost use Rattle.bicep_emission.specs.Emitted.{properties_of, state_member_of, output_of};
+ghost use Rattle.emitted_parts.specs.Emitted.{properties_of, state_member_of, output_of};
 ghost use Rattle.emitted_parts.specs.Built.{deployment_tree};
 ghost use Rattle.emitted_sizes.specs.Extent.{IsOf};
 

@@ -3,7 +3,7 @@ ghost use Rattle.std.specs.Prelude.{[], IfOk};
 ghost use Rattle.arm_value.specs.View.{json};
 ghost use Rattle.bicep_resolved.specs.View.{source_of};
 ghost use Rattle.declaration_laws.specs.Sound.{IsSound};
-ghost use Rattle.declared_table.specs.Seen.{file_in};
+ghost use Rattle.filled_tables.specs.Seen.{file_in};
 ghost use Rattle.emitted_files.specs.Values.{IsTree};
 ghost use Rattle.filled_tables.specs.Filled.{IsFilled, emission_sight};
 ghost use Rattle.measured_trees.specs.Extremes.{tree_extremes};
@@ -15,7 +15,7 @@ use crate::laws::{tables_give_trees, trees_are_small};
 use crate::passes::{made_tree, tree_measure};
 use arm_value::{OutOfMemory, Value};
 use bicep_resolved::Source;
-use declared_table::Table;
+use filled_tables::Table;
 use measured_trees::Measure;
 use std::alloc::Global;
 

@@ -3,7 +3,7 @@ ghost use Rattle.std.specs.Prelude.{◌≡◌, ◌≤◌, List, Option, ℕ};
 ghost use Rattle.bicep_resolved.specs.Source.{SourceTree, ValueTree};
 ghost use Rattle.bicep_emission.specs.Emitted.{Frame};
 ghost use Rattle.declaration_laws.specs.Sound.{IsSound};
-ghost use Rattle.declared_table.specs.Seen.{Shape, sight, file_in};
+ghost use Rattle.filled_tables.specs.Seen.{Shape, sight, file_in};
 ghost use Rattle.emitted_trees.specs.Templates.{TemplateTree, TemplateValue};
 ghost use Rattle.filled_tables.specs.Filled.{IsFilled, emission_sight};
 ghost use Rattle.tree_building.specs.Depth.{depth, value_depth};

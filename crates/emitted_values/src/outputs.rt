@@ -3,7 +3,7 @@ ghost use Rattle.std.specs.Prelude.{◌≡◌, [], IfOk, None};
 ghost use Rattle.bicep_declared.specs.View.{output_tree};
 ghost use Rattle.bicep_resolved.specs.View.{value_of};
 ghost use Rattle.declaration_laws.specs.Sound.{IsSound};
-ghost use Rattle.declared_table.specs.Seen.{file_in, files_in};
+ghost use Rattle.filled_tables.specs.Seen.{file_in, files_in};
 ghost use Rattle.emitted_files.specs.Files.{IsOutput};
 ghost use Rattle.filled_tables.specs.Filled.{IsFilled, emission_sight};
 ghost use Rattle.tree_building.specs.Sight as spec;
@@ -14,8 +14,8 @@ use crate::contents::content;
 use arm_value::{OutOfMemory, Text};
 use bicep_declared::DeclaredOutput;
 use bicep_tree::TypeName;
-use declared_table::Table;
 use emitted_parts::lacks;
+use filled_tables::Table;
 use std::alloc::Global;
 use template_parts::{Content, Output, ValueType};
 

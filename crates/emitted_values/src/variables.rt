@@ -2,7 +2,7 @@
 ghost use Rattle.std.specs.Prelude.{◌≡◌, [], IfOk, Some};
 ghost use Rattle.bicep_resolved.specs.View.{value_of};
 ghost use Rattle.declaration_laws.specs.Sound.{IsSound};
-ghost use Rattle.declared_table.specs.Seen.{file_in, files_in};
+ghost use Rattle.filled_tables.specs.Seen.{file_in, files_in};
 ghost use Rattle.emitted_files.specs.Files.{IsVariable};
 ghost use Rattle.filled_tables.specs.Filled.{IsFilled, emission_sight};
 ghost use Rattle.tree_building.specs.Sight as spec;
@@ -11,8 +11,8 @@ ghost use Rattle.emitted_values.specs.Limits.{MayBeBuilt};
 use crate::contents::content;
 use arm_value::{OutOfMemory, Text};
 use bicep_resolved::SourceValue;
-use declared_table::Table;
 use emitted_parts::lacks;
+use filled_tables::Table;
 use std::alloc::Global;
 use template_parts::{Content, Variable};
 

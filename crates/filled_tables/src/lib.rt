@@ -5,3 +5,5 @@
 #![tactic(auto)]
 
 pub mod laws;
+
+pub use declared_table::Table;

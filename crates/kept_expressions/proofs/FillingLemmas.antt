@@ -12,7 +12,7 @@ use Rattle.arm_expr.specs.Tree.{Trees, call, trees}
 use Rattle.arm_expr.specs.View.{tree_of}
 use Rattle.arm_expr.specs.declared.expr.Expr.{Expr}
 use Rattle.bicep_emission.specs.Emitted.{Frame}
-use Rattle.emission_laws.specs.Holes.{fill, fill_all, in_hole}
+use Rattle.measured_holes.specs.Holes.{fill, fill_all, in_hole}
 use Rattle.emitted_parts.specs.Built.{IsAdded}
 use Rattle.emitted_expressions.specs.Sight.{frames_of, IsFrame, AreFrames}
 use Rattle.emitted_expressions.specs.declared.turns.Turn.{Turn}

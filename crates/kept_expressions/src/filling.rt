@@ -4,7 +4,7 @@ ghost use Rattle.arm_ids.specs.Segments.{is_empty};
 ghost use Rattle.arm_expr.specs.Tree.{Tree, call as call_tree, trees};
 ghost use Rattle.arm_expr.specs.View.{tree_of};
 ghost use Rattle.bicep_emission.specs.Emitted.{Frame};
-ghost use Rattle.emission_laws.specs.Holes.{fill, fill_all, in_hole, holes};
+ghost use Rattle.measured_holes.specs.Holes.{fill, fill_all, in_hole, holes};
 ghost use Rattle.emitted_expressions.specs.Sight.{framed, IsFrame, AreFrames};
 ghost use Rattle.emitted_parts.specs.Built.{Is, Are};
 ghost use Rattle.kept_expressions.specs.Limits.{IsPut};

@@ -14,3 +14,5 @@ pub use keeping::{
     Kept, KeptHoles, beyond, beyond_holes, is_within, keep, keep_holes, least_extent,
 };
 pub use making::{made, made_holes, made_value, made_value_holes};
+pub use measured_expressions::Span;
+pub use measured_holes::{Holed, probes};

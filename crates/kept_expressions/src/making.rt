@@ -3,7 +3,7 @@ ghost use Rattle.std.specs.Prelude.{◌≡◌, ◌∷◌, [], IfOk};
 ghost use Rattle.arm_expr.specs.Tree.{Tree};
 ghost use Rattle.bicep_resolved.specs.View.{source_of, value_of};
 ghost use Rattle.bicep_emission.specs.Emitted.{Frame};
-ghost use Rattle.emission_laws.specs.Holes.{fill, holes};
+ghost use Rattle.measured_holes.specs.Holes.{fill, holes};
 ghost use Rattle.emitted_expressions.specs.Values as spec;
 ghost use Rattle.kept_expressions.specs.Kept.{IsKept, IsKeptHoles};
 

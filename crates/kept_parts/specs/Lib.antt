@@ -1,2 +1,3 @@
 pub mod Pieces
 pub mod Frames
+pub use Rattle.kept_expressions.specs.Kept

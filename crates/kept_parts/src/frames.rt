@@ -4,8 +4,8 @@ ghost use Rattle.arm_expr.specs.Tree.{Tree, index as index_tree};
 ghost use Rattle.bicep_emission.specs.Emitted.{Frame, element, no_value as no_value_tree};
 ghost use Rattle.emission_laws.specs.Holes.{fill, nearest};
 ghost use Rattle.emitted_sizes.specs.Extent.{IsOf};
-ghost use Rattle.measured_holes.specs.Growth.{Grows};
-ghost use Rattle.measured_expressions.specs.Spans.{IsSpan};
+ghost use Rattle.kept_expressions.specs.Growth.{Grows};
+ghost use Rattle.kept_expressions.specs.Spans.{IsSpan};
 ghost use Rattle.kept_expressions.specs.Kept.{IsKept, IsKeptHoles, AreKeptHoles};
 ghost use Rattle.kept_parts.specs.Frames.{IsKeptFrame, fill_frame};
 
@@ -15,10 +15,12 @@ use emitted_parts::accesses::plain_part;
 use emitted_parts::literals::no_value;
 use emitted_parts::{lacks, with};
 use emitted_sizes::{Extent, accesses as access_sizes, literals as literal_sizes};
-use kept_expressions::{Kept, KeptHoles, beyond_holes, is_within, keep_holes, least_extent};
-use measured_expressions::Span;
-use measured_holes::Holed;
-use measured_holes::probes::{Probed, deep_index, deep_item, holed, least, wide_index, wide_item};
+use kept_expressions::probes::{
+    Probed, deep_index, deep_item, holed, least, wide_index, wide_item,
+};
+use kept_expressions::{
+    Holed, Kept, KeptHoles, Span, beyond_holes, is_within, keep_holes, least_extent,
+};
 use std::alloc::Global;
 
 /// A run of a loop: its item and its index, with holes for those of the loop around it.

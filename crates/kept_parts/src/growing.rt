@@ -4,12 +4,12 @@ ghost use Rattle.arm_expr.specs.Tree.{Tree};
 ghost use Rattle.bicep_emission.specs.Emitted.{Frame};
 ghost use Rattle.emission_laws.specs.Holes.{fill};
 ghost use Rattle.emitted_sizes.specs.Extent.{IsOf};
-ghost use Rattle.measured_holes.specs.Growth.{Grows};
+ghost use Rattle.kept_expressions.specs.Growth.{Grows};
 
 use arm_value::OutOfMemory;
 use emitted_sizes::Extent;
-use measured_holes::Holed;
-use measured_holes::probes::{Probed, holed};
+use kept_expressions::Holed;
+use kept_expressions::probes::{Probed, holed};
 
 /// How an expression without holes grows: not at all.
 pub fn still(extent: Extent) -> Result<Holed, OutOfMemory>

@@ -6,7 +6,7 @@ ghost use Rattle.emission_laws.specs.Holes.{fill};
 ghost use Rattle.emitted_declarations.specs.Declared.{id_of_parts};
 ghost use Rattle.emitted_parts.specs.Built.{Is, Are};
 ghost use Rattle.emitted_sizes.specs.Extent.{IsOf, AreOf};
-ghost use Rattle.measured_expressions.specs.Spans.{IsSpan};
+ghost use Rattle.kept_expressions.specs.Spans.{IsSpan};
 ghost use Rattle.kept_expressions.specs.Kept.{AreKeptHoles};
 ghost use Rattle.kept_expressions.specs.Limits.{IsPut};
 
@@ -16,8 +16,7 @@ use emitted_parts::calls::call;
 use emitted_parts::literals::text;
 use emitted_parts::with;
 use emitted_sizes::{Extent, Row, calls as call_sizes};
-use kept_expressions::KeptHoles;
-use measured_expressions::Span;
+use kept_expressions::{KeptHoles, Span};
 use std::alloc::Global;
 
 // The type and the parts, with a run in their holes.

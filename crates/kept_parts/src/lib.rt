@@ -15,6 +15,7 @@ mod pieces;
 pub use frames::{KeptFrame, element_frame, kept_nothing, no_frame, placed, placed_all};
 pub use growing::still;
 pub use ids::{id_extent, id_of_parts};
+pub use kept_expressions::{Kept, KeptHoles};
 pub use names::symbol_name;
 pub use numbered::{copied_holes, kept_piece, kept_text, parts_of};
 pub use pieces::{Piece, piece_extent, piece_of};

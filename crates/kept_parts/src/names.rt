@@ -12,7 +12,7 @@ ghost use Rattle.emission_laws.specs.Holes.{holes, index_hole};
 ghost use Rattle.emitted_declarations.specs.Declared.{named_by_symbol, one_hole};
 ghost use Rattle.emitted_parts.specs.Built.{IsText};
 ghost use Rattle.emitted_sizes.specs.Extent.{IsOf};
-ghost use Rattle.measured_holes.specs.Growth.{Grows};
+ghost use Rattle.kept_expressions.specs.Growth.{Grows};
 ghost use Rattle.kept_expressions.specs.Kept.{IsKeptHoles};
 
 use crate::frames::kept_nothing;
@@ -26,9 +26,10 @@ use emitted_parts::letting_go;
 use emitted_parts::literals::text;
 use emitted_parts::texts::format_text;
 use emitted_sizes::{Extent, calls as call_sizes, literals as literal_sizes};
-use kept_expressions::{KeptHoles, beyond_holes, is_within, keep_holes, least_extent};
-use measured_holes::Holed;
-use measured_holes::probes::{Probed, deep_index, deep_item, holed, least, wide_index, wide_item};
+use kept_expressions::probes::{
+    Probed, deep_index, deep_item, holed, least, wide_index, wide_item,
+};
+use kept_expressions::{Holed, KeptHoles, beyond_holes, is_within, keep_holes, least_extent};
 use std::alloc::Global;
 
 fn put(out: &mut String, c: char) -> Result<(), OutOfMemory>

@@ -3,7 +3,7 @@ ghost use Rattle.std.specs.Prelude.{◌≡◌, Option, map, option_map, IfOk};
 ghost use Rattle.arm_expr.specs.Tree.{Tree, text as text_tree};
 ghost use Rattle.bicep_resolved.specs.Source.{ValueTree};
 ghost use Rattle.emitted_declarations.specs.Declared.{parts_of, parts_by_number, segments_from};
-ghost use Rattle.measured_holes.specs.Growth.{Grows};
+ghost use Rattle.kept_expressions.specs.Growth.{Grows};
 ghost use Rattle.kept_expressions.specs.Kept.{IsKeptHoles, AreKeptHoles};
 ghost use Rattle.kept_parts.specs.Pieces.{piece_of as piece_tree, literal_text};
 
@@ -14,9 +14,10 @@ use arm_value::{OutOfMemory, Text};
 use emitted_parts::literals::text;
 use emitted_parts::with;
 use emitted_sizes::literals as literal_sizes;
-use kept_expressions::{KeptHoles, beyond_holes, is_within, keep_holes, least_extent};
-use measured_holes::Holed;
-use measured_holes::probes::{Probed, deep_index, deep_item, holed, least, wide_index, wide_item};
+use kept_expressions::probes::{
+    Probed, deep_index, deep_item, holed, least, wide_index, wide_item,
+};
+use kept_expressions::{Holed, KeptHoles, beyond_holes, is_within, keep_holes, least_extent};
 use std::alloc::Global;
 
 // How a part of a name grows.

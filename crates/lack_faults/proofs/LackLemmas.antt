@@ -23,7 +23,7 @@ use Rattle.plan_table.specs.Lines.{status_in}
 use Rattle.plan_table.proofs.LaidLemmas.{row_here, length_rows}
 use Rattle.plan_sight.proofs.LookLemmas.{listed_row, state_here}
 use Rattle.plan_openers.specs.declared.opener.Opener.{Opener}
-use Rattle.plan_values.proofs.SiteLemmas.{resource_numbered, one_listed}
+use Rattle.plan_elements.proofs.SiteLemmas.{resource_numbered, one_listed}
 use Rattle.plan_sight.specs.declared.lack.Lack.{Lack}
 use Rattle.plan_sight.specs.declared.lack.Lack.TheVariants as lack
 use Rattle.plan_sight.specs.Ready.{IsReady}

@@ -1,1 +1,2 @@
 pub mod Lacks
+pub use Rattle.plan_elements.specs.Elements

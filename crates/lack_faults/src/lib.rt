@@ -7,3 +7,4 @@
 mod lacking;
 
 pub use lacking::{element_fault, lack_fault};
+pub use plan_elements::{Unread, elements_of_tasks};

@@ -14,11 +14,11 @@ use crate::sizes::Sizes;
 use crate::spans::{Span, element};
 use arm_value::{OutOfMemory, Text};
 use bicep_resolved::{Piece, Property, Reach, Source, SourceValue};
-use emitted_parts::texts::format_text;
 use emitted_sizes::accesses::{member, part};
 use emitted_sizes::calls::call;
 use emitted_sizes::literals::{literal, no_value, text};
 use emitted_sizes::operators::{binary, conditional, prefixed};
+use emitted_sizes::texts::format_text;
 use emitted_sizes::{Extent, Row};
 use std::alloc::Global;
 

@@ -19,7 +19,7 @@ use Rattle.plan_sight.specs.declared.lack.Lack.{Lack}
 use Rattle.plan_sight.specs.declared.lack.Lack.TheVariants as lack
 use Rattle.plan_sight.specs.Ready.{told_in}
 use Rattle.plan_sight.specs.Seen.{Stops, Yields}
-use Rattle.plan_nested.proofs.SeekLemmas.{stop_goes, read_goes, read_stops}
+use Rattle.plan_names.proofs.SeekLemmas.{stop_goes, read_goes, read_stops}
 use Rattle.plan_deployments.specs.Items.{IsItemOf, Makes, IsItem, items_told}
 use Rattle.plan_sight.proofs.ToldLemmas.{told_pure, told_done, goes}
 

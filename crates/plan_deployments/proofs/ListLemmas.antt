@@ -26,8 +26,8 @@ use Rattle.plan_sight.specs.declared.lack.Lack.TheVariants as lack
 use Rattle.plan_sight.specs.Ready.{IsReady, told_in}
 use Rattle.plan_sight.specs.Seen.{Stops}
 use Rattle.plan_sight.proofs.LookLemmas.{scope_is, scopes_there}
-use Rattle.plan_nested.proofs.InvertLemmas.{and_value}
-use Rattle.plan_nested.proofs.SeekLemmas.{stop_goes, read_stops}
+use Rattle.plan_names.proofs.InvertLemmas.{and_value}
+use Rattle.plan_names.proofs.SeekLemmas.{stop_goes, read_stops}
 use Rattle.plan_names.proofs.GatherLemmas.{listed_length, number_of}
 use Rattle.plan_deployments.specs.Items.{items_told, arrays_told}
 use Rattle.plan_sight.proofs.ToldLemmas.{told_pure, goes}

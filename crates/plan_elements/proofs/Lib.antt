@@ -1,1 +1,2 @@
 mod ElementLemmas
+pub use Rattle.plan_values.proofs.SiteLemmas

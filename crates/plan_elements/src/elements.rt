@@ -15,7 +15,7 @@ ghost use Rattle.plan_table.specs.Found.{scope_at};
 ghost use Rattle.plan_tasks.specs.Start.{start_of, IsStartTable, IsInstance, IsTaskOf, task_of};
 ghost use Rattle.plan_sight.specs.Ready.{told_in};
 ghost use Rattle.plan_sight.specs.Seen.{Yields};
-ghost use Rattle.plan_telling.specs.Symbols.{IsComplete};
+ghost use Rattle.plan_values.specs.Symbols.{IsComplete};
 ghost use Rattle.plan_elements.specs.Elements.{element_at, AreElementsOf, IsUnread};
 ghost use Rattle.plan_elements.specs.declared.elements.Unread.TheVariants.{OutOfMemory, Element};
 
@@ -24,10 +24,10 @@ use plan_openers::{Opener, opener_of};
 use plan_sight::lack::Lack;
 use plan_table::frame::Instance;
 use plan_tasks::ScopeTask;
-use plan_telling::register::Register;
-use plan_telling::source::Source;
 use plan_values::declared::listed_at;
+use plan_values::register::Register;
 use plan_values::scopes::{texts_at, told_in_instance};
+use plan_values::source::Source;
 use std::alloc::{AllocError, AllocFailed, Global};
 
 /// Why elements have no values.

@@ -4,3 +4,4 @@ pub mod ChangeLemmas
 pub mod WayLemmas
 pub mod FinalLemmas
 pub mod LimitLemmas
+pub use Rattle.plan_cells.proofs.ListLemmas

@@ -3,3 +3,8 @@ pub mod Sound
 pub mod Steps
 pub mod Final
 pub mod Limits
+pub use Rattle.plan_cells.specs.Children
+pub use Rattle.plan_cells.specs.Desired
+pub use Rattle.plan_cells.specs.Meaning
+pub use Rattle.plan_cells.specs.Resources
+pub use Rattle.plan_cells.specs.Scopes

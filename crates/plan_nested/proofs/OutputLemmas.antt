@@ -31,7 +31,7 @@ use Rattle.plan_cells.specs.Sites.{outputs_at}
 use Rattle.plan_cells.specs.Sites.{offered_outputs, outputs_in, declared_output, seek, truth_of_found}
 use Rattle.plan_cells.specs.Children.{Has, output_names}
 use Rattle.plan_cells.proofs.ListLemmas.{not_named}
-use Rattle.plan_filling.specs.Rows.{Status, status_of, table, known_by}
+use Rattle.plan_table.specs.Rows.{Status, status_of, table, known_by}
 use Rattle.plan_table.specs.declared.table.Table.{Table}
 use Rattle.plan_table.specs.declared.line.State.{State}
 use Rattle.plan_table.specs.declared.line.State.TheVariants as how

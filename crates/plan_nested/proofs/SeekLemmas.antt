@@ -22,8 +22,8 @@ use Rattle.plan_cells.specs.Scopes.{template_at, visible, is_outer, nested_of}
 use Rattle.plan_cells.specs.Sites as sites
 use Rattle.plan_cells.specs.Sites.{nested_numbers_at, seek, found_or, instance_of, all_but_first, is_nowhere}
 use Rattle.plan_cells.specs.Meaning.{Deployment, meaning, plain, is_own}
-use Rattle.plan_filling.specs.Rows as rows
-use Rattle.plan_filling.specs.Rows.{Status, status_of, table, known_by}
+use Rattle.plan_table.specs.Rows as rows
+use Rattle.plan_table.specs.Rows.{Status, status_of, table, known_by}
 use Rattle.plan_table.specs.declared.table.Table.{Table}
 use Rattle.plan_table.specs.declared.line.Line.{Line}
 use Rattle.plan_table.specs.declared.line.Spot.{Spot}

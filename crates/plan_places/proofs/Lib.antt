@@ -1,2 +1,3 @@
 pub mod PlaceLemmas
 pub mod NameLemmas
+pub use Rattle.plan_nested.proofs.SeekLemmas

@@ -6,3 +6,5 @@
 #![tactic(auto)]
 
 pub mod place;
+
+pub use plan_nested::{look, outputs};

@@ -22,8 +22,8 @@ use Rattle.plan_cells.specs.Meaning.{Deployment, is_own}
 use Rattle.plan_cells.specs.Children.{Has}
 use Rattle.plan_cells.proofs.ListLemmas.{not_named}
 use Rattle.std.proofs.lemmas.Slice.Eq.{bytes_eq-Decides}
-use Rattle.plan_filling.specs.Rows.{Status, Row, row_at, status_of, known_by}
-use Rattle.plan_filling.proofs.RowLemmas.{status_found}
+use Rattle.plan_table.specs.Rows.{Status, Row, row_at, status_of, known_by}
+use Rattle.plan_table.proofs.RowLemmas.{status_found}
 use Rattle.plan_table.specs.declared.table.Table.{Table}
 use Rattle.plan_table.specs.declared.line.Line.{Line}
 use Rattle.plan_table.specs.declared.line.Spot.TheVariants.{Deployments}

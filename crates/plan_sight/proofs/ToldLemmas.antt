@@ -8,8 +8,8 @@ use Rattle.deploy_cells.proofs.CellLemmas.{guarded_told}
 use Rattle.plan_cells.specs.Meaning.{meaning, plain}
 use Rattle.plan_cells.specs.Children.{Has, roots}
 use Rattle.plan_cells.proofs.ChildLemmas.{root_is, child_is}
-use Rattle.plan_filling.specs.Rows.{status_of, table, known_by}
-use Rattle.plan_filling.specs.Sound.{IsOpenedBy}
+use Rattle.plan_table.specs.Rows.{status_of, table, known_by}
+use Rattle.plan_table.specs.Sound.{IsOpenedBy}
 use Rattle.plan_table.specs.declared.table.Table.{Table}
 use Rattle.plan_table.specs.Lines.{status_in}
 use Rattle.plan_table.specs.Whole.{whole_of, rows_in}

@@ -2,8 +2,8 @@
 use Rattle.reading.specs.Knowledge.{Told, told}
 use Rattle.deploy_cells.specs.Cells.{Cell}
 use Rattle.deploy_cells.specs.Guarded.{Reads}
-use Rattle.plan_filling.specs.Rows.{status_of, table}
-use Rattle.plan_filling.specs.Sound.{Sound}
+use Rattle.plan_table.specs.Rows.{status_of, table}
+use Rattle.plan_table.specs.Sound.{Sound}
 use Rattle.plan_table.specs.declared.table.Table.{Table}
 use Rattle.plan_table.specs.Whole.{whole_of, rows_in, IsLaid}
 

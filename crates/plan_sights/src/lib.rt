@@ -7,3 +7,5 @@
 pub mod lacking;
 pub mod laws;
 pub mod sight;
+
+pub use plan_names::look;

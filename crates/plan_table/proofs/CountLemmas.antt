@@ -10,7 +10,7 @@ use Rattle.arm_value.specs.View.{json}
 use Rattle.arm_value.specs.declared.value.Value.{Value}
 use Rattle.deploy_cells.specs.Cells.{Cell, Position, count, copies, deployments}
 use Rattle.deploy_cells.specs.Same.{same_position}
-use Rattle.plan_cells.specs.Meaning.{Deployment}
+use Rattle.plan_filling.specs.Meaning.{Deployment}
 use Rattle.plan_filling.specs.Rows as rows
 use Rattle.plan_filling.specs.Rows.{Row, row_at, status_of, IsUnfinished, AreDistinct}
 use Rattle.plan_filling.proofs.RowLemmas.{status_found}

@@ -10,12 +10,12 @@ use Rattle.arm_value.specs.declared.value.Value.{Value}
 use Rattle.template_tree.specs.Tree.{TemplateTree}
 use Rattle.deploy_cells.specs.Cells.{Step, step, Position, Cell, parameter, variable, offered, output, count, included}
 use Rattle.deploy_cells.specs.Cells.{name, deployments, copies}
-use Rattle.plan_cells.specs.Resources.{Listed, Nested, resources_in, resource_at, nested_at, nested_in}
-use Rattle.plan_cells.specs.Scopes.{template_at, nested_of}
-use Rattle.plan_cells.specs.Meaning.{Deployment, is_own}
-use Rattle.plan_cells.specs.Children.{Has, parameter_names, variable_names, output_names, numbers_in, own_cells, steps}
-use Rattle.plan_cells.specs.Children.{scope_cells, opened_cells, instance_cells, children, roots, numbers_from}
-use Rattle.plan_cells.proofs.ListLemmas.{has_left, has_right}
+use Rattle.plan_filling.specs.Resources.{Listed, Nested, resources_in, resource_at, nested_at, nested_in}
+use Rattle.plan_filling.specs.Scopes.{template_at, nested_of}
+use Rattle.plan_filling.specs.Meaning.{Deployment, is_own}
+use Rattle.plan_filling.specs.Children.{Has, parameter_names, variable_names, output_names, numbers_in, own_cells, steps}
+use Rattle.plan_filling.specs.Children.{scope_cells, opened_cells, instance_cells, children, roots, numbers_from}
+use Rattle.plan_filling.proofs.ListLemmas.{has_left, has_right}
 use Rattle.plan_filling.specs.Rows.{Row, fresh, row_at, with_status, with_value}
 use Rattle.plan_table.specs.declared.line.Line.{Line}
 use Rattle.plan_table.specs.declared.line.Spot.{Spot}

@@ -5,9 +5,9 @@ use Rattle.std.specs.Prelude.{MatchOption}
 use Rattle.arm_value.specs.View.{json}
 use Rattle.deploy_cells.specs.Cells.{Step, step, Position, Cell, parameter, variable, offered, output, count, included}
 use Rattle.deploy_cells.specs.Cells.{name, deployments, state, copies}
-use Rattle.plan_cells.specs.Meaning.{Deployment}
-use Rattle.plan_cells.specs.Desired.{is_state}
-use Rattle.plan_cells.specs.Children.{Has, parameter_names, variable_names, output_names}
+use Rattle.plan_filling.specs.Meaning.{Deployment}
+use Rattle.plan_filling.specs.Desired.{is_state}
+use Rattle.plan_filling.specs.Children.{Has, parameter_names, variable_names, output_names}
 use Rattle.plan_table.specs.declared.table.Table.{Table}
 use Rattle.plan_table.specs.declared.line.Line.{Line}
 use Rattle.plan_table.specs.declared.line.Spot.{Spot}

@@ -3,7 +3,7 @@ use Rattle.std.proofs.Common.{◌≡◌, ℕ, zero, suc, ◌<◌, List, [], ◌�
 use Rattle.std.proofs.Common.{arith}
 use Rattle.std.proofs.lemmas.List.{get_or-map, length-map}
 use Rattle.std.specs.Prelude.{slice_get}
-use Rattle.plan_cells.specs.Resources as cells
+use Rattle.plan_filling.specs.Resources as cells
 use Rattle.plan_table.specs.declared.frame.Frame.{Frame}
 use Rattle.plan_table.specs.declared.listed.Listed.{Listed}
 use Rattle.plan_table.specs.Listed.{listed_of}

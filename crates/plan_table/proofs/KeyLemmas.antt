@@ -13,7 +13,7 @@ use Rattle.std.specs.BTreeMap.{get, is_at, Updates}
 use Rattle.std.specs.Map.{lookup}
 use Rattle.deploy_cells.specs.Cells.{Step, step, Position, Cell, parameter, variable, offered, output, count, included}
 use Rattle.deploy_cells.specs.Cells.{name, deployments, state}
-use Rattle.plan_cells.specs.Desired.{is_state}
+use Rattle.plan_filling.specs.Desired.{is_state}
 use Rattle.plan_table.specs.declared.line.Line.{Line}
 use Rattle.plan_table.specs.declared.line.Spot.{Spot}
 use Rattle.plan_table.specs.declared.line.Spot.TheVariants.{Parameter, Variable, Offered, Output, Count, Included}

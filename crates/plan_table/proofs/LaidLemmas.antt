@@ -9,9 +9,9 @@ use Rattle.arm_value.specs.View.{json}
 use Rattle.arm_value.specs.declared.value.Value.{Value}
 use Rattle.arm_ids.specs.declared.id.ResourceId.{ResourceId}
 use Rattle.deploy_cells.specs.Cells.{step, Cell, copies, deployments}
-use Rattle.plan_cells.specs.Resources.{Nested, nested_at}
-use Rattle.plan_cells.specs.Meaning.{Deployment}
-use Rattle.plan_cells.specs.Children.{Has}
+use Rattle.plan_filling.specs.Resources.{Nested, nested_at}
+use Rattle.plan_filling.specs.Meaning.{Deployment}
+use Rattle.plan_filling.specs.Children.{Has}
 use Rattle.plan_filling.specs.Rows.{Status, Row, fresh, row_at, with_status}
 use Rattle.plan_table.specs.declared.line.Line.{Line}
 use Rattle.plan_table.specs.declared.line.Spot.{Spot}

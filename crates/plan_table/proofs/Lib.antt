@@ -12,3 +12,4 @@ pub mod StepLemmas
 pub mod OpenLemmas
 pub mod CountLemmas
 pub mod HaltLemmas
+pub use Rattle.plan_filling.proofs.RowLemmas

@@ -6,8 +6,8 @@ use Rattle.std.proofs.lemmas.List.{length-map}
 use Rattle.template_tree.specs.Tree.{ResourceTree, resource, Trees, no_resources, a_resource, trees}
 use Rattle.template_tree.specs.View.{resource_tree}
 use Rattle.template_tree.specs.declared.resource.Resource.{Resource}
-use Rattle.plan_cells.specs.Resources as cells
-use Rattle.plan_cells.specs.Resources.{Above, above_by, tree_count, trees_count, listed_tree, listed_trees}
+use Rattle.plan_filling.specs.Resources as cells
+use Rattle.plan_filling.specs.Resources.{Above, above_by, tree_count, trees_count, listed_tree, listed_trees}
 use Rattle.plan_table.specs.declared.listed.Listed.{Listed}
 use Rattle.plan_table.specs.Listed.{listed_of}
 

@@ -8,8 +8,8 @@ use Rattle.std.specs.declared.vec.Vec.{Vec}
 use Rattle.std.specs.declared.alloc.Global.{Global}
 use Rattle.std.specs.BTreeMap.{get}
 use Rattle.arm_value.specs.Look.{fold}
-use Rattle.plan_cells.specs.Meaning.{Deployment}
-use Rattle.plan_cells.specs.Children.{parameter_names, variable_names, output_names}
+use Rattle.plan_filling.specs.Meaning.{Deployment}
+use Rattle.plan_filling.specs.Children.{parameter_names, variable_names, output_names}
 use Rattle.plan_filling.specs.Rows.{with_status}
 use Rattle.plan_table.specs.declared.frame.Frame.{Frame}
 use Rattle.plan_table.specs.declared.line.Line.{Line}

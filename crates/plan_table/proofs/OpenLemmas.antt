@@ -8,10 +8,10 @@ use Rattle.reading.specs.World.{Each}
 use Rattle.arm_value.specs.View.{json}
 use Rattle.arm_value.specs.declared.value.Value.{Value}
 use Rattle.deploy_cells.specs.Cells.{copies}
-use Rattle.plan_cells.specs.Resources as cells
-use Rattle.plan_cells.specs.Resources.{Nested, nested_in}
-use Rattle.plan_cells.specs.Meaning.{Deployment}
-use Rattle.plan_cells.specs.Children.{children, roots}
+use Rattle.plan_filling.specs.Resources as cells
+use Rattle.plan_filling.specs.Resources.{Nested, nested_in}
+use Rattle.plan_filling.specs.Meaning.{Deployment}
+use Rattle.plan_filling.specs.Children.{children, roots}
 use Rattle.plan_filling.specs.Rows.{row_at, with_status, with_value, fresh}
 use Rattle.template_parameters.specs.Binding.{bound_view}
 use Rattle.template_tree.specs.View.{template_tree}

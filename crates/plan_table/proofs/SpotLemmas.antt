@@ -5,9 +5,9 @@ use Rattle.std.proofs.lemmas.List.{map-append}
 use Rattle.std.specs.Prelude.{slice_get, if◌then◌else◌}
 use Rattle.reading.specs.World.{Each}
 use Rattle.deploy_cells.specs.Cells.{Step, step, Cell}
-use Rattle.plan_cells.specs.Resources.{Listed}
-use Rattle.plan_cells.specs.Children.{Has, numbers_from, steps}
-use Rattle.plan_cells.proofs.ListLemmas.{has_left, has_right}
+use Rattle.plan_filling.specs.Resources.{Listed}
+use Rattle.plan_filling.specs.Children.{Has, numbers_from, steps}
+use Rattle.plan_filling.proofs.ListLemmas.{has_left, has_right}
 use Rattle.plan_table.specs.declared.line.Spot.{Spot}
 use Rattle.plan_table.specs.declared.line.Spot.TheVariants.{Parameter, Variable, Offered, Output, Count, Included}
 use Rattle.plan_table.specs.declared.line.Spot.TheVariants.{Name, Deployments}

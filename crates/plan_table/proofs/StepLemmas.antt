@@ -16,9 +16,9 @@ use Rattle.template_tree.specs.declared.resource.Body.{Body}
 use Rattle.template_tree.specs.declared.resource.Body.TheVariants.{Members, Deployment}
 use Rattle.template_tree.specs.declared.resource.Deployment as code
 use Rattle.arm_value.specs.Json.{Member}
-use Rattle.plan_cells.specs.Resources as cells
-use Rattle.plan_cells.specs.Resources.{Nested, nested_at, nested_in, resource_at}
-use Rattle.plan_cells.specs.Meaning as meaning
+use Rattle.plan_filling.specs.Resources as cells
+use Rattle.plan_filling.specs.Resources.{Nested, nested_at, nested_in, resource_at}
+use Rattle.plan_filling.specs.Meaning as meaning
 use Rattle.plan_filling.specs.Rows.{Row}
 use Rattle.plan_table.specs.declared.frame.Frame.{Frame}
 use Rattle.plan_table.specs.declared.line.Line.{Line}

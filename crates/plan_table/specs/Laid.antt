@@ -3,8 +3,8 @@ use Rattle.std.specs.Prelude.{◌≡◌, ◌⊎◌, ℕ, ◌<◌, List, [], ◌�
 use Rattle.arm_value.specs.Json.{Json}
 use Rattle.arm_value.specs.View.{json}
 use Rattle.deploy_cells.specs.Cells.{step, copies}
-use Rattle.plan_cells.specs.Resources.{Nested, nested_at}
-use Rattle.plan_cells.specs.Meaning.{Deployment}
+use Rattle.plan_filling.specs.Resources.{Nested, nested_at}
+use Rattle.plan_filling.specs.Meaning.{Deployment}
 use Rattle.plan_table.specs.declared.line.Line.{Line}
 use Rattle.plan_table.specs.declared.line.Spot.{Spot}
 use Rattle.plan_table.specs.declared.line.Spot.TheVariants.{Parameter, Variable, Offered, Output, Count, Included}

@@ -7,3 +7,5 @@ pub mod Laid
 pub mod Whole
 pub mod Found
 pub mod Counted
+pub use Rattle.plan_filling.specs.Rows
+pub use Rattle.plan_filling.specs.Sound

@@ -5,8 +5,8 @@ use Rattle.arm_value.specs.View.{json}
 use Rattle.arm_value.specs.declared.value.Value.{Value}
 use Rattle.deploy_cells.specs.Cells.{Step, step, Position, Cell, parameter, variable, offered, output, count, included}
 use Rattle.deploy_cells.specs.Cells.{name, deployments, state}
-use Rattle.plan_cells.specs.Resources.{Listed}
-use Rattle.plan_cells.specs.Children.{parameter_names, variable_names, output_names}
+use Rattle.plan_filling.specs.Resources.{Listed}
+use Rattle.plan_filling.specs.Children.{parameter_names, variable_names, output_names}
 use Rattle.plan_filling.specs.Rows as rows
 use Rattle.plan_filling.specs.Rows.{Status, Row}
 use Rattle.plan_table.specs.declared.line.Line.{Line}

@@ -1,8 +1,8 @@
 -- What the resources that are listed by the code are.
 use Rattle.std.specs.Prelude.{option_map}
 use Rattle.template_tree.specs.View.{body_tree}
-use Rattle.plan_cells.specs.Resources as cells
-use Rattle.plan_cells.specs.Resources.{Above}
+use Rattle.plan_filling.specs.Resources as cells
+use Rattle.plan_filling.specs.Resources.{Above}
 use Rattle.plan_table.specs.declared.listed.Listed.{Listed}
 use Rattle.plan_table.specs.declared.listed.Parent.{Parent}
 

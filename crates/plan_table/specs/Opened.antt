@@ -6,10 +6,10 @@ use Rattle.template_parts.specs.declared.mode.Form.TheVariants.{One}
 use Rattle.template_tree.specs.Tree.{TemplateTree, template, no_resources}
 use Rattle.template_tree.specs.View.{template_tree}
 use Rattle.deploy_cells.specs.Cells.{Step, step, Position}
-use Rattle.plan_cells.specs.Resources.{Listed, Nested, resources_in}
-use Rattle.plan_cells.specs.Scopes.{template_at, owner, loops_around, loop_of, is_outer_scope}
-use Rattle.plan_cells.specs.Meaning as meaning
-use Rattle.plan_cells.specs.Meaning.{is_own}
+use Rattle.plan_filling.specs.Resources.{Listed, Nested, resources_in}
+use Rattle.plan_filling.specs.Scopes.{template_at, owner, loops_around, loop_of, is_outer_scope}
+use Rattle.plan_filling.specs.Meaning as meaning
+use Rattle.plan_filling.specs.Meaning.{is_own}
 use Rattle.template_tree.specs.declared.resource.Deployment.{Deployment}
 use Rattle.plan_table.specs.declared.frame.Frame.{Frame}
 use Rattle.plan_table.specs.declared.frame.Instance.{Instance}

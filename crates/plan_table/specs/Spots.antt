@@ -2,8 +2,8 @@
 use Rattle.std.specs.Prelude.{ℕ, zero, suc, Bool, true, false, List, [], ◌∷◌, ◌++◌, length, slice_get, Option, Some}
 use Rattle.std.specs.Prelude.{None}
 use Rattle.std.specs.Prelude.{if◌then◌else◌}
-use Rattle.plan_cells.specs.Resources.{Listed}
-use Rattle.plan_cells.specs.Children.{parameter_names, variable_names, output_names}
+use Rattle.plan_filling.specs.Resources.{Listed}
+use Rattle.plan_filling.specs.Children.{parameter_names, variable_names, output_names}
 use Rattle.plan_table.specs.declared.line.Spot.{Spot}
 use Rattle.plan_table.specs.declared.line.Spot.TheVariants.{Parameter, Variable, Offered, Output, Count, Included}
 use Rattle.plan_table.specs.declared.line.Spot.TheVariants.{Name, Deployments}

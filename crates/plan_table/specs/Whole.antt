@@ -2,7 +2,7 @@
 use Rattle.std.specs.Prelude.{List, map}
 use Rattle.template_parameters.specs.Binding.{bound_view}
 use Rattle.template_tree.specs.View.{template_tree}
-use Rattle.plan_cells.specs.Meaning.{Deployment}
+use Rattle.plan_filling.specs.Meaning.{Deployment}
 use Rattle.plan_filling.specs.Rows.{Row}
 use Rattle.plan_table.specs.declared.table.Table.{Table}
 use Rattle.plan_table.specs.Opened.{Opened, opened_of}

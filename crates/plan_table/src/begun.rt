@@ -3,7 +3,7 @@ ghost use Rattle.std.specs.Prelude.{◌≡◌, ◌≤◌, ◌^◌, ◌∷◌, []
 ghost use Rattle.reading.specs.World.{Each};
 ghost use Rattle.template_parameters.specs.Binding.{bound_view};
 ghost use Rattle.template_tree.specs.View.{template_tree};
-ghost use Rattle.plan_cells.specs.Children.{roots};
+ghost use Rattle.plan_filling.specs.Children.{roots};
 ghost use Rattle.plan_filling.specs.Rows.{fresh};
 ghost use Rattle.plan_table.specs.Opened.{opened_of};
 ghost use Rattle.plan_table.specs.Lines.{IsPlaced, new_line};

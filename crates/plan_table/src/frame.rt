@@ -1,9 +1,9 @@
 // The frames of a table: each is a scope that is there.
 ghost use Rattle.std.specs.Prelude.{◌≡◌, ◌∷◌, ◌++◌, ◌<◌, [], IfOk, Some, map, not, length, slice_get};
 ghost use Rattle.template_tree.specs.View.{template_tree};
-ghost use Rattle.plan_cells.specs.Resources as cells;
-ghost use Rattle.plan_cells.specs.Resources.{resources_in};
-ghost use Rattle.plan_cells.specs.Scopes.{is_outer_scope, loop_at};
+ghost use Rattle.plan_filling.specs.Resources as cells;
+ghost use Rattle.plan_filling.specs.Resources.{resources_in};
+ghost use Rattle.plan_filling.specs.Scopes.{is_outer_scope, loop_at};
 ghost use Rattle.plan_table.specs.Opened.{opened_of, root_of, inside_of, step_of, nested_view, owner_inside};
 ghost use Rattle.plan_table.specs.Opened.{loops_within};
 

@@ -2,7 +2,7 @@
 ghost use Rattle.std.specs.Prelude.{◌≡◌, ◌++◌, ◌∷◌, [], IfOk, map, length, option_map, Some, chars, string_bytes};
 ghost use Rattle.template_tree.specs.Tree.{trees};
 ghost use Rattle.template_tree.specs.View.{resource_tree, body_tree, template_tree};
-ghost use Rattle.plan_cells.specs.Resources.{listed_at, listed_tree, listed_trees, resources_in, type_under};
+ghost use Rattle.plan_filling.specs.Resources.{listed_at, listed_tree, listed_trees, resources_in, type_under};
 ghost use Rattle.plan_table.specs.Listed.{above_of, listed_of};
 
 use arm_value::{OutOfMemory, Text};

@@ -3,7 +3,7 @@ ghost use Rattle.std.specs.Prelude.{◌≡◌, ◌∷◌, ◌<◌, ℕ, IfOk, Ma
 ghost use Rattle.arm_value.specs.Look.{fold};
 ghost use Rattle.deploy_cells.specs.Cells.{step, parameter, variable, offered, output, count, included, name};
 ghost use Rattle.deploy_cells.specs.Cells.{deployments};
-ghost use Rattle.plan_cells.specs.Children.{Has, parameter_names, variable_names, output_names};
+ghost use Rattle.plan_filling.specs.Children.{Has, parameter_names, variable_names, output_names};
 ghost use Rattle.plan_table.specs.Lines.{IsNumber};
 ghost use Rattle.plan_table.specs.Whole.{IsLaid};
 ghost use Rattle.plan_table.specs.Found.{scope_at, HasCell, IsLineOf, state_at, Counts, IsTrueLine};

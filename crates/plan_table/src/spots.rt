@@ -1,7 +1,7 @@
 // The spots of the cells that a scope has, and of those that the instances of a resource have.
 ghost use Rattle.std.specs.Prelude.{◌≡◌, ◌++◌, ◌∷◌, [], IfOk, OnOk, map, length, if◌then◌else◌};
 ghost use Rattle.plan_table.specs.declared.line.Spot.TheVariants.{Parameter, Variable, Offered, Count, Included, Name};
-ghost use Rattle.plan_cells.specs.Children.{parameter_names, variable_names, output_names};
+ghost use Rattle.plan_filling.specs.Children.{parameter_names, variable_names, output_names};
 ghost use Rattle.plan_table.specs.Listed.{listed_of};
 ghost use Rattle.plan_table.specs.Opened.{opened_of};
 ghost use Rattle.plan_table.specs.Spots.{below, counts_below, own_spots, scope_spots, instance_spots};

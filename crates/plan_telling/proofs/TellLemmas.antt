@@ -34,7 +34,7 @@ use Rattle.plan_sight.specs.declared.lack.Lack.TheVariants as lack
 use Rattle.plan_sight.specs.Ready.{IsReady, told_in}
 use Rattle.plan_sight.specs.Seen.{Lacks, Stops, Yields}
 use Rattle.plan_sight.proofs.LookLemmas.{scope_is, scopes_there}
-use Rattle.plan_nested.proofs.SeekLemmas.{read_stops}
+use Rattle.plan_places.proofs.SeekLemmas.{read_stops}
 use Rattle.plan_sights.specs.Resolved.{stop_of, IsResolved}
 use Rattle.plan_sights.specs.Seats.{Seat, seat_of, site_of, seen_in, known_in}
 use Rattle.plan_sights.proofs.FollowLemmas.{resolved}

@@ -24,11 +24,11 @@ use arm_env::cell::Cell;
 use arm_env::stop::{Stop, let_go};
 use arm_ids::{Key, Place};
 use arm_value::Text;
-use plan_names::look::look_named;
-use plan_nested::look::{look_deployment, look_output};
-use plan_nested::outputs::look_outputs;
+use plan_places::look::{look_deployment, look_output};
+use plan_places::outputs::look_outputs;
 use plan_sight::lack::Lack;
 use plan_sight::look::{look_parameter, look_variable};
+use plan_sights::look::look_named;
 use std::alloc::Global;
 
 // What is missing to a reading that needs what a look lacks.

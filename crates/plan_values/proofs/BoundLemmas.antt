@@ -49,7 +49,7 @@ use Rattle.plan_sight.specs.declared.lack.Lack.{Lack}
 use Rattle.plan_sight.specs.Ready.{IsReady, told_in}
 use Rattle.plan_sight.specs.Seen.{Shows, Yields}
 use Rattle.plan_sight.proofs.LookLemmas.{status_at, scope_is}
-use Rattle.plan_places.proofs.PlaceLemmas.{admitted_by, around_there, position_around}
+use Rattle.plan_telling.proofs.PlaceLemmas.{admitted_by, around_there, position_around}
 use Rattle.plan_values.specs.Values.{IsOpener, argument_at, argument_value, instance_site}
 use Rattle.plan_nested.proofs.SeekLemmas.{resource_is}
 use Rattle.plan_values.proofs.RawLemmas.{shown, not_there}

@@ -26,7 +26,7 @@ use Rattle.plan_sight.specs.Seen.{Stops, Yields}
 use Rattle.plan_sight.proofs.LookLemmas.{scopes_there}
 use Rattle.plan_nested.proofs.InvertLemmas.{read_known}
 use Rattle.plan_nested.proofs.SeekLemmas.{read_goes, read_stops}
-use Rattle.plan_names.specs.Named.{IsCopy}
+use Rattle.plan_deployments.specs.Named.{IsCopy}
 use Rattle.plan_values.specs.Values.{own_name, name_above, first_name}
 use Rattle.plan_values.proofs.SiteLemmas.{resource_numbered}
 use Rattle.plan_sight.proofs.ToldLemmas.{told_pure, told_done}

@@ -11,3 +11,5 @@ pub mod names;
 pub mod parameters;
 pub mod scopes;
 pub mod values;
+
+pub use plan_telling::{register, source};

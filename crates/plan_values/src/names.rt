@@ -15,7 +15,7 @@ ghost use Rattle.plan_table.specs.Found.{scope_at};
 ghost use Rattle.plan_table.specs.Whole.{whole_of};
 ghost use Rattle.plan_sight.specs.Ready.{IsReady, told_in};
 ghost use Rattle.plan_sight.specs.Seen.{Shows, Yields};
-ghost use Rattle.plan_names.specs.Named.{IsCopy};
+ghost use Rattle.plan_deployments.specs.Named.{IsCopy};
 ghost use Rattle.plan_telling.specs.Symbols.{IsComplete};
 ghost use Rattle.plan_values.specs.Values.{IsSpot, told_raw, own_name, name_above};
 

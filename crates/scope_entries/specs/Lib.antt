@@ -1,1 +1,2 @@
 pub mod Entries
+pub use Rattle.point_cells.specs.RawNow

@@ -8,3 +8,5 @@ pub mod answer;
 pub mod keeping;
 pub mod lines;
 pub mod settling;
+
+pub use point_cells::values;

@@ -37,7 +37,7 @@ use Rattle.point_rows.specs.declared.later.Entry.TheVariants as entry
 use Rattle.point_rows.specs.declared.later.Later.{Later}
 use Rattle.point_rows.specs.Rows.{told_now}
 use Rattle.point_rows.proofs.ToldNowLemmas.{goes, told_pure}
-use Rattle.point_cells.specs.RawNow.{raw_now}
+use Rattle.scope_entries.specs.RawNow.{raw_now}
 use Rattle.scope_entries.specs.Entries.{plain_now}
 use Rattle.scope_entries.proofs.AnswerNowLemmas.{not_nothing, meets, breaks, stop_told}
 use Rattle.scope_outputs.specs.Outputs.{position_of, names_of, reading_of, IsOffered}

@@ -16,7 +16,7 @@ ghost use Rattle.plan_telling.specs.Symbols.{IsComplete};
 ghost use Rattle.plan_values.specs.Values.{IsSpot};
 ghost use Rattle.point_rows.specs.declared.later.Later.{Later};
 ghost use Rattle.point_rows.specs.Rows.{told_now, IsFit};
-ghost use Rattle.point_cells.specs.RawNow.{raw_now};
+ghost use Rattle.scope_entries.specs.RawNow.{raw_now};
 ghost use Rattle.scope_entries.specs.Entries.{plain_now};
 ghost use Rattle.scope_outputs.specs.Outputs.{names_of, position_of, reading_of, IsOffered};
 
@@ -26,8 +26,8 @@ use plan_sight::lack::Lack;
 use plan_sight::rules::is_of;
 use plan_telling::register::Register;
 use plan_values::declared::output_at;
-use point_cells::values::{offered_told, output_told};
 use point_rows::later::{Entry, Later};
+use scope_entries::values::{offered_told, output_told};
 use std::alloc::Global;
 
 /// An output as it was told: the line of its condition, and its value or that its condition is false.

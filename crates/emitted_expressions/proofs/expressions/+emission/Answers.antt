@@ -2,8 +2,8 @@ use Rattle.std.proofs.Common.{◌+◌, ap, map, drop}
 use Rattle.std.proofs.lemmas.List.{drop_all}
 use Rattle.arm_expr.specs.Tree.{text}
 use Rattle.bicep_resolved.specs.View.{source_of, piece_of, property_of, sources, pieces, properties}
-use Rattle.bicep_emission.specs.Emitted as e
-use Rattle.bicep_emission.specs.Texts.{format_text}
+use Rattle.emitted_parts.specs.Emitted as e
+use Rattle.emitted_parts.specs.Texts.{format_text}
 use Rattle.emitted_parts.proofs.BuiltLemmas.{grown, grown_twice, all_grown, one_grown}
 use Rattle.emitted_expressions.specs.Sight.{frames_of}
 use Rattle.emitted_expressions.specs.Values as spec

@@ -1,7 +1,7 @@
 use Rattle.std.proofs.Common.{◌≡◌, map, drop}
 use Rattle.arm_expr.specs.View.{tree_of}
 use Rattle.bicep_resolved.specs.View.{source_of, piece_of, property_of, sources, pieces, properties}
-use Rattle.bicep_emission.specs.Emitted as e
+use Rattle.emitted_parts.specs.Emitted as e
 use Rattle.emitted_parts.proofs.BuiltLemmas.{onto}
 use Rattle.emitted_expressions.specs.Sight.{frames_of}
 use Rattle.emitted_expressions.specs.Values as spec

@@ -1,7 +1,7 @@
 use Rattle.std.proofs.Common.{◌≡◌, subst}
 use Rattle.arm_expr.specs.Tree.{index}
 use Rattle.arm_expr.specs.View.{tree_of}
-use Rattle.bicep_emission.specs.Emitted.{element}
+use Rattle.emitted_parts.specs.Emitted.{element}
 use Rattle.emitted_parts.specs.Built.{Is}
 use Rattle.emitted_expressions.proofs.FrameLemmas.{one_frame}
 use Rattle.emitted_expressions.proofs.turns.element.Goals as goal

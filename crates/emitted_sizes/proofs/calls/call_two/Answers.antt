@@ -1,5 +1,5 @@
 use Rattle.arm_expr.specs.Tree.{none}
-use Rattle.bicep_emission.specs.Emitted.{one, two}
+use Rattle.emitted_parts.specs.Emitted.{one, two}
 use Rattle.emitted_sizes.proofs.calls.call_two.Goals as goal
 
 pub returns : goal.returns

@@ -1,4 +1,4 @@
-use Rattle.bicep_emission.specs.Emitted.{small}
+use Rattle.emitted_parts.specs.Emitted.{small}
 use Rattle.emitted_sizes.proofs.SizeLemmas.{also, lowered_there}
 use Rattle.emitted_sizes.proofs.operators.applied_to_operands.Goals as goal
 

@@ -1,6 +1,6 @@
 use Rattle.std.proofs.Common.{codes, refl}
 use Rattle.arm_expr.specs.Tree.{text, call}
-use Rattle.bicep_emission.specs.Emitted.{two}
+use Rattle.emitted_parts.specs.Emitted.{two}
 use Rattle.emitted_sizes.proofs.states.deployment.Goals as goal
 use Rattle.arm_ids.specs.Members.{deployment_type}
 

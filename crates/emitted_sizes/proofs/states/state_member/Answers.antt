@@ -1,6 +1,6 @@
 use Rattle.std.proofs.Common.{codes, refl}
 use Rattle.arm_expr.specs.Tree.{text, call}
-use Rattle.bicep_emission.specs.Emitted.{three}
+use Rattle.emitted_parts.specs.Emitted.{three}
 use Rattle.emitted_sizes.proofs.states.state_member.Goals as goal
 
 pub returns : goal.returns

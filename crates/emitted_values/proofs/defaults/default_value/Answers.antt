@@ -1,6 +1,6 @@
 use Rattle.std.proofs.Common.{◌≤◌, [], sym, subst}
 use Rattle.bicep_resolved.specs.View.{source_of}
-use Rattle.declared_table.specs.Seen.{sight}
+use Rattle.filled_tables.specs.Seen.{sight}
 use Rattle.filled_tables.specs.Filled.{emission_sight}
 use Rattle.tree_building.specs.Depth.{depth}
 use Rattle.tree_building.specs.Each.{AreSmall}

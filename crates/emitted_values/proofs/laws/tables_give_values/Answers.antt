@@ -1,4 +1,4 @@
-use Rattle.declared_table.specs.Seen.{sight}
+use Rattle.filled_tables.specs.Seen.{sight}
 use Rattle.filled_tables.specs.Filled.{emission_sight}
 use Rattle.emitted_values.proofs.laws.tables_give_values.Goals as goal
 

@@ -1,5 +1,5 @@
 use Rattle.bicep_resolved.specs.View.{value_of}
-use Rattle.declared_table.specs.Seen.{file_in, files_in}
+use Rattle.filled_tables.specs.Seen.{file_in, files_in}
 use Rattle.emitted_values.proofs.PartLemmas.{is_variable}
 use Rattle.emitted_values.proofs.variables.variable.Goals as goal
 

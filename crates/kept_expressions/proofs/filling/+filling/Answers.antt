@@ -2,7 +2,7 @@ use Rattle.std.proofs.Common.{◌+◌, ap, map, drop, sym, ◌∙◌}
 use Rattle.std.proofs.lemmas.List.{drop_all}
 use Rattle.arm_expr.specs.Tree.{call, trees}
 use Rattle.arm_expr.specs.View.{tree_of}
-use Rattle.emission_laws.specs.Holes.{fill, fill_all, in_hole}
+use Rattle.measured_holes.specs.Holes.{fill, fill_all, in_hole}
 use Rattle.emitted_parts.proofs.BuiltLemmas.{grown, all_grown, is_also}
 use Rattle.foundation.proofs.Lists.{next_item}
 use Rattle.kept_expressions.proofs.FillingLemmas.{hole_filled, call_filled}

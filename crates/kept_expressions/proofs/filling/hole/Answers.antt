@@ -2,7 +2,7 @@ use Rattle.std.proofs.Common.{sym, ◌∙◌}
 use Rattle.arm_expr.specs.Tree.{trees}
 use Rattle.arm_expr.specs.View.{tree_of}
 use Rattle.std.proofs.Common.{map}
-use Rattle.emission_laws.specs.Holes.{in_hole}
+use Rattle.measured_holes.specs.Holes.{in_hole}
 use Rattle.emitted_parts.proofs.BuiltLemmas.{is_also}
 use Rattle.kept_expressions.proofs.FillingLemmas.{item_in, index_in}
 use Rattle.kept_expressions.proofs.filling.hole.Goals as goal

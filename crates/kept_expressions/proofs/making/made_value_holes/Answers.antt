@@ -1,7 +1,7 @@
 use Rattle.std.proofs.Common.{◌≡◌, ◌∷◌, [], ap, sym, subst, ◌∙◌}
 use Rattle.std.specs.Prelude.{IfOk}
 use Rattle.bicep_resolved.specs.View.{value_of}
-use Rattle.emission_laws.specs.Holes.{fill, holes}
+use Rattle.measured_holes.specs.Holes.{fill, holes}
 use Rattle.emitted_expressions.specs.Sight.{frames_of}
 use Rattle.emitted_expressions.specs.Values as spec
 use Rattle.emitted_parts.specs.Built.{Is}

@@ -4,7 +4,7 @@ use Rattle.bicep_emission.specs.Emitted.{Frame}
 use Rattle.emission_laws.specs.Holes.{fill}
 use Rattle.emitted_sizes.specs.Extent.{IsOf}
 use Rattle.emitted_sizes.specs.declared.extent.Extent.{Extent}
-use Rattle.measured_holes.specs.Probes.{deep, wide, probe}
+use Rattle.kept_expressions.specs.Probes.{deep, wide, probe}
 use Rattle.kept_parts.proofs.frames.part_holed.Goals as goal
 
 pub returns : goal.returns

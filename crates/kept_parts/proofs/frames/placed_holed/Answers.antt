@@ -3,7 +3,7 @@ use Rattle.bicep_emission.specs.Emitted.{Frame}
 use Rattle.emission_laws.specs.Holes.{fill}
 use Rattle.emitted_sizes.specs.Extent.{IsOf}
 use Rattle.emitted_sizes.specs.declared.extent.Extent.{Extent}
-use Rattle.measured_holes.specs.Probes.{deep, wide, probe}
+use Rattle.kept_expressions.specs.Probes.{deep, wide, probe}
 use Rattle.kept_parts.specs.Frames.{fill_frame}
 use Rattle.kept_parts.proofs.FrameLemmas.{filled_twice}
 use Rattle.kept_parts.proofs.frames.placed_holed.Goals as goal

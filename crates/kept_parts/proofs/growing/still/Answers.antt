@@ -2,7 +2,7 @@ use Rattle.std.proofs.Common.{◌+◌, sym, subst}
 use Rattle.bicep_emission.specs.Emitted.{Frame}
 use Rattle.emission_laws.specs.Holes.{fill}
 use Rattle.emitted_sizes.specs.Extent.{IsOf, bounded}
-use Rattle.measured_holes.specs.Probes.{deep, wide, probe}
+use Rattle.kept_expressions.specs.Probes.{deep, wide, probe}
 use Rattle.kept_parts.proofs.growing.still.Goals as goal
 
 pub returns : goal.returns

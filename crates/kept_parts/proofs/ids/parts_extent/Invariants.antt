@@ -3,7 +3,7 @@ use Rattle.arm_expr.specs.Tree.{Tree, text, trees, more}
 use Rattle.bicep_emission.specs.Emitted.{Frame}
 use Rattle.emission_laws.specs.Holes.{fill}
 use Rattle.emitted_sizes.specs.Extent.{IsOf, Begins}
-use Rattle.measured_expressions.specs.Spans.{IsSpan}
+use Rattle.kept_expressions.specs.Spans.{IsSpan}
 use Rattle.kept_expressions.specs.Kept.{AreKeptHoles}
 use Rattle.kept_parts.proofs.ids.parts_extent.Given as goal
 

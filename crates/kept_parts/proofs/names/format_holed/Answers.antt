@@ -3,7 +3,7 @@ use Rattle.arm_expr.specs.Tree.{text, call}
 use Rattle.bicep_emission.specs.Emitted.{two}
 use Rattle.emission_laws.specs.Holes.{fill, index_hole}
 use Rattle.emitted_sizes.specs.Extent.{IsOf}
-use Rattle.measured_holes.specs.Probes.{deep, wide, probe}
+use Rattle.kept_expressions.specs.Probes.{deep, wide, probe}
 use Rattle.kept_parts.proofs.names.format_holed.Goals as goal
 
 pub returns : goal.returns

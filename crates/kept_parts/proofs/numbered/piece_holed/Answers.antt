@@ -3,7 +3,7 @@ use Rattle.bicep_emission.specs.Emitted.{Frame}
 use Rattle.emission_laws.specs.Holes.{fill}
 use Rattle.emitted_sizes.specs.Extent.{IsOf}
 use Rattle.emitted_sizes.specs.declared.extent.Extent.{Extent}
-use Rattle.measured_holes.specs.Probes.{deep, wide, probe}
+use Rattle.kept_expressions.specs.Probes.{deep, wide, probe}
 use Rattle.kept_parts.specs.Pieces.{piece_of}
 use Rattle.kept_parts.proofs.PieceLemmas.{piece_filled}
 use Rattle.kept_parts.proofs.numbered.piece_holed.Goals as goal

@@ -6,7 +6,7 @@ use Rattle.plan_cells.specs.Sites.{reading_at}
 use Rattle.plan_table.specs.Whole.{whole_of}
 use Rattle.plan_sight.specs.Ready.{told_in}
 use Rattle.plan_sight.specs.Seen.{Yields}
-use Rattle.plan_telling.specs.Sources.{texts_in}
+use Rattle.plan_values.specs.Sources.{texts_in}
 use Rattle.plan_values.proofs.SiteLemmas.{body_site_is}
 use Rattle.plan_needs.proofs.InstanceLemmas.{few}
 use Rattle.plan_elements.proofs.elements.element_told.Goals as goal

@@ -2,7 +2,7 @@ use Rattle.std.proofs.Common.{◌≡◌, ◌+◌, ◌*◌, ◌++◌, drop, map, 
 use Rattle.std.specs.Prelude.{option_map}
 use Rattle.template_tree.specs.Tree.{trees, trees_depth, tree_depth}
 use Rattle.template_tree.specs.View.{resource_tree}
-use Rattle.plan_cells.specs.Resources.{listed_trees}
+use Rattle.plan_filling.specs.Resources.{listed_trees}
 use Rattle.plan_table.specs.Listed.{above_of, listed_of}
 use Rattle.plan_table.proofs.listed.+listing.Given as goal
 

@@ -2,7 +2,7 @@ use Rattle.arm_value.specs.View.{json}
 use Rattle.deploy_cells.specs.Cells.{step, name}
 use Rattle.plan_table.specs.Found.{scope_at}
 use Rattle.plan_sight.proofs.LookLemmas.{found_some}
-use Rattle.plan_names.proofs.GatherLemmas.{no_copy}
+use Rattle.plan_deployments.proofs.GatherLemmas.{no_copy}
 use Rattle.plan_values.proofs.names.first_name.Goals as goal
 use Rattle.plan_deployments.proofs.ItemLemmas.{read_of_line}
 

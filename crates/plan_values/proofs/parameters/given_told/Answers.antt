@@ -7,7 +7,7 @@ use Rattle.plan_sight.proofs.LookLemmas.{scopes_there, frames_there}
 use Rattle.plan_table.specs.Lines.{IsNumber}
 use Rattle.plan_table.specs.Opened.{step_of}
 use Rattle.plan_table.specs.Found.{scope_at}
-use Rattle.plan_places.proofs.PlaceLemmas.{around_there}
+use Rattle.plan_telling.proofs.PlaceLemmas.{around_there}
 use Rattle.plan_values.specs.Values.{argument_value}
 use Rattle.plan_values.proofs.BoundLemmas.{opener_number, opener_copy, argument_shown, default_shown}
 use Rattle.plan_values.proofs.BoundLemmas.{given_by_around}

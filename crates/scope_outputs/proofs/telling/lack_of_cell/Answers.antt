@@ -1,6 +1,6 @@
 use Rattle.std.proofs.Common.{subst}
 use Rattle.plan_sight.specs.Seen.{Lacks}
-use Rattle.point_cells.specs.RawNow.{raw_now}
+use Rattle.scope_entries.specs.RawNow.{raw_now}
 use Rattle.scope_entries.proofs.AnswerNowLemmas.{stop_told, waits_told}
 use Rattle.scope_outputs.proofs.TellLemmas.{nothing_lacks}
 use Rattle.scope_outputs.proofs.telling.lack_of_cell.Goals as goal

@@ -1,7 +1,7 @@
 use Rattle.std.proofs.Common.{◌∷◌, [], sym, subst}
 use Rattle.emission_laws.specs.Holes.{holes}
 use Rattle.bicep_meaning.specs.Files.{type_of}
-use Rattle.kept_expressions.specs.Kept.{AreKeptHoles}
+use Rattle.kept_parts.specs.Kept.{AreKeptHoles}
 use Rattle.declared_table.specs.Seen.{file_in, whole_in}
 use Rattle.declared_table.proofs.RunLemmas.{id_measured, no_id_measured}
 use Rattle.declared_table.proofs.table.Table.extent_of_id.Goals as goal

@@ -3,7 +3,7 @@ use Rattle.emission_laws.specs.Holes.{fill, holes, nearest}
 use Rattle.emitted_declarations.specs.Declared.{id_of_parts}
 use Rattle.emitted_parts.specs.Built.{Is}
 use Rattle.emitted_expressions.specs.Sight.{frames_of}
-use Rattle.kept_expressions.specs.Kept.{AreKeptHoles}
+use Rattle.kept_parts.specs.Kept.{AreKeptHoles}
 use Rattle.declared_table.specs.Seen.{file_in, whole_in}
 use Rattle.declared_table.proofs.RunLemmas.{id_built, no_id_built}
 use Rattle.declared_table.proofs.table.Table.id_of.Goals as goal

@@ -3,7 +3,7 @@ use Rattle.std.proofs.Common.{◌≡◌, ℕ, List, Option, Some, None, Bool, tr
 use Rattle.std.specs.Prelude.{◌||◌}
 use Rattle.arm_value.specs.Json.{Json, text}
 use Rattle.arm_expr.specs.Tree.{Tree, Trees, call, member, index}
-use Rattle.arm_functions.specs.Values.{function_value}
+use Rattle.bicep_meaning.specs.Values.{function_value}
 use Rattle.reading.specs.Reading.{done, ask, pure, none, continued, both}
 use Rattle.arm_env.specs.Look as look
 use Rattle.arm_env.specs.Look.{Look, Fact, Looking, Surroundings}

@@ -4,8 +4,8 @@ use Rattle.std.specs.Prelude.{pos, ℤ, option_and_then}
 use Rattle.arm_value.specs.Json.{Json, null, bool, int, text, array, object}
 use Rattle.arm_expr.specs.Tree.{Tree, Trees, call}
 use Rattle.arm_expr.specs.Tree as tree
-use Rattle.arm_functions.specs.Table.{table, row_in}
-use Rattle.arm_functions.specs.Values.{function_value, value_of, of_numbers, of_truth, of_texts, of_lists}
+use Rattle.bicep_meaning.specs.Table.{table, row_in}
+use Rattle.bicep_meaning.specs.Values.{function_value, value_of, of_numbers, of_truth, of_texts, of_lists}
 use Rattle.function_numbers.specs.Logic as logic
 use Rattle.function_numbers.specs.Numbers as number_functions
 use Rattle.function_lists.specs.Members as members

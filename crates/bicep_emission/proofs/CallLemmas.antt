@@ -3,7 +3,7 @@ use Rattle.std.proofs.Common.{◌≡◌, ℕ, List, [], ◌∷◌, Option, Some,
 use Rattle.std.specs.Prelude.{◌||◌}
 use Rattle.arm_value.specs.Json.{Json}
 use Rattle.arm_expr.specs.Tree.{Tree, Trees, call}
-use Rattle.arm_functions.specs.Values.{function_value}
+use Rattle.bicep_meaning.specs.Values.{function_value}
 use Rattle.reading.specs.Reading.{done, pure, continued, both}
 use Rattle.arm_env.specs.Look as look
 use Rattle.arm_env.specs.Look.{Looking, Surroundings}

@@ -8,8 +8,8 @@ use Rattle.arm_ids.specs.Id.{text_of, folded}
 use Rattle.arm_ids.specs.declared.id.ResourceId.{ResourceId}
 use Rattle.arm_expr.specs.Tree.{Tree, Trees, call, member, index, more}
 use Rattle.arm_expr.specs.Tree as tree
-use Rattle.arm_functions.specs.Table.{table, row_in}
-use Rattle.arm_functions.specs.Values.{value_of, of_numbers}
+use Rattle.bicep_meaning.specs.Table.{table, row_in}
+use Rattle.bicep_meaning.specs.Values.{value_of, of_numbers}
 use Rattle.reading.specs.Reading.{done, pure, none, read, continued, both, beside}
 use Rattle.arm_env.specs.declared.env.Looping.{Looping}
 use Rattle.arm_env.specs.Look as look

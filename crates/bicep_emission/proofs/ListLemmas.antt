@@ -7,8 +7,8 @@ use Rattle.foundation.proofs.Comparisons.{le_true, le_of_true}
 use Rattle.arm_value.specs.Json.{Json, text, array, object, row, pairs, put_each, nesting, Member}
 use Rattle.arm_expr.specs.Tree.{Tree, Trees, call, more}
 use Rattle.arm_expr.specs.Tree as tree
-use Rattle.arm_functions.specs.Table.{table, row_in}
-use Rattle.arm_functions.specs.Values.{function_value, value_of, of_lists, of_prints}
+use Rattle.bicep_meaning.specs.Table.{table, row_in}
+use Rattle.bicep_meaning.specs.Values.{function_value, value_of, of_lists, of_prints}
 use Rattle.function_lists.specs.Items.{create_array}
 use Rattle.function_lists.specs.Members.{create_object, paired}
 use Rattle.function_lists.specs.Values as lists

@@ -10,8 +10,8 @@ use Rattle.foundation.proofs.Words.{swapped}
 use Rattle.arm_value.specs.Json.{Json, text}
 use Rattle.arm_value.specs.Look.{fold, is_same_folded, is_among}
 use Rattle.arm_expr.specs.Tree.{Trees, call}
-use Rattle.arm_functions.specs.Table.{row_of}
-use Rattle.arm_functions.specs.Values.{function_value}
+use Rattle.bicep_meaning.specs.Table.{row_of}
+use Rattle.bicep_meaning.specs.Values.{function_value}
 use Rattle.function_numbers.specs.Kinds.{of_none}
 use Rattle.reading.specs.Reading.{done, none, continued}
 use Rattle.arm_env.specs.Look as look

@@ -6,8 +6,8 @@ use Rattle.foundation.proofs.Words.{eq_word}
 use Rattle.arm_value.specs.Json.{Json}
 use Rattle.arm_value.specs.Look.{fold, is_same_folded, is_among}
 use Rattle.arm_ids.specs.declared.id.Place.{Place}
-use Rattle.arm_functions.specs.Table.{Row, table, row_in, row_of}
-use Rattle.arm_functions.specs.Values as functions
+use Rattle.bicep_meaning.specs.Table.{Row, table, row_in, row_of}
+use Rattle.bicep_meaning.specs.Values as functions
 use Rattle.arm_env.specs.Names.{placed_named}
 use Rattle.arm_env.specs.declared.function.Strict.{Strict}
 use Rattle.arm_env.specs.declared.function.Strict.TheVariants as strict

@@ -9,3 +9,5 @@ pub mod Made
 pub use Rattle.bicep_meaning.specs.Declared
 pub use Rattle.bicep_meaning.specs.Files
 pub use Rattle.bicep_meaning.specs.Meaning
+pub use Rattle.bicep_meaning.specs.Around
+pub use Rattle.bicep_meaning.specs.Rows

@@ -5,3 +5,5 @@ pub mod Meaning
 pub mod Declared
 pub mod Instances
 pub use Rattle.bicep_names.specs.Functions
+pub use Rattle.arm_functions.specs.Table
+pub use Rattle.arm_functions.specs.Values

@@ -29,15 +29,15 @@ use Rattle.bicep_resolved.specs.Source as s
 use Rattle.bicep_resolved.specs.Target.{number_of, target_of}
 use Rattle.bicep_declared.specs.Declarations.{BodyTree, DeclaredTree}
 use Rattle.bicep_declared.specs.Declarations as d
-use Rattle.bicep_meaning.specs.Files.{SourceFile, symbol_name, declaration, Parent, no_parent, inside}
+use Rattle.bicep_emission.specs.Files.{SourceFile, symbol_name, declaration, Parent, no_parent, inside}
 use Rattle.bicep_resolved.specs.Source.{field_named}
-use Rattle.bicep_meaning.specs.Files.{below, parent, type_of}
-use Rattle.bicep_meaning.specs.Around as source
-use Rattle.bicep_meaning.specs.Around.{Here}
-use Rattle.bicep_meaning.specs.Rows.{capped, chosen, truth, and_value, conditional_value}
-use Rattle.bicep_meaning.specs.Meaning.{bare, bare_value, frames}
-use Rattle.bicep_meaning.specs.Declared as meaning
-use Rattle.bicep_meaning.specs.Declared.{body_of, body_at, id_named}
+use Rattle.bicep_emission.specs.Files.{below, parent, type_of}
+use Rattle.bicep_emission.specs.Around as source
+use Rattle.bicep_emission.specs.Around.{Here}
+use Rattle.bicep_emission.specs.Rows.{capped, chosen, truth, and_value, conditional_value}
+use Rattle.bicep_emission.specs.Meaning.{bare, bare_value, frames}
+use Rattle.bicep_emission.specs.Declared as meaning
+use Rattle.bicep_emission.specs.Declared.{body_of, body_at, id_named}
 use Rattle.bicep_emission.specs.Alike.{Seen, seen_in}
 use Rattle.bicep_emission.specs.Answered.{Sides, Answers, IsPlainPlace}
 use Rattle.bicep_emission.specs.Emittable.{IsEmittable, IsValue}

@@ -22,7 +22,7 @@ use Rattle.expression_values.proofs.Equations.{texts}
 use Rattle.reading.specs.Reading.{done, pure, none, continued, both}
 use Rattle.reading.specs.World.{value_in}
 use Rattle.deploy_cells.specs.Guarded.{Reads}
-use Rattle.bicep_meaning.specs.Declared.{id_named}
+use Rattle.bicep_emission.specs.Declared.{id_named}
 use Rattle.bicep_emission.specs.Alike.{Seen, seen_in}
 use Rattle.bicep_emission.specs.Answered.{IsPlainPlace, Sides, deployment_types}
 use Rattle.bicep_emission.specs.Made.{made, is_made, made_whole}

@@ -10,9 +10,9 @@ use Rattle.reading.specs.Reading.{pure, continued, both}
 use Rattle.arm_env.specs.Look.{Surroundings}
 use Rattle.expression_values.specs.Meaning.{value}
 use Rattle.deploy_cells.specs.Guarded.{Reads}
-use Rattle.bicep_meaning.specs.Rows.{all, capped}
-use Rattle.bicep_meaning.specs.Meaning.{printed_before, joined}
-use Rattle.bicep_meaning.specs.Declared.{name_after}
+use Rattle.bicep_emission.specs.Rows.{all, capped}
+use Rattle.bicep_emission.specs.Meaning.{printed_before, joined}
+use Rattle.bicep_emission.specs.Declared.{name_after}
 use Rattle.bicep_emission.specs.Alike.{Seen, seen_in}
 use Rattle.bicep_emission.specs.Answered.{Sides}
 use Rattle.bicep_emission.specs.Emitted.{one, two}

@@ -8,8 +8,8 @@ use Rattle.bicep_resolved.specs.Source as s
 use Rattle.bicep_resolved.specs.Target.{number_of, target_of}
 use Rattle.bicep_declared.specs.Declarations.{BodyTree}
 use Rattle.bicep_declared.specs.Declarations as d
-use Rattle.bicep_meaning.specs.Declared.{body_at}
-use Rattle.bicep_meaning.specs.Files.{SourceFile, declaration, parent, inside, below, type_of}
+use Rattle.bicep_emission.specs.Declared.{body_at}
+use Rattle.bicep_emission.specs.Files.{SourceFile, declaration, parent, inside, below, type_of}
 use Rattle.bicep_resolved.specs.Source.{field_named}
 use Rattle.bicep_emission.specs.Emittable.{IsEmittable, IsValue, IsReach}
 use Rattle.emitted_declarations.specs.ChildTypes.{IsChildType}

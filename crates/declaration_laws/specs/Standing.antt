@@ -4,9 +4,9 @@ use Rattle.arm_value.specs.Look.{fold}
 use Rattle.arm_env.specs.Look as look
 use Rattle.arm_env.specs.declared.env.Looping.{Looping}
 use Rattle.deploy_cells.specs.Cells as cells
-use Rattle.bicep_meaning.specs.Around as source
-use Rattle.bicep_meaning.specs.Around.{Here}
-use Rattle.bicep_meaning.specs.Files.{symbol_name, type_of}
+use Rattle.bicep_emission.specs.Around as source
+use Rattle.bicep_emission.specs.Around.{Here}
+use Rattle.bicep_emission.specs.Files.{symbol_name, type_of}
 use Rattle.bicep_emission.specs.Answered.{Sides, IsAnswered}
 use Rattle.bicep_emission.specs.Emitted.{Frame}
 use Rattle.bicep_emission.specs.Stands.{IsCapped, Stands, FramesStand, ScopeStands, surroundings}

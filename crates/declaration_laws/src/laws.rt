@@ -2,10 +2,10 @@
 ghost use Rattle.std.specs.Prelude.{ℕ, List};
 ghost use Rattle.arm_env.specs.declared.env.Looping.{Looping};
 ghost use Rattle.bicep_resolved.specs.Source.{SourceTree};
-ghost use Rattle.bicep_meaning.specs.Around as source;
-ghost use Rattle.bicep_meaning.specs.Around.{Here};
-ghost use Rattle.bicep_meaning.specs.Declared as meaning;
-ghost use Rattle.bicep_meaning.specs.Meaning.{bare};
+ghost use Rattle.bicep_emission.specs.Around as source;
+ghost use Rattle.bicep_emission.specs.Around.{Here};
+ghost use Rattle.bicep_emission.specs.Declared as meaning;
+ghost use Rattle.bicep_emission.specs.Meaning.{bare};
 ghost use Rattle.bicep_emission.specs.Answered.{Sides, Answers, IsPlainPlace};
 ghost use Rattle.bicep_emission.specs.Emittable.{IsEmittable};
 ghost use Rattle.bicep_emission.specs.Emitted.{Frame, emitted};

@@ -25,16 +25,16 @@ use Rattle.bicep_resolved.specs.declared.leaf.Selector.TheVariants as selector
 use Rattle.bicep_resolved.specs.Source.{SourceTree, SourceTrees, PieceTrees, ReachTree, PropertyTrees, ValueTree}
 use Rattle.bicep_resolved.specs.Source as s
 use Rattle.bicep_resolved.specs.Target.{number_of, target_of}
-use Rattle.bicep_meaning.specs.Files.{SourceFile, symbol_name, type_of}
-use Rattle.bicep_emission.specs.Emittable.{IsEmittable, AreEmittable, AreHoles, AreMembers, IsValue, IsReach}
-use Rattle.bicep_emission.specs.Emitted.{Frame, Scope, element, three, item_of, index_of, parameter_of, literal_of}
-use Rattle.bicep_emission.specs.Emitted.{binary_of, prefix_of, member_of, part_at, properties_of}
-use Rattle.bicep_emission.specs.Emitted.{state_member_of}
-use Rattle.bicep_emission.specs.Emitted.{output_of, named, field_of, output_named, emitted, all_of, holes_of}
-use Rattle.bicep_emission.specs.Emitted.{members_of}
-use Rattle.bicep_emission.specs.Emitted.{emitted_value, frames_of}
-use Rattle.bicep_emission.specs.Spelled.{capitals, spelling_in, spelled, spelled_or}
-use Rattle.bicep_emission.specs.Texts.{format_text}
+use Rattle.bicep_meaning_laws.specs.Files.{SourceFile, symbol_name, type_of}
+use Rattle.declaration_laws.specs.Emittable.{IsEmittable, AreEmittable, AreHoles, AreMembers, IsValue, IsReach}
+use Rattle.declaration_laws.specs.Emitted.{Frame, Scope, element, three, item_of, index_of, parameter_of, literal_of}
+use Rattle.declaration_laws.specs.Emitted.{binary_of, prefix_of, member_of, part_at, properties_of}
+use Rattle.declaration_laws.specs.Emitted.{state_member_of}
+use Rattle.declaration_laws.specs.Emitted.{output_of, named, field_of, output_named, emitted, all_of, holes_of}
+use Rattle.declaration_laws.specs.Emitted.{members_of}
+use Rattle.declaration_laws.specs.Emitted.{emitted_value, frames_of}
+use Rattle.declaration_laws.specs.Spelled.{capitals, spelling_in, spelled, spelled_or}
+use Rattle.declaration_laws.specs.Texts.{format_text}
 use Rattle.emission_laws.specs.Holes.{fill, fill_all, holes, nearest, IsRun}
 
 -- ---- names of functions are not empty

@@ -11,16 +11,16 @@ use Rattle.bicep_tree.specs.declared.leaf.Literal.TheVariants as l
 use Rattle.bicep_resolved.specs.Source.{SourceTree, ReachTree, ValueTree, LoopTree}
 use Rattle.bicep_resolved.specs.Source as s
 use Rattle.bicep_resolved.specs.Target.{number_of, target_of}
-use Rattle.bicep_circles.specs.Mentions.{mentions}
+use Rattle.bicep_meaning_laws.specs.Mentions.{mentions}
 use Rattle.bicep_declared.specs.Declarations.{BodyTree, DeclaredTree}
 use Rattle.bicep_declared.specs.Declarations as d
-use Rattle.bicep_meaning.specs.Files.{SourceFile, symbol_name, declaration, Parent, no_parent, inside}
+use Rattle.bicep_meaning_laws.specs.Files.{SourceFile, symbol_name, declaration, Parent, no_parent, inside}
 use Rattle.bicep_resolved.specs.Source.{field_named}
-use Rattle.bicep_meaning.specs.Files.{below}
-use Rattle.bicep_meaning.specs.Files.{parent, type_of}
-use Rattle.bicep_meaning.specs.Declared.{body_of, body_at}
-use Rattle.bicep_emission.specs.Emittable.{IsEmittable, IsValue}
-use Rattle.bicep_emission.specs.Emitted.{Frame, emitted, emitted_value, frames_of}
+use Rattle.bicep_meaning_laws.specs.Files.{below}
+use Rattle.bicep_meaning_laws.specs.Files.{parent, type_of}
+use Rattle.bicep_meaning_laws.specs.Declared.{body_of, body_at}
+use Rattle.declaration_laws.specs.Emittable.{IsEmittable, IsValue}
+use Rattle.declaration_laws.specs.Emitted.{Frame, emitted, emitted_value, frames_of}
 use Rattle.declaration_laws.specs.Declared.{Emission, variable_entry, named_by_symbol, parts_of}
 use Rattle.declaration_laws.specs.Declared.{parts_by_number, segments_from, split_name}
 use Rattle.declaration_laws.specs.Declared.{number_of_parts, value_or_none, variable_of, over}

@@ -9,16 +9,16 @@ use Rattle.bicep_resolved.specs.declared.leaf.Meaning.TheVariants as m
 use Rattle.bicep_resolved.specs.Source.{SourceTree, SourceTrees, PieceTrees, ReachTree, PropertyTrees, ValueTree}
 use Rattle.bicep_resolved.specs.Source as s
 use Rattle.bicep_resolved.specs.Target.{number_of, target_of}
-use Rattle.bicep_circles.specs.Mentions.{mentions, reach_mentions, all_mentions, piece_mentions, property_mentions}
-use Rattle.bicep_circles.specs.Mentions.{value_mentions, name_mentions}
-use Rattle.bicep_meaning.specs.Files.{SourceFile, type_of}
+use Rattle.bicep_meaning_laws.specs.Mentions.{mentions, reach_mentions, all_mentions, piece_mentions, property_mentions}
+use Rattle.bicep_meaning_laws.specs.Mentions.{value_mentions, name_mentions}
+use Rattle.bicep_meaning_laws.specs.Files.{SourceFile, type_of}
 use Rattle.bicep_meaning_laws.proofs.SameLemmas.{first, second, reached}
-use Rattle.bicep_emission.specs.Emitted.{Frame, Scope, element, three, named, emitted, all_of, holes_of, members_of}
-use Rattle.bicep_emission.specs.Emitted.{emitted_value, frames_of, field_of, output_of, output_named, member_of}
-use Rattle.bicep_emission.specs.Emitted.{part_at}
-use Rattle.bicep_emission.specs.Emitted.{prefix_of, binary_of, properties_of, state_member_of}
-use Rattle.bicep_emission.specs.Spelled.{spelled}
-use Rattle.bicep_emission.specs.Texts.{format_text}
+use Rattle.declaration_laws.specs.Emitted.{Frame, Scope, element, three, named, emitted, all_of, holes_of, members_of}
+use Rattle.declaration_laws.specs.Emitted.{emitted_value, frames_of, field_of, output_of, output_named, member_of}
+use Rattle.declaration_laws.specs.Emitted.{part_at}
+use Rattle.declaration_laws.specs.Emitted.{prefix_of, binary_of, properties_of, state_member_of}
+use Rattle.declaration_laws.specs.Spelled.{spelled}
+use Rattle.declaration_laws.specs.Texts.{format_text}
 use Rattle.emission_laws.specs.Holes.{IsRun}
 use Rattle.emission_laws.specs.Same.{SameScope}
 

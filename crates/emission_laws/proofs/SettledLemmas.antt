@@ -12,16 +12,16 @@ use Rattle.bicep_resolved.specs.Source as s
 use Rattle.bicep_resolved.specs.Target.{number_of, target_of}
 use Rattle.bicep_declared.specs.Declarations.{BodyTree, DeclaredTree}
 use Rattle.bicep_declared.specs.Declarations as d
-use Rattle.bicep_circles.specs.Mentions.{mentions, reach_mentions, property_mentions, value_mentions, each_mentions}
-use Rattle.bicep_circles.specs.Mentions.{condition_mentions, body_mentions}
-use Rattle.bicep_meaning.specs.Files.{SourceFile, symbol_kind, symbol_name, declaration, Parent, no_parent}
+use Rattle.bicep_meaning_laws.specs.Mentions.{mentions, reach_mentions, property_mentions, value_mentions, each_mentions}
+use Rattle.bicep_meaning_laws.specs.Mentions.{condition_mentions, body_mentions}
+use Rattle.bicep_meaning_laws.specs.Files.{SourceFile, symbol_kind, symbol_name, declaration, Parent, no_parent}
 use Rattle.bicep_resolved.specs.Source.{field_named}
-use Rattle.bicep_meaning.specs.Files.{inside, below, below_value, fields_parent, inside_or, around_kind, parent}
-use Rattle.bicep_meaning.specs.Files.{type_of}
-use Rattle.bicep_meaning.specs.Declared.{body_of}
+use Rattle.bicep_meaning_laws.specs.Files.{inside, below, below_value, fields_parent, inside_or, around_kind, parent}
+use Rattle.bicep_meaning_laws.specs.Files.{type_of}
+use Rattle.bicep_meaning_laws.specs.Declared.{body_of}
 use Rattle.bicep_meaning_laws.specs.Ranked.{mentioned_in, mentioned_around, mentions_at, IsRanked}
 use Rattle.bicep_meaning_laws.proofs.SameLemmas.{first, second, reached}
-use Rattle.bicep_emission.specs.Emitted.{Frame, two, emitted, emitted_value, frames_of}
+use Rattle.declaration_laws.specs.Emitted.{Frame, two, emitted, emitted_value, frames_of}
 use Rattle.declaration_laws.specs.Declared.{Emission, with_slash, variable_entry, parts_of, number_of_parts}
 use Rattle.declaration_laws.specs.Declared.{id_of_parts, value_or_none, variable_of, over, module_name}
 use Rattle.declaration_laws.specs.Declared.{name_by, name_of, full_name_by, condition_by, condition_of, parts_by}

@@ -2,7 +2,7 @@
 use Rattle.std.specs.Prelude.{◌≡◌, ℕ, pos, List, [], ◌∷◌}
 use Rattle.arm_expr.specs.Tree.{Tree, Trees, text, int, call, member, index, more}
 use Rattle.arm_expr.specs.Tree as tree
-use Rattle.bicep_emission.specs.Emitted.{Frame, Scope, one, no_value}
+use Rattle.declaration_laws.specs.Emitted.{Frame, Scope, one, no_value}
 
 -- A hole is a call of the empty name, which no function has: without arguments for the item of a loop, with one for its
 -- index.

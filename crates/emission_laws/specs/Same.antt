@@ -1,6 +1,6 @@
 -- Declarations that become the same.
 use Rattle.std.specs.Prelude.{◌≡◌, ℕ, List}
-use Rattle.bicep_emission.specs.Emitted.{Frame, Scope}
+use Rattle.declaration_laws.specs.Emitted.{Frame, Scope}
 use Rattle.declaration_laws.specs.Declared.{Emission}
 use Rattle.emission_laws.specs.Holes.{IsRun}
 

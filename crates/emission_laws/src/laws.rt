@@ -1,9 +1,9 @@
 // What holds of all emitted declarations. A law has no body: its contract is the law.
 ghost use Rattle.std.specs.Prelude.{◌≡◌, ◌<◌, ℕ, List};
 ghost use Rattle.bicep_resolved.specs.Source.{SourceTree};
-ghost use Rattle.bicep_meaning.specs.Files.{SourceFile};
+ghost use Rattle.bicep_meaning_laws.specs.Files.{SourceFile};
 ghost use Rattle.bicep_meaning_laws.specs.Ranked.{IsRanked};
-ghost use Rattle.bicep_emission.specs.Emitted.{Frame, emitted};
+ghost use Rattle.declaration_laws.specs.Emitted.{Frame, emitted};
 ghost use Rattle.declaration_laws.specs.Sound.{IsSound};
 ghost use Rattle.declaration_laws.specs.Declared.{next, through};
 ghost use Rattle.emission_laws.specs.Holes.{HasHoles, refilled};

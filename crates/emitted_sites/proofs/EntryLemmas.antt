@@ -13,9 +13,9 @@ use Rattle.plan_cells.specs.Sites as template
 use Rattle.plan_cells.specs.Sites.{declared_value, declares}
 use Rattle.bicep_meaning.specs.Files.{SourceFile}
 use Rattle.bicep_meaning.specs.Instances as source
-use Rattle.emitted_files.specs.Values.{AreBoth}
-use Rattle.emitted_files.specs.Files.{IsParameter, IsVariable, IsOutput}
-use Rattle.emitted_files.proofs.AbsentLemmas.{Match}
+use Rattle.emitted_worlds.specs.Values.{AreBoth}
+use Rattle.emitted_worlds.specs.Files.{IsParameter, IsVariable, IsOutput}
+use Rattle.emitted_worlds.proofs.AbsentLemmas.{Match}
 
 abbrev pub fact_of : Option Json → Option Fact
 fact_of o = option_map a_value o

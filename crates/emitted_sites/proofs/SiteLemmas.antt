@@ -39,10 +39,10 @@ use Rattle.declaration_laws.specs.Standing.{AnswersVariables}
 use Rattle.source_needs.specs.Given.{declares_output}
 use Rattle.source_worlds.specs.Numbers.{number_of, numbering}
 use Rattle.source_worlds.proofs.NumberLemmas.{one_to_one}
-use Rattle.emitted_files.specs.Values.{AreBoth}
-use Rattle.emitted_files.specs.Files.{IsEmitted}
-use Rattle.emitted_files.proofs.AbsentLemmas.{Match, scope_matches}
-use Rattle.emitted_files.proofs.InnerLemmas.{owner_is, visible_is}
+use Rattle.emitted_worlds.specs.Values.{AreBoth}
+use Rattle.emitted_worlds.specs.Files.{IsEmitted}
+use Rattle.emitted_worlds.proofs.AbsentLemmas.{Match, scope_matches}
+use Rattle.emitted_worlds.proofs.InnerLemmas.{owner_is, visible_is}
 use Rattle.emitted_worlds.specs.Facts.{HasFacts, IsListing}
 use Rattle.emitted_worlds.proofs.TemplateLemmas.{HasTemplate, has_template}
 use Rattle.emitted_sites.specs.Marks.{no_mark, no_marks, is_given, IsMarked}

@@ -16,7 +16,7 @@ ghost use Rattle.bicep_emission.specs.Answered.{Answers};
 ghost use Rattle.cell_renaming.specs.Renaming.{renamed};
 ghost use Rattle.declaration_laws.specs.Standing.{AnswersVariables};
 ghost use Rattle.source_worlds.specs.Numbers.{numbering};
-ghost use Rattle.emitted_files.specs.Files.{IsEmitted};
+ghost use Rattle.emitted_worlds.specs.Files.{IsEmitted};
 ghost use Rattle.emitted_sites.specs.Marks.{IsMarked};
 ghost use Rattle.emitted_sites.specs.Sites.{sides, IsInstance, AreLike};
 

@@ -1,1 +1,2 @@
 pub mod Spans
+pub use Rattle.emitted_expressions.specs.Values

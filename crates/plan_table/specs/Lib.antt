@@ -9,3 +9,5 @@ pub mod Found
 pub mod Counted
 pub use Rattle.plan_filling.specs.Rows
 pub use Rattle.plan_filling.specs.Sound
+pub use Rattle.plan_filling.specs.Final
+pub use Rattle.plan_filling.specs.Steps

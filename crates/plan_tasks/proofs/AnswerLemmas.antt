@@ -12,11 +12,11 @@ use Rattle.deploy_cells.proofs.SameLemmas.{cell_is}
 use Rattle.plan_cells.specs.Meaning.{Deployment, raw}
 use Rattle.plan_cells.specs.Desired.{is_state}
 use Rattle.plan_cells.proofs.UndeclaredLemmas.{undeclared, undeclared_root}
-use Rattle.plan_filling.specs.Rows.{Status, New, Open, Value, Empty, Late, Row, status_of}
-use Rattle.plan_filling.specs.Sound.{Good, IsListed}
-use Rattle.plan_filling.specs.Steps.{Filled}
-use Rattle.plan_filling.specs.Final.{unlisted, or_unlisted, final, IsGate, AreGatesKnown}
-use Rattle.plan_filling.proofs.RowLemmas.{by_same, found_first, found_later}
+use Rattle.plan_table.specs.Rows.{Status, New, Open, Value, Empty, Late, Row, status_of}
+use Rattle.plan_table.specs.Sound.{Good, IsListed}
+use Rattle.plan_table.specs.Steps.{Filled}
+use Rattle.plan_table.specs.Final.{unlisted, or_unlisted, final, IsGate, AreGatesKnown}
+use Rattle.plan_table.proofs.RowLemmas.{by_same, found_first, found_later}
 use Rattle.plan_tasks.specs.Answered.{is_asked, AreAnswered, has_value, is_answered, AreRowsAnswered}
 
 -- ---- rows

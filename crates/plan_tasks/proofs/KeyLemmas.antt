@@ -23,7 +23,7 @@ use Rattle.plan_cells.specs.Desired.{kind_of, kinds}
 use Rattle.plan_cells.specs.Start.{start_world}
 use Rattle.plan_cells.specs.Tasks.{Task, put, key_by, put_keys}
 use Rattle.plan_cells.specs.Reads.{key_in}
-use Rattle.plan_filling.specs.Rows.{known_by}
+use Rattle.plan_table.specs.Rows.{known_by}
 use Rattle.plan_table.specs.declared.frame.Frame.{Frame}
 use Rattle.plan_table.specs.declared.listed.Listed.{Listed}
 use Rattle.plan_table.specs.declared.line.Line.{Line}

@@ -10,9 +10,9 @@ use Rattle.deploy_cells.specs.Cells.{Step, step, Position, Cell, count, included
 use Rattle.plan_cells.specs.Resources as cells
 use Rattle.plan_cells.specs.Resources.{Nested, nested_in, nested_at, resource_at, resources_in, unless_existing}
 use Rattle.plan_cells.specs.Scopes.{template_at}
-use Rattle.plan_filling.specs.Rows.{Row, row_at, status_of, known_by, AreDistinct}
-use Rattle.plan_filling.specs.Final.{or_unlisted}
-use Rattle.plan_filling.proofs.RowLemmas.{status_found}
+use Rattle.plan_table.specs.Rows.{Row, row_at, status_of, known_by, AreDistinct}
+use Rattle.plan_table.specs.Final.{or_unlisted}
+use Rattle.plan_table.proofs.RowLemmas.{status_found}
 use Rattle.plan_table.specs.declared.frame.Frame.{Frame}
 use Rattle.plan_table.specs.declared.line.Line.{Line}
 use Rattle.plan_table.specs.declared.line.Spot.{Spot}

@@ -6,7 +6,7 @@ use Rattle.deploy_cells.specs.Cells.{Cell, count, included, name, is_admitted}
 use Rattle.deploy_cells.specs.Guarded.{Reads}
 use Rattle.plan_cells.specs.Known.{Table}
 use Rattle.plan_cells.specs.Meaning.{Deployment, raw}
-use Rattle.plan_filling.specs.Rows.{Status, Value, Row, row_at}
+use Rattle.plan_table.specs.Rows.{Status, Value, Row, row_at}
 
 -- whether it is a count, the condition of an instance, or its name
 abbrev pub is_asked : Cell → Bool

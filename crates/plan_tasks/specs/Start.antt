@@ -5,9 +5,9 @@ use Rattle.deploy_cells.specs.Cells.{step}
 use Rattle.plan_cells.specs.Known as known
 use Rattle.plan_cells.specs.Resources.{Listed, Nested, nested_in}
 use Rattle.plan_cells.specs.Tasks.{Task, enter, leave, put}
-use Rattle.plan_filling.specs.Rows.{status_of}
-use Rattle.plan_filling.specs.Final.{final}
-use Rattle.plan_filling.specs.Steps.{Filled}
+use Rattle.plan_table.specs.Rows.{status_of}
+use Rattle.plan_table.specs.Final.{final}
+use Rattle.plan_table.specs.Steps.{Filled}
 use Rattle.plan_table.specs.declared.table.Table.{Table}
 use Rattle.plan_table.specs.Opened.{Opened, opened_at}
 use Rattle.plan_table.specs.Lines.{IsNumber}

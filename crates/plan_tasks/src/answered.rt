@@ -1,6 +1,6 @@
 // A count, a condition or a name that has no value.
 ghost use Rattle.std.specs.Prelude.{◌≡◌, ◌<◌, ℕ, true, false, List, length, MatchOption};
-ghost use Rattle.plan_filling.specs.Rows.{row_at};
+ghost use Rattle.plan_table.specs.Rows.{row_at};
 ghost use Rattle.plan_table.specs.Opened.{Opened};
 ghost use Rattle.plan_table.specs.Lines.{cell_of, status_in, row_of};
 ghost use Rattle.plan_table.specs.Whole.{rows_in};

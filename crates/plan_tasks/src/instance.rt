@@ -4,7 +4,7 @@ ghost use Rattle.arm_value.specs.View.{json};
 ghost use Rattle.reading.specs.Knowledge.{known_value};
 ghost use Rattle.deploy_cells.specs.Cells.{copies};
 ghost use Rattle.plan_cells.specs.Resources as cells;
-ghost use Rattle.plan_filling.specs.Rows.{known_by};
+ghost use Rattle.plan_table.specs.Rows.{known_by};
 ghost use Rattle.plan_table.specs.Lines.{status_in};
 ghost use Rattle.plan_table.specs.Found.{scope_at};
 ghost use Rattle.plan_tasks.specs.Start.{IsStartTable, copies_of, IsInstance, IsFound, found_by};

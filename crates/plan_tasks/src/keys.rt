@@ -10,7 +10,7 @@ ghost use Rattle.plan_cells.specs.Desired.{kind_of};
 ghost use Rattle.plan_cells.specs.Start.{start_world};
 ghost use Rattle.plan_cells.specs.Tasks.{key_by, put_keys};
 ghost use Rattle.plan_cells.specs.Reads.{key_in};
-ghost use Rattle.plan_filling.specs.Rows.{known_by};
+ghost use Rattle.plan_table.specs.Rows.{known_by};
 ghost use Rattle.plan_table.specs.Lines.{status_in};
 ghost use Rattle.plan_table.specs.Whole.{whole_of, scopes_of};
 ghost use Rattle.plan_table.specs.Found.{scope_at};

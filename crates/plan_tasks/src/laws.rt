@@ -4,9 +4,9 @@ ghost use Rattle.reading.specs.Knowledge.{told, value};
 ghost use Rattle.plan_cells.specs.Known.{Table};
 ghost use Rattle.plan_cells.specs.Meaning.{Deployment};
 ghost use Rattle.plan_cells.specs.Tasks.{template_tasks};
-ghost use Rattle.plan_filling.specs.Rows.{Row, status_of};
-ghost use Rattle.plan_filling.specs.Steps.{Filled};
-ghost use Rattle.plan_filling.specs.Final.{final, AreGatesKnown};
+ghost use Rattle.plan_table.specs.Rows.{Row, status_of};
+ghost use Rattle.plan_table.specs.Steps.{Filled};
+ghost use Rattle.plan_table.specs.Final.{final, AreGatesKnown};
 ghost use Rattle.plan_tasks.specs.Answered.{AreAnswered, AreRowsAnswered};
 ghost use Rattle.plan_tasks.specs.InOrder.{scope_in_order};
 

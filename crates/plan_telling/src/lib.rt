@@ -11,3 +11,5 @@ pub mod site;
 pub mod source;
 pub mod symbols;
 pub mod telling;
+
+pub use plan_sights::lacking;

@@ -2,19 +2,19 @@
 ghost use Rattle.arm_value.specs.View.{json};
 ghost use Rattle.plan_table.specs.declared.line.Spot.TheVariants as spot;
 ghost use Rattle.plan_sight.specs.Seen.{Shows};
-ghost use Rattle.plan_telling.specs.Symbols.{IsComplete};
+ghost use Rattle.point_sights.specs.Symbols.{IsComplete};
 ghost use Rattle.plan_values.specs.Values.{IsSpot};
 ghost use Rattle.point_rows.specs.Rows.{IsFit};
 ghost use Rattle.point_cells.specs.RawNow.{raw_now};
 
 use arm_value::Value;
 use plan_sight::lack::Lack;
-use plan_telling::register::Register;
-use plan_telling::source::Source;
 use plan_values::content::{output_source, source_of};
 use plan_values::declared::{output_at, variable_at};
 use point_rows::later::Later;
+use point_sights::register::Register;
 use point_sights::scopes::told_in_scope;
+use point_sights::source::Source;
 use std::alloc::Global;
 
 /// The value of a variable.

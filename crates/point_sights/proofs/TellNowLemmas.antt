@@ -27,9 +27,9 @@ use Rattle.plan_table.specs.Found.{scope_at}
 use Rattle.plan_sight.specs.declared.lack.Lack.{Lack}
 use Rattle.plan_sight.specs.Ready.{told_in}
 use Rattle.plan_sight.specs.Seen.{Shows, Stops, Yields}
-use Rattle.plan_sights.specs.Resolved.{stop_of, IsResolved}
-use Rattle.plan_sights.specs.Seats.{Seat, site_of, seen_in, known_in}
-use Rattle.plan_sights.proofs.FollowLemmas.{resolved}
+use Rattle.plan_telling.specs.Resolved.{stop_of, IsResolved}
+use Rattle.plan_telling.specs.Seats.{Seat, site_of, seen_in, known_in}
+use Rattle.plan_telling.proofs.FollowLemmas.{resolved}
 use Rattle.plan_telling.specs.declared.source.Source.{Source}
 use Rattle.plan_telling.specs.declared.site.Site.{Site}
 use Rattle.plan_telling.specs.declared.site.Texts.{Texts}

@@ -5,7 +5,7 @@ use Rattle.arm_env.specs.declared.env.Looping.{Looping}
 use Rattle.plan_table.specs.declared.table.Table.{Table}
 use Rattle.plan_table.specs.Found.{scope_at}
 use Rattle.plan_sight.specs.Ready.{IsReady}
-use Rattle.plan_sights.specs.Seats.{Seat}
+use Rattle.plan_telling.specs.Seats.{Seat}
 use Rattle.point_rows.specs.declared.later.Later.{Later}
 use Rattle.point_rows.specs.Rows.{rows_now, IsFit}
 

@@ -10,3 +10,5 @@ mod lacks;
 pub mod scopes;
 pub mod sight;
 pub mod telling;
+
+pub use plan_telling::{register, source};

@@ -7,11 +7,11 @@ use arm_value::{Text, Value};
 use plan_listing::words::TypeTexts;
 use plan_names::look::look_named;
 use plan_nested::look::look_deployment;
-use plan_sights::lacking::{
+use plan_table::table::Table;
+use plan_telling::lacking::{
     Lacking, await_deployment, await_named, await_output, await_outputs, await_parameter,
     await_state, await_variable, lacking_of,
 };
-use plan_table::table::Table;
 use point_rows::later::Later;
 use point_rows::look::{look_parameter, look_variable};
 use point_rows::outputs::{look_output, look_outputs};
@@ -42,7 +42,7 @@ impl<'t, 'a> Model for Sight<'t, 'a> {
     ghost use Rattle.std.specs.Coded.{codes};
     ghost use Rattle.arm_value.specs.JsonCode.{json_code};
     ghost use Rattle.template_tree.specs.TreeCode.{resource_code};
-    ghost use Rattle.plan_sights.specs.Seats.{Seat};
+    ghost use Rattle.plan_telling.specs.Seats.{Seat};
     ghost use Rattle.point_sights.specs.PointSeats.{IsSeatedNow, seat_now};
 
     ghost Value = { Seat };
@@ -55,7 +55,7 @@ impl<'t, 'a> Model for Sight<'t, 'a> {
 }
 
 impl<'t, 'a> Entries for Sight<'t, 'a> {
-    ghost use Rattle.plan_sights.specs.Seats.{known_in};
+    ghost use Rattle.plan_telling.specs.Seats.{known_in};
 
     ghost known = { known_in };
 

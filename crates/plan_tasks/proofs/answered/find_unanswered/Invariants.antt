@@ -1,5 +1,5 @@
 use Rattle.std.proofs.Common.{◌≡◌, ◌<◌, ℕ, true}
-use Rattle.plan_filling.specs.Rows.{row_at}
+use Rattle.plan_table.specs.Rows.{row_at}
 use Rattle.plan_table.specs.Whole.{rows_in}
 use Rattle.plan_tasks.specs.Answered.{is_answered}
 use Rattle.plan_tasks.proofs.answered.find_unanswered.Given as goal

@@ -1,5 +1,5 @@
 use Rattle.plan_table.specs.Opened.{step_of}
-use Rattle.plan_telling.specs.Sources.{texts_in, meaning_of}
+use Rattle.point_sights.specs.Sources.{texts_in, meaning_of}
 use Rattle.point_cells.proofs.CellNowLemmas.{argument_made}
 use Rattle.point_cells.proofs.parameters.argument_told.Goals as goal
 

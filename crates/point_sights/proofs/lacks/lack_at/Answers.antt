@@ -5,8 +5,8 @@ use Rattle.arm_env.specs.Cell.{look_of}
 use Rattle.arm_env.specs.Look.{a_value, a_truth, a_list}
 use Rattle.arm_env.specs.Sight.{declared_of}
 use Rattle.plan_sight.specs.Seen.{Stops}
-use Rattle.plan_sights.specs.Resolved.{stop_of}
-use Rattle.plan_sights.specs.Seats.{site_of, seen_in}
+use Rattle.plan_telling.specs.Resolved.{stop_of}
+use Rattle.plan_telling.specs.Seats.{site_of, seen_in}
 use Rattle.point_sights.specs.PointSeats.{seat_now}
 use Rattle.point_sights.proofs.TellNowLemmas.{deployment_now}
 use Rattle.point_sights.proofs.lacks.lack_at.Goals as goal

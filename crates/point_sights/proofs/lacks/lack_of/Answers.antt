@@ -2,7 +2,7 @@ use Rattle.std.proofs.Common.{subst}
 use Rattle.arm_env.specs.Answer.{Stops}
 use Rattle.arm_env.specs.Cell.{look_of}
 use Rattle.reading.specs.Knowledge.{told}
-use Rattle.plan_sights.specs.Seats.{known_in}
+use Rattle.plan_telling.specs.Seats.{known_in}
 use Rattle.point_sights.specs.PointSeats.{seat_now}
 use Rattle.point_sights.proofs.TellNowLemmas.{nothing_told, cell_stops}
 use Rattle.point_sights.proofs.lacks.lack_of.Goals as goal

@@ -7,8 +7,8 @@ use Rattle.plan_table.specs.Whole.{whole_of}
 use Rattle.point_rows.specs.Rows.{told_now}
 use Rattle.plan_sight.specs.Seen.{Stops}
 use Rattle.plan_sight.specs.declared.lack.Lack.TheVariants as lack
-use Rattle.plan_sights.specs.Resolved.{stop_of}
-use Rattle.plan_sights.specs.Seats.{texts_of}
+use Rattle.plan_telling.specs.Resolved.{stop_of}
+use Rattle.plan_telling.specs.Seats.{texts_of}
 use Rattle.point_sights.proofs.lacks.text_lack.Goals as goal
 use Rattle.point_rows.proofs.ToldNowLemmas.{told_pure}
 use Rattle.point_sights.proofs.TellNowLemmas.{named_now}

@@ -1,9 +1,9 @@
 use Rattle.std.proofs.Common.{refl, Ok, Err}
 use Rattle.arm_env.specs.Look as look
 use Rattle.arm_env.specs.Look.{a_truth, truth_in}
-use Rattle.plan_sights.specs.Seats.{site_of}
+use Rattle.plan_telling.specs.Seats.{site_of}
 use Rattle.point_sights.specs.PointSeats.{seat_now}
-use Rattle.plan_sights.proofs.SightLemmas.{shown, hidden, awaited, await_stops}
+use Rattle.plan_telling.proofs.SightLemmas.{shown, hidden, awaited, await_stops}
 use Rattle.point_sights.proofs.TellNowLemmas.{deployment_now}
 use Rattle.point_sights.proofs.sight.SightEntries.is_deployment.Goals as goal
 

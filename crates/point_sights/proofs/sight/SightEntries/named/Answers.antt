@@ -5,7 +5,7 @@ use Rattle.arm_env.specs.Look as look
 use Rattle.arm_env.specs.Look.{a_key, key_in}
 use Rattle.plan_sight.specs.Seen.{Lacks}
 use Rattle.point_sights.specs.PointSeats.{seat_now}
-use Rattle.plan_sights.proofs.SightLemmas.{shown, hidden, awaited, await_stops, unnamed, named_seen}
+use Rattle.plan_telling.proofs.SightLemmas.{shown, hidden, awaited, await_stops, unnamed, named_seen}
 use Rattle.point_sights.proofs.TellNowLemmas.{named_now}
 use Rattle.point_sights.proofs.sight.SightEntries.named.Goals as goal
 

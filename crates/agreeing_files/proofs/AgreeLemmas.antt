@@ -15,7 +15,7 @@ use Rattle.agreeing_files.proofs.DeclaredLemmas.{through_same}
 module _ (f g : SourceFile) (a : Agree f g) where
   -- the first, with what the second has that emission does not look at
   abbrev between : SourceFile
-  between = other f g.outputs g.modules g.accepts
+  between = other f g
 
   is_second : between ≡ g
   is_second =
@@ -28,24 +28,22 @@ module _ (f g : SourceFile) (a : Agree f g) where
         modules = g.modules;
         has_entry = λ n. a.has_entry n i;
         accepts = g.accepts;
+        batches = g.batches;
       }
 
   pub types : (n : ℕ) → type_of f n ≡ type_of g n
-  types n = type_same f g.outputs g.modules g.accepts n ∙ ap (λ h. type_of h n) is_second
+  types n = type_same f g n ∙ ap (λ h. type_of h n) is_second
 
   module _ (fs gs : List SourceFile) (same : outputs_of fs ≡ outputs_of gs) where
     pub become : whole f fs ≡ whole g gs
-    become =
-        through_same f g.outputs g.modules g.accepts fs gs same (length f.symbols)
-        ∙ ap (λ h. whole h gs) is_second
+    become = through_same f g fs gs same (length f.symbols) ∙ ap (λ h. whole h gs) is_second
 
     pub expressions : (sc : Scope) (e : SourceTree) (ts : List Frame) → emitted f fs sc e ts ≡ emitted g gs sc e ts
-    expressions sc e ts =
-        emitted_same f g.outputs g.modules g.accepts fs gs same sc e ts ∙ ap (λ h. emitted h gs sc e ts) is_second
+    expressions sc e ts = emitted_same f g fs gs same sc e ts ∙ ap (λ h. emitted h gs sc e ts) is_second
 
   between_sound : IsSound f → IsSound between
   between_sound s =
-      let t : (n : ℕ) → type_of f n ≡ type_of between n = type_same f g.outputs g.modules g.accepts in
+      let t : (n : ℕ) → type_of f n ≡ type_of between n = type_same f g in
       record {
         variables = s.variables;
         names = s.names;

@@ -1,8 +1,7 @@
 -- Files that differ in what emission does not look at: what their declarations become.
-use Rattle.std.proofs.Common.{◌≡◌, ℕ, zero, suc, List, [], ◌∷◌, ◌++◌, codes, Bool, Option, Some, None, refl, ap}
+use Rattle.std.proofs.Common.{◌≡◌, ℕ, zero, suc, List, [], ◌∷◌, ◌++◌, codes, Option, Some, None, refl, ap}
 use Rattle.std.proofs.Common.{◌∙◌}
 use Rattle.std.specs.Prelude.{option_and_then, if◌then◌else◌}
-use Rattle.arm_value.specs.Json.{Json}
 use Rattle.arm_expr.specs.Tree.{call}
 use Rattle.bicep_resolved.specs.Source.{SourceTree, ValueTree, LoopTree}
 use Rattle.bicep_resolved.specs.Source as s
@@ -23,17 +22,16 @@ use Rattle.agreeing_files.specs.Agreeing.{outputs_of}
 use Rattle.agreeing_files.proofs.TypeLemmas.{other, type_same}
 use Rattle.agreeing_files.proofs.EmittedLemmas.{emitted_same, value_same, frames_same}
 
-module _ (f : SourceFile) (outputs : List (List ℕ)) (modules : List ℕ) (accepts : ℕ → Json → Bool)
-    (fs gs : List SourceFile) (same : outputs_of fs ≡ outputs_of gs) where
+module _ (f from : SourceFile) (fs gs : List SourceFile) (same : outputs_of fs ≡ outputs_of gs) where
   abbrev g : SourceFile
-  g = other f outputs modules accepts
+  g = other f from
 
   module _ (b : Emission) where
     of_value : (v : ValueTree) (ts : List Frame) → value_of f fs b v ts ≡ value_of g gs b v ts
-    of_value v ts = value_same f outputs modules accepts fs gs same b.scope v ts
+    of_value v ts = value_same f from fs gs same b.scope v ts
 
     of_expression : (e : SourceTree) (ts : List Frame) → value_of f fs b (s.plain e) ts ≡ value_of g gs b (s.plain e) ts
-    of_expression e ts = emitted_same f outputs modules accepts fs gs same b.scope e ts
+    of_expression e ts = emitted_same f from fs gs same b.scope e ts
 
     some_same : (o : Option ValueTree) (ts : List Frame) → value_or_none f fs b o ts ≡ value_or_none g gs b o ts
     some_same None ts = refl
@@ -71,7 +69,7 @@ module _ (f : SourceFile) (outputs : List (List ℕ)) (modules : List ℕ) (acce
     full_same no_parent n ts = name_same n (declaration f n) ts
     full_same (inside m) n ts = ap (with_slash (b.full_name m [])) (name_same n (declaration f n) ts)
     full_same (below r) n ts =
-        let p = frames_same f outputs modules accepts fs gs same b.scope r ts in
+        let p = frames_same f from fs gs same b.scope r ts in
         let q = name_same n (declaration f n) ts in
         λ i. with_slash (b.full_name (number_of (target_of r)) (p i)) (q i)
 
@@ -96,7 +94,7 @@ module _ (f : SourceFile) (outputs : List (List ℕ)) (modules : List ℕ) (acce
     parts_with no_parent v k n ts = ap (λ a. parts_of v a k) (name_same n (declaration f n) ts)
     parts_with (inside m) v k n ts = ap (λ a. b.parts m [] ++ a ∷ []) (name_same n (declaration f n) ts)
     parts_with (below r) v k n ts =
-        let p = frames_same f outputs modules accepts fs gs same b.scope r ts in
+        let p = frames_same f from fs gs same b.scope r ts in
         let q = name_same n (declaration f n) ts in
         λ i. b.parts (number_of (target_of r)) (p i) ++ q i ∷ []
 
@@ -107,7 +105,7 @@ module _ (f : SourceFile) (outputs : List (List ℕ)) (modules : List ℕ) (acce
     parts_same n (Some (d.parameter_with at t e)) ts = refl
     parts_same n (Some (d.a_resource at q existing body)) ts =
         ap (λ t. parts_by f fs b (parent f n) (field_named (codes "name") body.fields) (number_of_parts t.kind)
-        (name_by f fs b n (declaration f n) ts) ts) (type_same f outputs modules accepts n)
+        (name_by f fs b n (declaration f n) ts) ts) (type_same f from n)
         ∙ parts_with (parent f n) (field_named (codes "name") body.fields) (number_of_parts (type_of g n).kind) n ts
     parts_same n (Some (d.a_module at body)) ts = refl
 
@@ -117,7 +115,7 @@ module _ (f : SourceFile) (outputs : List (List ℕ)) (modules : List ℕ) (acce
     id_same n (Some (d.parameter at t)) ts = refl
     id_same n (Some (d.parameter_with at t e)) ts = refl
     id_same n (Some (d.a_resource at q existing body)) ts =
-        let p = type_same f outputs modules accepts n in
+        let p = type_same f from n in
         let r = parts_same n (Some (d.a_resource at q existing body)) ts in
         λ i. id_of_parts (p i).kind (r i)
     id_same n (Some (d.a_module at body)) ts = refl

@@ -1,7 +1,6 @@
 -- Files that differ in what emission does not look at: what their expressions become.
-use Rattle.std.proofs.Common.{◌≡◌, ℕ, zero, suc, List, [], ◌∷◌, codes, Bool, Option, Some, None, refl, ap, sym, ◌∙◌}
+use Rattle.std.proofs.Common.{◌≡◌, ℕ, zero, suc, List, [], ◌∷◌, codes, Option, Some, None, refl, ap, sym, ◌∙◌}
 use Rattle.std.specs.Prelude.{slice_get, option_and_then}
-use Rattle.arm_value.specs.Json.{Json}
 use Rattle.arm_expr.specs.Tree.{text, call, index, more}
 use Rattle.bicep_resolved.specs.declared.leaf.Field.{Field}
 use Rattle.bicep_resolved.specs.declared.leaf.Field.TheVariants as field
@@ -31,10 +30,9 @@ output_in [] (suc n) k = refl
 output_in (f ∷ fs) zero k = refl
 output_in (f ∷ fs) (suc n) k = output_in fs n k
 
-module _ (f : SourceFile) (outputs : List (List ℕ)) (modules : List ℕ) (accepts : ℕ → Json → Bool)
-    (fs gs : List SourceFile) (same : outputs_of fs ≡ outputs_of gs) where
+module _ (f from : SourceFile) (fs gs : List SourceFile) (same : outputs_of fs ≡ outputs_of gs) where
   abbrev g : SourceFile
-  g = other f outputs modules accepts
+  g = other f from
 
   output_at : (o : Option ℕ) (k : ℕ)
       → option_and_then (λ f. slice_get f.outputs k) (option_and_then (slice_get fs) o)
@@ -57,13 +55,13 @@ module _ (f : SourceFile) (outputs : List (List ℕ)) (modules : List ℕ) (acce
     field_same : (n : ℕ) (x : Field) (ts : List Frame) → field_of f fs sc n x ts ≡ field_of g gs sc n x ts
     field_same n field.Id ts = refl
     field_same n field.Name ts = refl
-    field_same n field.Type ts = ap (λ t. text t.kind) (type_same f outputs modules accepts n)
-    field_same n field.ApiVersion ts = ap (λ t. text t.version) (type_same f outputs modules accepts n)
+    field_same n field.Type ts = ap (λ t. text t.kind) (type_same f from n)
+    field_same n field.ApiVersion ts = ap (λ t. text t.version) (type_same f from n)
     field_same n field.Properties ts =
-        ap (λ t. properties_of (sc.id n ts) t.version) (type_same f outputs modules accepts n)
+        ap (λ t. properties_of (sc.id n ts) t.version) (type_same f from n)
     field_same n field.Outputs ts = refl
     field_same n (field.Other x) ts =
-        ap (λ t. state_member_of (sc.id n ts) t.version x) (type_same f outputs modules accepts n)
+        ap (λ t. state_member_of (sc.id n ts) t.version x) (type_same f from n)
 
     mutual
       pub emitted_same : (e : SourceTree) (ts : List Frame) → emitted f fs sc e ts ≡ emitted g gs sc e ts

@@ -7,7 +7,7 @@ use Rattle.reading.specs.Knowledge.{Known, known, missing}
 use Rattle.deploy_cells.specs.Cells.{Cell, count, state}
 use Rattle.deploy_cells.specs.Guarded.{Reads}
 use Rattle.bicep_meaning.specs.Around.{Frame}
-use Rattle.bicep_meaning.specs.Files.{SourceFile}
+use Rattle.bicep_meaning.specs.Files.{SourceFile, at_once}
 use Rattle.bicep_surroundings.specs.Sight.{Sight}
 use Rattle.bicep_eval_tests.specs.declared.sample.Slot.{Slot}
 use Rattle.bicep_eval_tests.specs.declared.sample.Slot.TheVariants as slot
@@ -22,6 +22,7 @@ empty = record {
   modules = [];
   has_entry = λ n. false;
   accepts = λ n j. false;
+  batches = at_once;
 }
 
 -- a variable that is not known yet reads a cell of its number

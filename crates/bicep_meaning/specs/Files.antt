@@ -2,6 +2,8 @@
 use Rattle.std.specs.Prelude.{ℕ, zero, suc, List, [], ◌++◌, ◌∷◌, length, Bool, Option, Some, None, option_map}
 use Rattle.std.specs.Prelude.{option_and_then, slice_get, codes}
 use Rattle.arm_value.specs.Json.{Json}
+use Rattle.template_parts.specs.declared.looping.Batches.{Batches}
+use Rattle.template_parts.specs.declared.looping.Batches.TheVariants.{Parallel}
 use Rattle.bicep_misplaced.specs.Types.{divided}
 use Rattle.bicep_names.specs.declared.kind.Kind.{Kind}
 use Rattle.bicep_names.specs.declared.kind.Kind.TheVariants as k
@@ -24,6 +26,12 @@ pub record SourceFile : Type 0 where
   pub has_entry : ℕ → Bool
   -- whether a parameter may have a value, by its number: the value is of its type, and its decorators allow it
   pub accepts : ℕ → Json → Bool
+  -- the batches of a loop of resources or modules, by its number: its decorator `@batchSize` says how large they are
+  pub batches : ℕ → Batches
+
+-- without the decorator all instances of a loop may begin at once
+abbrev pub at_once : ℕ → Batches
+at_once n = Parallel
 
 abbrev pub symbol_name : SourceFile → ℕ → Option (List ℕ)
 symbol_name f n = option_map (λ x. x.1) (slice_get f.symbols n)

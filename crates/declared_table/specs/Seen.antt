@@ -2,7 +2,7 @@
 use Rattle.std.specs.Prelude.{ℕ, Bool, false, List, [], map, slice_index_or}
 use Rattle.bicep_symbols.specs.Entries.{symbol_of}
 use Rattle.bicep_declared.specs.View.{file_tree}
-use Rattle.bicep_meaning.specs.Files.{SourceFile}
+use Rattle.bicep_meaning.specs.Files.{SourceFile, at_once}
 use Rattle.arm_expr.specs.Tree.{Tree}
 use Rattle.bicep_emission.specs.Emitted.{Frame}
 use Rattle.resolved_program.specs.declared.resolved.ResolvedFile.{ResolvedFile}
@@ -11,8 +11,8 @@ use Rattle.emission_laws.specs.Holes.{refilled}
 use Rattle.emitted_expressions.specs.Sight.{Sight}
 use Rattle.ordered_emissions.specs.Known.{known, known_full_name, known_condition}
 
--- a file of a program, as far as emission looks at it: its list of modules and the values of its parameters are left
--- out; the variables that have an entry are marked by their numbers
+-- a file of a program, as far as emission looks at it: its list of modules, the values of its parameters and the
+-- batches of its loops are left out; the variables that have an entry are marked by their numbers
 abbrev pub file_of : ResolvedFile → List Bool → SourceFile
 file_of r marks = record {
   symbols = map symbol_of r.entries.items;
@@ -21,6 +21,7 @@ file_of r marks = record {
   modules = [];
   has_entry = λ n. slice_index_or marks n false;
   accepts = λ n j. false;
+  batches = at_once;
 }
 
 -- a file of the program as another file looks at it

@@ -18,7 +18,7 @@ use Rattle.bicep_resolved.specs.Source.{SourceTree, PropertyTrees, ValueTree}
 use Rattle.bicep_resolved.specs.Source as s
 use Rattle.bicep_declared.specs.Declarations.{BodyTree, DeclaredTree}
 use Rattle.bicep_declared.specs.Declarations as d
-use Rattle.bicep_meaning.specs.Files.{SourceFile}
+use Rattle.bicep_meaning.specs.Files.{SourceFile, at_once}
 use Rattle.bicep_emission.specs.Emitted.{Frame, emitted}
 use Rattle.emitted_declarations.specs.Declared.{Emission, whole}
 
@@ -147,6 +147,7 @@ main = record {
   modules = 13 ∷ 14 ∷ [];
   has_entry = λ n. n == 2;
   accepts = λ n j. true;
+  batches = at_once;
 }
 
 -- the file of the modules, which has an output
@@ -158,6 +159,7 @@ other = record {
   modules = [];
   has_entry = λ n. false;
   accepts = λ n j. true;
+  batches = at_once;
 }
 
 abbrev pub files : List SourceFile

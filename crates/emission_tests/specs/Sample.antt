@@ -5,7 +5,7 @@ use Rattle.std.specs.Prelude.{if◌then◌else◌}
 use Rattle.arm_expr.specs.Tree.{Tree, text, call}
 use Rattle.bicep_names.specs.declared.kind.Kind.{Kind}
 use Rattle.bicep_names.specs.declared.kind.Kind.TheVariants as kind
-use Rattle.bicep_meaning.specs.Files.{SourceFile}
+use Rattle.bicep_meaning.specs.Files.{SourceFile, at_once}
 use Rattle.bicep_emission.specs.Emitted.{one, two, no_value, item_of, index_of, properties_of}
 use Rattle.emitted_expressions.specs.Sight.{Sight}
 use Rattle.emission_tests.specs.declared.sample.Sample.{Sample}
@@ -22,6 +22,7 @@ file_with names outputs = record {
   modules = [];
   has_entry = λ n. false;
   accepts = λ n j. false;
+  batches = at_once;
 }
 
 abbrev pub file_of : List (List ℕ) → SourceFile

@@ -18,7 +18,7 @@ use Rattle.bicep_resolved.specs.Source.{SourceTree, PropertyTrees}
 use Rattle.bicep_resolved.specs.Source as s
 use Rattle.bicep_declared.specs.Declarations.{BodyTree, DeclaredTree}
 use Rattle.bicep_declared.specs.Declarations as d
-use Rattle.bicep_meaning.specs.Files.{SourceFile}
+use Rattle.bicep_meaning.specs.Files.{SourceFile, at_once}
 use Rattle.bicep_meaning.specs.Around.{Here}
 use Rattle.bicep_meaning.specs.Declared.{meaning}
 use Rattle.bicep_meaning.specs.Instances.{SourceProgram}
@@ -93,6 +93,7 @@ main = record {
   modules = 8 ∷ 9 ∷ [];
   has_entry = λ n. n == 2;
   accepts = accepted;
+  batches = at_once;
 }
 
 -- param q string = 'default'
@@ -112,6 +113,7 @@ inner = record {
   modules = [];
   has_entry = λ n. false;
   accepts = accepted;
+  batches = at_once;
 }
 
 abbrev pub here : Here

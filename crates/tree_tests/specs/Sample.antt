@@ -2,7 +2,7 @@
 -- one before it twice.
 use Rattle.std.specs.Prelude.{ℕ, zero, suc, false, [], codes}
 use Rattle.arm_expr.specs.Tree.{Tree, text, call}
-use Rattle.bicep_meaning.specs.Files.{SourceFile}
+use Rattle.bicep_meaning.specs.Files.{SourceFile, at_once}
 use Rattle.bicep_emission.specs.Emitted.{one, three, no_value}
 use Rattle.emitted_expressions.specs.Sight.{Sight}
 use Rattle.tree_tests.specs.declared.sample.Sample.{Sample}
@@ -16,6 +16,7 @@ file = record {
   modules = [];
   has_entry = λ n. false;
   accepts = λ n j. false;
+  batches = at_once;
 }
 
 abbrev pub doubled : ℕ → Tree

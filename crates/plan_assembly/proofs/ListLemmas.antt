@@ -1,7 +1,9 @@
 -- A list that grows by one, for each of another list.
 use Rattle.std.proofs.Common.{◌≡◌, ℕ, zero, suc, ◌+◌, ◌<◌, ◌≤◌, List, [], ◌∷◌, ◌++◌, map, length, drop, get_or}
-use Rattle.std.proofs.Common.{refl, sym, ap, ◌∙◌, arith, append_assoc}
+use Rattle.std.proofs.Common.{refl, sym, ap, subst, ◌∙◌, arith, append_assoc}
 use Rattle.std.proofs.lemmas.List.{map-append}
+use Rattle.reading.specs.World.{Each}
+use Rattle.plan_table.proofs.SpotLemmas.{each_joined}
 
 drop_here : {B : Type 0} (bs : List B) (i : ℕ) (d : B) → i < length bs → drop i bs ≡ get_or bs i d ∷ drop (suc i) bs
 drop_here [] i d h = absurd (omega (arith, h))
@@ -37,3 +39,7 @@ module _ {A B C : Type 0} (f : A → C) (g : B → C) where
       sym (nil_right (map f news))
       ∙ ap (λ xs. map f news ++ map g xs) (sym (nothing_left bs i h))
       ∙ left
+
+pub each_more : {A : Type 0} (P : A → Type 0) (olds news : List A) (a : A) → news ≡ olds ++ a ∷ [] → Each P olds → P a
+    → Each P news
+each_more P olds news a n h p = subst (λ xs. Each P xs) (sym n) (each_joined P olds (a ∷ []) h (p, tt))

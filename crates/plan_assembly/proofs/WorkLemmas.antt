@@ -5,6 +5,7 @@ use Rattle.arm_ids.specs.Held.{HeldResource}
 use Rattle.arm_ids.specs.declared.id.ResourceId.{ResourceId}
 use Rattle.reading.specs.Reading.{pure, continued}
 use Rattle.reading.specs.Knowledge.{value, told, and_then}
+use Rattle.reading.specs.World.{Each}
 use Rattle.reading.proofs.Parts.{told-continued}
 use Rattle.template_parts.specs.declared.mode.Mode.{Mode}
 use Rattle.deploy_cells.specs.Cells.{Cell}
@@ -25,7 +26,8 @@ use Rattle.plan_tasks.specs.Start.{start_of, IsStartTable, task_of}
 use Rattle.plan_needs.specs.Needs.{all_tasks, AreInOrder, AreWithin}
 use Rattle.plan_assembly.specs.declared.plan.Plan.{Plan}
 use Rattle.plan_assembly.specs.declared.plan.Task.{Task}
-use Rattle.plan_assembly.specs.Plans.{task_in, ArePlanned, deployment_of, work_in, known_in, IsPlanned}
+use Rattle.plan_assembly.specs.Plans.{task_in, IsTaskIn, ArePlanned, deployment_of, work_in, known_in}
+use Rattle.plan_assembly.specs.Plans.{IsPlanned}
 
 module _ (d : Deployment) (q : known.Table) where
   one_then : {A B : Type 0} (r : Reads A) (f : A → Reads B) (x : A) → told q r ≡ value x
@@ -52,16 +54,17 @@ pub planned : (t : Table) (mode : Mode) (held : List HeldResource) (us : List Sc
     ≡ value (map (task_of (scopes_of t)) us)
     → told (start_of t) (put_keys (whole_of t) (map (task_of (scopes_of t)) us)) ≡ value ks
     → map delete ds ≡ deletes_in mode (whole_of t).place ks held
-    → map (task_in (scopes_of t)) all ≡ all_tasks t us ds
+    → map (task_in (scopes_of t)) all ≡ all_tasks t us ds → Each (IsTaskIn t) all
     → AreNeeds (whole_of t) (start_of t) (all_tasks t us ds) ns → AreInOrder ns
     → AreWithin (length us + length ds) ns → ArePlanned t mode held all ks ns
-planned t mode held us ks ds all ns e k m a n o w =
+planned t mode held us ks ds all ns e k m a l n o w =
     let ts = map (task_of (scopes_of t)) us in
     let same : map (task_in (scopes_of t)) all ≡ ts ++ deletes_in mode (whole_of t).place ks held =
     a ∙ ap (λ xs. ts ++ xs) m in
     record {
       has_work = work_is (whole_of t) (start_of t) mode held ts ks e k
           ∙ ap (λ (xs : List tasks.Task). value (record { tasks = xs; keys = ks })) (sym same);
+      of_table = l;
       has_needs = subst (λ xs. AreNeeds (whole_of t) (start_of t) xs ns) (sym a) n;
       in_order = o;
       within = subst (λ (i : ℕ). AreWithin i ns) lengths w;

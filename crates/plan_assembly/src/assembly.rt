@@ -12,7 +12,7 @@ ghost use Rattle.plan_needs.specs.Needs.{all_tasks, AreElements, AreInOrder, Are
 ghost use Rattle.plan_telling.specs.Symbols.{IsComplete};
 ghost use Rattle.plan_start.specs.Sheets.{IsSheet};
 ghost use Rattle.plan_elements.specs.Elements.{IsUnread};
-ghost use Rattle.plan_assembly.specs.Plans.{task_in, ArePlanned, IsPlanned, deployment_of};
+ghost use Rattle.plan_assembly.specs.Plans.{task_in, IsTaskIn, ArePlanned, IsPlanned, deployment_of};
 
 use crate::listing::list_all;
 use crate::plan::{Plan, Task};
@@ -54,6 +54,7 @@ fn tasks_with(
     requires values { AreElements table.now tasks.now (values_in values.now) }
     ensures tasks { IfOk result (λ p. map (task_in (scopes_of table.now)) p.0.items
         ≡ all_tasks table.now tasks.now deletes.now) }
+    ensures of_table { IfOk result (λ p. Each (IsTaskIn table.now) p.0.items) }
     ensures needs { IfOk result (λ p. AreNeeds (whole_of table.now) (start_of table.now)
         (all_tasks table.now tasks.now deletes.now) p.1.items) }
     ensures order { IfOk result (λ p. AreInOrder p.1.items) }

@@ -9,5 +9,5 @@ returns-in-Ok-tasks_with c =
     c.in-Ok-tasks_with.tasks.items c.in-Ok-tasks_with.needs.items c.requires.listed c.requires.keys
     (ap (λ ks. map delete ks) c.as_slice-in-Ok.ensures.value ∙ c.in-Ok.ensures
     ∙ ap (λ ks. deletes_in c.args.mode c.args.table.now.place.now ks c.args.held.now) c.as_slice.ensures.value)
-    c.in-Ok-tasks_with.ensures.tasks c.in-Ok-tasks_with.ensures.needs c.in-Ok-tasks_with.ensures.order
-    c.in-Ok-tasks_with.ensures.within
+    c.in-Ok-tasks_with.ensures.tasks c.in-Ok-tasks_with.ensures.of_table c.in-Ok-tasks_with.ensures.needs
+    c.in-Ok-tasks_with.ensures.order c.in-Ok-tasks_with.ensures.within

@@ -77,10 +77,11 @@ module _ (files : List SourceFile) (f : SourceFile) where
 
   -- ---- resources and modules
 
-  -- the loop of a resource has the name of its symbol
+  -- the loop of a resource has the name of its symbol, and its batches
   pub record IsLoop (n : ℕ) (l : LoopTree) (c : ResourceCopy) : Type 0 where
     pub name : symbol_name f n ≡ Some c.name
     pub count : IsExpression (count_of (emission.scope.items n)) (json c.count)
+    pub batches : c.batches ≡ f.batches n
 
   -- an argument of a module
   abbrev pub IsArgument : Put → ValueTree → Argument → Type 0

@@ -10,5 +10,6 @@ pub mod TargetLemmas
 pub mod MentionLemmas
 pub mod DependLemmas
 pub mod StartLemmas
+pub mod BatchLemmas
 pub mod RuleLemmas
 pub mod NeedLemmas

@@ -72,7 +72,7 @@ put_body f n (Some (declared.a_resource x y existing b)) a e =
     (sym (body_unless existing (record { number = n; body = b; kind = source.resource_kind f n }) a e))
 put_body f n (Some (declared.a_module x b)) a e = ap (λ (x : Put). Some x.body) (same_some e)
 
-looped_is : (f : SourceFile) (n : ℕ) (a : Put) → put_of n f ≡ Some a → is_looped f n ≡ is_some a.body.each
+pub looped_is : (f : SourceFile) (n : ℕ) (a : Put) → put_of n f ≡ Some a → is_looped f n ≡ is_some a.body.each
 looped_is f n a e =
     ap (λ o. is_some (option_and_then (λ (b : BodyTree). b.each) o)) (put_body f n (declaration f n) a e)
 

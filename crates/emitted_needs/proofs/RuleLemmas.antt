@@ -31,7 +31,8 @@ use Rattle.bicep_meaning.specs.Instances.{SourceProgram, file_at}
 use Rattle.cell_renaming.specs.Renaming.{Renaming, IsOneToOne, to_position, renamed}
 use Rattle.cell_renaming.proofs.CellLemmas.{to-from_position}
 use Rattle.cell_renaming.proofs.OptionLemmas.{of_then}
-use Rattle.source_needs.specs.Needs.{SourceNeeds, AreOf, IsMention, IsBatchAfter, by_mention, by_order, by_batch}
+use Rattle.source_needs.specs.Needs.{SourceNeeds, AreOf, IsMention, IsBatchAfter, batches_of, by_mention, by_order}
+use Rattle.source_needs.specs.Needs.{by_batch}
 use Rattle.source_needs.specs.Orders.{IsAfter}
 use Rattle.source_needs.specs.Tasks.{IsTask}
 use Rattle.source_worlds.specs.Numbers.{number_of, numbering}
@@ -43,9 +44,9 @@ use Rattle.emitted_worlds.proofs.TemplateLemmas.{has_template}
 use Rattle.emitted_programs.specs.Given.{IsDeployed, deployed}
 use Rattle.emitted_programs.proofs.AboveLemmas.{counted_scope, included_admitted}
 use Rattle.emitted_programs.proofs.ReadLemmas.{deployed_facts}
-use Rattle.emitted_needs.specs.Batches.{batches_in, HasBatches}
 use Rattle.emitted_needs.specs.Symbols.{HaveSymbols}
 use Rattle.emitted_needs.specs.Tasks.{to_task}
+use Rattle.emitted_needs.proofs.BatchLemmas.{batches_in, same_batches}
 use Rattle.emitted_needs.proofs.ChildLemmas.{child_forth, child_back}
 use Rattle.emitted_needs.proofs.DependLemmas.{mention_forth, mention_back}
 use Rattle.emitted_needs.proofs.MentionLemmas.{Scene, Other}
@@ -106,8 +107,7 @@ module _ (t : Deployment) where
 
 module _ (z : Form) (d : SourceProgram) (u : TemplateTree) (bound : List (List ℕ × BoundMeaning))
     (held : List HeldResource) (h : IsDeployed z d u bound held) (w : World)
-    (satisfied : source.Satisfies d (held_state held) w) (symbols : HaveSymbols d)
-    (batches : Position → ℕ → Batches) (has : HasBatches z d (deployed d u bound) batches) where
+    (satisfied : source.Satisfies d (held_state held) w) (symbols : HaveSymbols d) where
   abbrev r : Renaming
   r = numbering z d.files
 
@@ -232,11 +232,11 @@ module _ (z : Form) (d : SourceProgram) (u : TemplateTree) (bound : List (List �
           && is_before dep (copy_of dep (resource_of u c.new c.number)) c.instance.copy g.instance.copy
 
       batch_is : is_before dep (copy_of dep (resource_of u c.new c.number)) c.instance.copy g.instance.copy
-          ≡ is_batch_before dep (batches c.at c.instance.resource) c.instance.copy g.instance.copy
+          ≡ is_batch_before dep (batches_of d c.at c.instance.resource) c.instance.copy g.instance.copy
       batch_is =
           before_is dep (copy_of dep (resource_of u c.new c.number)) c.instance.copy g.instance.copy
           ∙ ap (λ b. is_batch_before dep b c.instance.copy g.instance.copy)
-          (has c.at c.new c.instance.resource c.number c.is_new c.is_number)
+          (same_batches z d dep h.emitted c.at c.new c.instance.resource c.number c.is_new c.is_number)
 
       follows_is : follows_batch dep (started a) (ended b) ≡ batch_there
       follows_is =
@@ -254,7 +254,7 @@ module _ (z : Form) (d : SourceProgram) (u : TemplateTree) (bound : List (List �
           ∙ i.there c.at g.instance.resource g.number g.is_number)
 
       follows_forth : c.instance.resource ≡ g.instance.resource
-          → IsBatchAfter (batches c.at c.instance.resource) c.instance.copy g.instance.copy
+          → IsBatchAfter (batches_of d c.at c.instance.resource) c.instance.copy g.instance.copy
           → follows_batch dep (started a) (ended b) ≡ true
       follows_forth k l =
           follows_is
@@ -262,16 +262,16 @@ module _ (z : Form) (d : SourceProgram) (u : TemplateTree) (bound : List (List �
           (is_before dep (copy_of dep (resource_of u c.new c.number)) c.instance.copy g.instance.copy)
           (numbers_equal c.number g.number (same_resource k))
           (batch_is
-          ∙ batch_forth dep (batches c.at c.instance.resource) c.instance.copy g.instance.copy l)
+          ∙ batch_forth dep (batches_of d c.at c.instance.resource) c.instance.copy g.instance.copy l)
 
-      follows_back : follows_batch dep (started a) (ended b) ≡ true → SourceNeeds z d batches w x y
+      follows_back : follows_batch dep (started a) (ended b) ≡ true → SourceNeeds z d w x y
       follows_back k =
           let l = both_true (nat_eq c.number g.number)
           (is_before dep (copy_of dep (resource_of u c.new c.number)) c.instance.copy g.instance.copy)
           (sym follows_is ∙ k) in
           by_batch c.at c.instance g.instance (record { starts = c.is; ends = g.is })
           (same_number (equal_numbers c.number g.number l.0))
-          (batch_back dep (batches c.at c.instance.resource) c.instance.copy g.instance.copy (sym batch_is ∙ l.1))
+          (batch_back dep (batches_of d c.at c.instance.resource) c.instance.copy g.instance.copy (sym batch_is ∙ l.1))
 
       -- ---- names
 
@@ -283,7 +283,7 @@ module _ (z : Form) (d : SourceProgram) (u : TemplateTree) (bound : List (List �
           ∙ ap (λ k. if k then depends dep c.new (step c.number c.instance.copy) (step g.number g.instance.copy)
           else pure false) (position_same c.new)
 
-      depends_forth : value_in rw (depends_on dep (started a) (ended b)) ≡ Some true → SourceNeeds z d batches w x y
+      depends_forth : value_in rw (depends_on dep (started a) (ended b)) ≡ Some true → SourceNeeds z d w x y
       depends_forth k =
           by_mention c.at c.instance g.instance (record { starts = c.is; ends = g.is })
           (mentions_forth c.at c.new c.is_new c.instance g.instance c.number g.number c.is_number g.is_number
@@ -396,7 +396,7 @@ module _ (z : Form) (d : SourceProgram) (u : TemplateTree) (bound : List (List �
         (plan.deletes_after dep a b) k
 
     of_batch : Pairing → (p : Position) (s t : Step) → AreOf x y p s t → s.resource ≡ t.resource
-        → IsBatchAfter (batches p s.resource) s.copy t.copy → needs_by_order dep a b ≡ true
+        → IsBatchAfter (batches_of d p s.resource) s.copy t.copy → needs_by_order dep a b ≡ true
     of_batch (apart k l never) p s t o g h = absurd (never p s t o)
     of_batch (one_scope c n) p s t o g h =
         let first = same_some (sym o.starts ∙ c.is) in
@@ -404,8 +404,8 @@ module _ (z : Form) (d : SourceProgram) (u : TemplateTree) (bound : List (List �
         batch_true
         (follows_forth c n
         (sym (ap (λ (i : Instance). i.1.resource) first) ∙ g ∙ ap (λ (t : Step). t.resource) second)
-        (subst (λ (t : Step). IsBatchAfter (batches c.at c.instance.resource) c.instance.copy t.copy) second
-        (subst (λ (i : Instance). IsBatchAfter (batches i.0 i.1.resource) i.1.copy t.copy) first h)))
+        (subst (λ (t : Step). IsBatchAfter (batches_of d c.at c.instance.resource) c.instance.copy t.copy) second
+        (subst (λ (i : Instance). IsBatchAfter (batches_of d i.0 i.1.resource) i.1.copy t.copy) first h)))
 
     of_mention : Pairing → (p : Position) (s t : Step) → AreOf x y p s t → IsMention z d w p s t → (answer : Bool)
         → value_in rw (depends_on dep (started a) (ended b)) ≡ Some answer → answer ≡ true
@@ -427,7 +427,7 @@ module _ (z : Form) (d : SourceProgram) (u : TemplateTree) (bound : List (List �
     after_true answer g k = always (order_true k) answer g
 
     pub batches_true : (answer : Bool) → value_in rw (needs dep a b) ≡ Some answer → (p : Position) (s t : Step)
-        → AreOf x y p s t → s.resource ≡ t.resource → IsBatchAfter (batches p s.resource) s.copy t.copy
+        → AreOf x y p s t → s.resource ≡ t.resource → IsBatchAfter (batches_of d p s.resource) s.copy t.copy
         → answer ≡ true
     batches_true answer g p s t o k l = always (of_batch pairing p s t o k l) answer g
 
@@ -437,27 +437,27 @@ module _ (z : Form) (d : SourceProgram) (u : TemplateTree) (bound : List (List �
 
     -- ---- back
 
-    of_follows : Pairing → follows_batch dep (started a) (ended b) ≡ true → SourceNeeds z d batches w x y
+    of_follows : Pairing → follows_batch dep (started a) (ended b) ≡ true → SourceNeeds z d w x y
     of_follows (apart k l never) g = absurd (true≢false (sym g ∙ k))
     of_follows (one_scope c n) g = follows_back c n g
 
     of_depends : Pairing → value_in rw (depends_on dep (started a) (ended b)) ≡ Some true
-        → SourceNeeds z d batches w x y
+        → SourceNeeds z d w x y
     of_depends (apart k l never) g = absurd (true≢false (same_some (sym g ∙ l)))
     of_depends (one_scope c n) g = depends_forth c n g
 
     of_split : (in_order r i dep a b ≡ true) ⊎ (follows_batch dep (started a) (ended b) ≡ true)
-        → SourceNeeds z d batches w x y
+        → SourceNeeds z d w x y
     of_split (inl k) = by_order (order_back r i dep (child_back dep) x y a b e f k)
     of_split (inr k) = of_follows pairing k
 
     of_rule : (o : Bool) → needs_by_order dep a b ≡ o → value_in rw (needs dep a b) ≡ Some true
-        → SourceNeeds z d batches w x y
+        → SourceNeeds z d w x y
     of_rule true k g =
         of_split
         (split (plan.is_entered_by dep a b) (plan.leaves dep a b) (follows_batch dep (started a) (ended b))
         (plan.deletes_after dep a b) k)
     of_rule false k g = of_depends pairing (sym (rule_value false k) ∙ g)
 
-    pub rule_back : value_in rw (needs dep a b) ≡ Some true → SourceNeeds z d batches w x y
+    pub rule_back : value_in rw (needs dep a b) ≡ Some true → SourceNeeds z d w x y
     rule_back g = of_rule (needs_by_order dep a b) refl g

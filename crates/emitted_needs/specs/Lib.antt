@@ -1,4 +1,3 @@
 pub mod Tasks
 pub mod Needs
 pub mod Symbols
-pub mod Batches

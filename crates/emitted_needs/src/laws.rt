@@ -3,10 +3,9 @@ ghost use Rattle.std.specs.Prelude.{◌≡◌, ◌↔◌, ◌||◌, ℕ, Bool, t
 ghost use Rattle.arm_ids.specs.Held.{HeldResource};
 ghost use Rattle.reading.specs.World.{value_in};
 ghost use Rattle.template_parameters.specs.Binding.{BoundMeaning};
-ghost use Rattle.template_parts.specs.declared.looping.Batches.{Batches};
 ghost use Rattle.template_parts.specs.declared.mode.Form.{Form};
 ghost use Rattle.template_tree.specs.Tree.{TemplateTree};
-ghost use Rattle.deploy_cells.specs.Cells.{Position, World};
+ghost use Rattle.deploy_cells.specs.Cells.{World};
 ghost use Rattle.plan_cells.specs.Desired.{held_state};
 ghost use Rattle.plan_cells.specs.Meaning.{Deployment};
 ghost use Rattle.plan_cells.specs.Needs.{is_entered_by, leaves, deletes_after, needs};
@@ -19,7 +18,6 @@ ghost use Rattle.source_needs.specs.Orders.{IsAfter};
 ghost use Rattle.source_needs.specs.Tasks.{IsTask};
 ghost use Rattle.source_worlds.specs.Numbers.{numbering};
 ghost use Rattle.emitted_programs.specs.Given.{IsDeployed, deployed};
-ghost use Rattle.emitted_needs.specs.Batches.{HasBatches};
 ghost use Rattle.emitted_needs.specs.Needs.{ReadsFrom, Needs};
 ghost use Rattle.emitted_needs.specs.Symbols.{HaveSymbols};
 ghost use Rattle.emitted_needs.specs.Tasks.{to_task};
@@ -47,11 +45,9 @@ pub fn values_read_the_same()
 pub fn needs_are_the_same()
     ensures { (z : Form) (d : SourceProgram) (u : TemplateTree) (bound : List (List ℕ × BoundMeaning))
         (held : List HeldResource) → IsDeployed z d u bound held → HaveSymbols d
-        → (batches : Position → ℕ → Batches) → HasBatches z d (deployed d u bound) batches
         → (w : World) → Satisfies d (held_state held) w → (x y a b : Task)
         → to_task (numbering z d.files) x ≡ Some a → to_task (numbering z d.files) y ≡ Some b → IsTask d w x
         → IsTask d w y → (answer : Bool)
         → value_in (renamed (numbering z d.files) w) (needs (deployed d u bound) a b) ≡ Some answer
-        → SourceNeeds z d batches w x y
-        ↔ Needs (deployed d u bound) (renamed (numbering z d.files) w) a b }
+        → SourceNeeds z d w x y ↔ Needs (deployed d u bound) (renamed (numbering z d.files) w) a b }
 {}

@@ -1,6 +1,7 @@
 -- Which task of a program needs which, in a world (Microsoft Learn, "Resource dependencies in Bicep", "Define the order
 -- for deploying resources in ARM templates", "Iterative loops in Bicep").
-use Rattle.std.specs.Prelude.{◌≡◌, ℕ, suc, ◌/◌, Bool, true, false, [], Option, Some, is_some, option_and_then}
+use Rattle.std.specs.Prelude.{◌≡◌, ℕ, suc, ◌/◌, Bool, true, false, [], Option, Some, None, is_some, option_and_then}
+use Rattle.std.specs.Prelude.{if◌then◌else◌}
 use Rattle.arm_ids.specs.Id.{folded}
 use Rattle.arm_ids.specs.declared.id.ResourceId.{ResourceId}
 use Rattle.reading.specs.Reading.{done, pure, none, continued}
@@ -66,6 +67,15 @@ pub record IsMention (z : Form) (d : SourceProgram) (w : World) (p : Position) (
 
 -- ---- batches
 
+-- the batches of a declaration of a file: without a loop there is one
+abbrev pub batches_by : Option SourceFile → ℕ → Batches
+batches_by None n = Parallel
+batches_by (Some f) n = if is_looped f n then f.batches n else Parallel
+
+-- those of a declaration of the file of a scope
+abbrev pub batches_of : SourceProgram → Position → ℕ → Batches
+batches_of d p n = batches_by (file_at d.files p) n
+
 -- an index of a loop is in the batch after that of another
 abbrev pub IsBatchAfter : Batches → ℕ → ℕ → Type 0
 IsBatchAfter Parallel i j = ⊥
@@ -78,11 +88,10 @@ pub record AreOf (u v : Task) (p : Position) (s t : Step) : Type 0 where
   pub starts : started u ≡ Some (p, s)
   pub ends : ended v ≡ Some (p, t)
 
--- of two tasks of a program, whose loops have these batches, the first needs the second
-pub data SourceNeeds (z : Form) (d : SourceProgram) (batches : Position → ℕ → Batches) (w : World) (u v : Task) : Type 0
-  where
-    by_mention : (p : Position) (s t : Step) → AreOf u v p s t → IsMention z d w p s t → SourceNeeds z d batches w u v
-    by_values : ReadsFrom d w u v → SourceNeeds z d batches w u v
-    by_order : IsAfter u v → SourceNeeds z d batches w u v
-    by_batch : (p : Position) (s t : Step) → AreOf u v p s t → s.resource ≡ t.resource
-        → IsBatchAfter (batches p s.resource) s.copy t.copy → SourceNeeds z d batches w u v
+-- of two tasks of a program, the first needs the second
+pub data SourceNeeds (z : Form) (d : SourceProgram) (w : World) (u v : Task) : Type 0 where
+  by_mention : (p : Position) (s t : Step) → AreOf u v p s t → IsMention z d w p s t → SourceNeeds z d w u v
+  by_values : ReadsFrom d w u v → SourceNeeds z d w u v
+  by_order : IsAfter u v → SourceNeeds z d w u v
+  by_batch : (p : Position) (s t : Step) → AreOf u v p s t → s.resource ≡ t.resource
+      → IsBatchAfter (batches_of d p s.resource) s.copy t.copy → SourceNeeds z d w u v

@@ -41,7 +41,7 @@ use Rattle.bicep_emission.specs.Emitted as e
 use Rattle.emitted_declarations.specs.Declared.{Emission, variable_entry, named_by_symbol, parts_of, parts_by_number}
 use Rattle.emitted_declarations.specs.Declared.{segments_from, number_of_parts, value_or_none, variable_of}
 use Rattle.emitted_declarations.specs.Declared.{over, module_name, name_by, name_of, parts_by, parts_at, id_at, next}
-use Rattle.emitted_declarations.specs.Declared.{through}
+use Rattle.emitted_declarations.specs.Declared.{full_name_by, condition_by, condition_of, through}
 use Rattle.emitted_names.specs.Words.{HasFieldName, HasWords, HaveWords, HolesHaveWords, MembersHaveWords}
 use Rattle.emitted_names.specs.Words.{ValueHasWords}
 use Rattle.emitted_names.specs.Words.{ReachHasWords, OutputsAreNames, FileHasWords, FramesHaveNames}
@@ -253,6 +253,8 @@ module _ (file : SourceFile) (files : List SourceFile) (outputs : OutputsAreName
 
 pub record EmissionHasNames (b : Emission) : Type 0 where
   pub scope : ScopeHasNames b.scope
+  pub full_name : (n : ℕ) (fs : List Frame) → FramesHaveNames fs → HasNames (b.full_name n fs)
+  pub condition : (n : ℕ) (fs : List Frame) → FramesHaveNames fs → HasNames (b.condition n fs)
   pub parts : (n : ℕ) (fs : List Frame) → FramesHaveNames fs → HaveNames (trees (b.parts n fs))
 
 one_more : (ts : List Tree) (t : Tree) → HaveNames (trees ts) → HasNames t → HaveNames (trees (ts ++ t ∷ []))
@@ -367,6 +369,46 @@ module _ (file : SourceFile) (files : List SourceFile) (words : FileHasWords fil
   name_at n (Some (d.parameter_with at t v)) p fs h = nothing
   name_at n None p fs h = nothing
 
+  own_named : (n : ℕ) (fs : List Frame) → FramesHaveNames fs → HasNames (name_of file files b n fs)
+  own_named n fs h = name_at n (declaration file n) refl fs h
+
+  reached : (r : ReachTree) (n : ℕ) (fs : List Frame) → parent file n ≡ below r → FramesHaveNames fs
+      → FramesHaveNames (frames_of file files b.scope r fs)
+  reached r n fs p h = frames_named file files outputs b.scope bn.scope r fs (words.parents n r p) h
+
+  full_name_at : (n : ℕ) (p : Parent) → parent file n ≡ p → (fs : List Frame) → FramesHaveNames fs
+      → HasNames (full_name_by file files b p (name_of file files b n fs) fs)
+  full_name_at n no_parent p fs h = own_named n fs h
+  full_name_at n (inside u) p fs h =
+      (name_is (codes "format") refl, (tt, (bn.full_name u [] tt, (own_named n fs h, tt))))
+  full_name_at n (below r) p fs h = (
+    name_is (codes "format") refl,
+    (
+      tt,
+      (
+        bn.full_name (number_of (target_of r)) (frames_of file files b.scope r fs) (reached r n fs p h),
+        (own_named n fs h, tt),
+      ),
+    ),
+  )
+
+  condition_at : (n : ℕ) (p : Parent) (x : Option SourceTree) → ((c : SourceTree) → x ≡ Some c → HasWords c)
+      → (fs : List Frame) → FramesHaveNames fs → HasNames (condition_by file files b p x fs)
+  condition_at n no_parent None g fs h = (name_is (codes "true") refl, tt)
+  condition_at n no_parent (Some c) g fs h = expression_named file files outputs b.scope bn.scope c fs (g c refl) h
+  condition_at n (inside u) None g fs h = bn.condition u [] tt
+  condition_at n (inside u) (Some c) g fs h =
+      two_named (codes "and") (b.condition u []) (emitted file files b.scope c fs) (name_is (codes "and") refl)
+      (bn.condition u [] tt) (expression_named file files outputs b.scope bn.scope c fs (g c refl) h)
+  condition_at n (below r) None g fs h = (name_is (codes "true") refl, tt)
+  condition_at n (below r) (Some c) g fs h = expression_named file files outputs b.scope bn.scope c fs (g c refl) h
+
+  condition_named : (n : ℕ) (u : Option BodyTree) → body_at file n ≡ u → (fs : List Frame) → FramesHaveNames fs
+      → HasNames (condition_of file files b n u fs)
+  condition_named n None p fs h = nothing
+  condition_named n (Some body) p fs h =
+      condition_at n (parent file n) body.condition (λ c q. words.conditions n body c p q) fs h
+
   parts_after : (n : ℕ) (p : Parent) → parent file n ≡ p → (v : Option ValueTree) (k : ℕ) (fs : List Frame)
       → FramesHaveNames fs
       → HaveNames (trees (parts_by file files b p v k (name_of file files b n fs) fs))
@@ -411,12 +453,14 @@ module _ (file : SourceFile) (files : List SourceFile) (words : FileHasWords fil
       name = λ n fs h. name_at n (declaration file n) refl fs h;
       id = λ n fs h. id_named n (declaration file n) fs h;
     };
+    full_name = λ n fs h. full_name_at n (parent file n) refl fs h;
+    condition = λ n fs h. condition_named n (body_at file n) refl fs h;
     parts = λ n fs h. parts_named n (declaration file n) fs h;
   }
 
 module _ (file : SourceFile) (files : List SourceFile) (words : FileHasWords file)
     (outputs : OutputsAreNames files) where
-  all_levels : (k : ℕ) → EmissionHasNames (through file files k)
+  pub all_levels : (k : ℕ) → EmissionHasNames (through file files k)
   unfolding through
   all_levels zero = record {
     scope = record {
@@ -425,6 +469,8 @@ module _ (file : SourceFile) (files : List SourceFile) (words : FileHasWords fil
       name = λ n fs h. nothing;
       id = λ n fs h. nothing;
     };
+    full_name = λ n fs h. nothing;
+    condition = λ n fs h. nothing;
     parts = λ n fs h. tt;
   }
   all_levels (suc k) = next_named file files words outputs (through file files k) (all_levels k)

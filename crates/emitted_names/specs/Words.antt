@@ -70,6 +70,8 @@ pub record FileHasWords (f : SourceFile) : Type 0 where
       → field_named (codes "name") b.fields ≡ Some v → ValueHasWords v
   pub loops : (n at : ℕ) (b : BodyTree) (xs : SourceTree) → body_at f n ≡ Some b → b.each ≡ Some (s.loop at xs)
       → HasWords xs
+  pub conditions : (n : ℕ) (b : BodyTree) (c : SourceTree) → body_at f n ≡ Some b → b.condition ≡ Some c
+      → HasWords c
   pub parents : (n : ℕ) (r : ReachTree) → parent f n ≡ below r → ReachHasWords r
 
 -- the item and the index of each run have names of the grammar

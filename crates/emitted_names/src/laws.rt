@@ -14,3 +14,13 @@ pub fn names_are_of_the_grammar()
         (e : SourceTree) (fs : List Frame) → HasWords e → FramesHaveNames fs
         → HasNames (emitted file files (through file files k).scope e fs) }
 {}
+
+/// So are all names in the whole names and the conditions of resources and modules, and in what loops run over.
+pub fn names_of_heads_are_of_the_grammar()
+    ensures items { (file : SourceFile) (files : List SourceFile) → FileHasWords file → OutputsAreNames files
+        → (k n : ℕ) → HasNames ((through file files k).scope.items n) }
+    ensures names { (file : SourceFile) (files : List SourceFile) → FileHasWords file → OutputsAreNames files
+        → (k n : ℕ) (fs : List Frame) → FramesHaveNames fs → HasNames ((through file files k).full_name n fs) }
+    ensures conditions { (file : SourceFile) (files : List SourceFile) → FileHasWords file → OutputsAreNames files
+        → (k n : ℕ) (fs : List Frame) → FramesHaveNames fs → HasNames ((through file files k).condition n fs) }
+{}

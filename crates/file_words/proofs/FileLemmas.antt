@@ -46,12 +46,15 @@ use Rattle.sound_files.specs.Files.{IsFileOf}
 use Rattle.sound_files.proofs.SoundLemmas.{by_around}
 use Rattle.tree_names.specs.Words.{ValueHasAllWords, LoopHasWords, ConditionHasWords, BodyHasWords, DeclaredHasWords}
 use Rattle.tree_names.specs.Words.{FileHasAllWords}
+use Rattle.emitted_numbers.specs.Wholes.{HasWholes, ValueHasWholes, FileHasWholes, LoopHasWholes, ConditionHasWholes}
+use Rattle.emitted_numbers.specs.Wholes.{BodyHasWholes, DeclaredHasWholes, FileHasAllWholes}
 use Rattle.file_words.specs.Words.{ObjectIsWorded, MembersAreWorded, MemberIsWorded, LoopIsWorded, ResourceIsWorded}
 use Rattle.file_words.specs.Words.{BodyIsWorded, IsDeclaredWorded, FileIsWorded}
 use Rattle.file_words.proofs.TokenLemmas.{tokens_fine, count_of_tokens}
 use Rattle.file_words.proofs.ReadLemmas.{read_file}
-use Rattle.file_words.proofs.WordLemmas.{Good, GoodValue, AreGood, members_few, members_all, worded, worded_members}
-use Rattle.file_words.proofs.WordLemmas.{worded_value}
+use Rattle.file_words.proofs.SymbolLemmas.{HaveNames, symbols_named, name_at}
+use Rattle.file_words.proofs.WordLemmas.{Good, GoodValue, AreGood, members_few, members_all, members_wholes, worded}
+use Rattle.file_words.proofs.WordLemmas.{worded_members, worded_value}
 
 -- ---- files that are read
 
@@ -75,7 +78,7 @@ one_more ts t h g = all-append IsDeclaredWorded ts (t ∷ []) h (g, tt)
 mutual
   nested : (r : ResourceTree) (ts : List DeclarationTree) → ResourceIsWorded r → AreWritten ts
       → AreWritten (with_nested r ts)
-  nested (tree.resource at n q x b) ts g h = in_body b ts g h
+  nested (tree.resource at n q x b) ts g h = in_body b ts g.1 h
 
   in_body : (b : BodyTree) (ts : List DeclarationTree) → BodyIsWorded b → AreWritten ts → AreWritten (with_body b ts)
   in_body (tree.body_plain o) ts g h = in_object o ts g h
@@ -102,7 +105,7 @@ in_declaration : (t : DeclarationTree) (ts : List DeclarationTree) → IsDeclare
     → AreWritten (with_parts t (ts ++ t ∷ []))
 in_declaration (tree.metadata at n e) ts g h = one_more ts (tree.metadata at n e) h tt
 in_declaration (tree.target_scope at e) ts g h = one_more ts (tree.target_scope at e) h tt
-in_declaration (tree.param at n t) ts g h = one_more ts (tree.param at n t) h tt
+in_declaration (tree.param at n t) ts g h = one_more ts (tree.param at n t) h g
 in_declaration (tree.param_with at n t e) ts g h = one_more ts (tree.param_with at n t e) h g
 in_declaration (tree.var at n v) ts g h = one_more ts (tree.var at n v) h g
 in_declaration (tree.output at n t v) ts g h = one_more ts (tree.output at n t v) h g
@@ -179,15 +182,15 @@ module _ (sc : Scope) where
   declared_good (tree.target_scope at e) h = tt
   declared_good (tree.param at n t) h = (tt, tt)
   declared_good (tree.param_with at n t e) h =
-      where-mapped Good SomeIsGood (some_parameter n.at t) (resolved sc e []) (worded sc e [] h) (λ y g. (g, tt))
+      where-mapped Good SomeIsGood (some_parameter n.at t) (resolved sc e []) (worded sc e [] h.1) (λ y g. (g, tt))
   declared_good (tree.var at n v) h =
-      where-mapped GoodValue SomeIsGood (some_variable n.at) (resolved_value sc v []) (worded_value sc v [] h)
+      where-mapped GoodValue SomeIsGood (some_variable n.at) (resolved_value sc v []) (worded_value sc v [] h.1)
       (λ y g. (g, tt))
   declared_good (tree.output at n t v) h = tt
   declared_good (tree.a_resource (tree.resource at n q x b)) h =
-      where-mapped GoodBody SomeIsGood (some_resource n.at q x) (body_of sc b) (body_good b h) (λ y g. (g, tt))
+      where-mapped GoodBody SomeIsGood (some_resource n.at q x) (body_of sc b) (body_good b h.1) (λ y g. (g, tt))
   declared_good (tree.a_module at n q b) h =
-      where-mapped GoodBody SomeIsGood (some_module n.at) (body_of sc b) (body_good b h) (λ y g. (g, tt))
+      where-mapped GoodBody SomeIsGood (some_module n.at) (body_of sc b) (body_good b h.1) (λ y g. (g, tt))
 
   abbrev OutputIsGood : OutputTree → Type 0
   OutputIsGood o = GoodValue o.value
@@ -310,6 +313,42 @@ file_has_all x h = record {
   outputs = outputs_have x.outputs h.outputs;
 }
 
+-- ---- numbers
+
+loop_whole : (o : Option LoopTree) → GoodLoop o → LoopHasWholes o
+loop_whole None h = tt
+loop_whole (Some (s.loop at xs)) h = h.wholes
+
+condition_whole : (o : Option SourceTree) → GoodCondition o → ConditionHasWholes o
+condition_whole None h = tt
+condition_whole (Some c) h = h.wholes
+
+body_whole : (b : d.BodyTree) → GoodBody b → BodyHasWholes b
+body_whole b h =
+    (loop_whole b.each h.each, (condition_whole b.condition h.condition, members_wholes b.fields h.fields))
+
+declared_whole : (x : DeclaredTree) → IsGood x → DeclaredHasWholes x
+declared_whole (d.parameter at t) h = tt
+declared_whole (d.parameter_with at t e) h = h.wholes
+declared_whole (d.variable at v) h = h.wholes
+declared_whole (d.a_resource at q existing b) h = body_whole b h
+declared_whole (d.a_module at b) h = body_whole b h
+
+all_whole : (xs : List DeclaredTree) → AllByRecursion IsGood xs → AllByRecursion DeclaredHasWholes xs
+all_whole [] h = tt
+all_whole (x ∷ xs) h = (declared_whole x h.0, all_whole xs h.1)
+
+outputs_whole : (os : List OutputTree) → AllByRecursion (λ o. GoodValue o.value) os
+    → AllByRecursion (λ o. ValueHasWholes o.value) os
+outputs_whole [] h = tt
+outputs_whole (o ∷ os) h = (h.0.wholes, outputs_whole os h.1)
+
+file_has_all_wholes : (x : DeclaredFileTree) → FileIsGood x → FileHasAllWholes x
+file_has_all_wholes x h = record {
+  declarations = all_whole x.declarations h.declarations;
+  outputs = outputs_whole x.outputs h.outputs;
+}
+
 -- ---- names that expressions use
 
 good_by : (name : List ℕ) (y v : ValueTree) (ps : PropertyTrees) (b : Bool) → GoodValue y
@@ -343,15 +382,39 @@ module _ (f : SourceFile) (h : FileIsGood f.declared) where
   loop_words : (o : Option LoopTree) (at : ℕ) (xs : SourceTree) → o ≡ Some (s.loop at xs) → GoodLoop o → HasWords xs
   loop_words o at xs e g = let own : GoodLoop (Some (s.loop at xs)) = subst GoodLoop e g in own.words
 
+  condition_words : (o : Option SourceTree) (c : SourceTree) → o ≡ Some c → GoodCondition o → HasWords c
+  condition_words o c e g = let own : GoodCondition (Some c) = subst GoodCondition e g in own.words
+
   file_has_words : FileHasWords f
   file_has_words = record {
     variables = λ n at v e without. (at_number n (d.variable at v) e).words;
     names = λ n b v e g. (good_named (codes "name") b.fields v (body_at_number n b e).fields g).words;
     loops = λ n at b xs e g. loop_words b.each at xs g (body_at_number n b e).each;
+    conditions = λ n b c e g. condition_words b.condition c g (body_at_number n b e).condition;
     parents = λ n r e.
         let a = by_around (option_and_then around_kind (files.symbol_kind f n)) (declaration f n) r e in
         let b = body_at_number n a.has.body (ap (option_and_then meaning.body_of) a.has.is) in
-        (good_named (codes "parent") a.has.body.fields (s.plain (s.instance r)) b.fields a.has.field).reach r refl;
+        let field = good_named (codes "parent") a.has.body.fields (s.plain (s.instance r)) b.fields a.has.field in
+        (field.reach r refl).0;
+  }
+
+  loop_wholes : (o : Option LoopTree) (at : ℕ) (xs : SourceTree) → o ≡ Some (s.loop at xs) → GoodLoop o → HasWholes xs
+  loop_wholes o at xs e g = let own : GoodLoop (Some (s.loop at xs)) = subst GoodLoop e g in own.wholes
+
+  condition_wholes : (o : Option SourceTree) (c : SourceTree) → o ≡ Some c → GoodCondition o → HasWholes c
+  condition_wholes o c e g = let own : GoodCondition (Some c) = subst GoodCondition e g in own.wholes
+
+  file_has_wholes : FileHasWholes f
+  file_has_wholes = record {
+    variables = λ n at v e. (at_number n (d.variable at v) e).wholes;
+    names = λ n b v e g. (good_named (codes "name") b.fields v (body_at_number n b e).fields g).wholes;
+    loops = λ n at b xs e g. loop_wholes b.each at xs g (body_at_number n b e).each;
+    conditions = λ n b c e g. condition_wholes b.condition c g (body_at_number n b e).condition;
+    parents = λ n r e.
+        let a = by_around (option_and_then around_kind (files.symbol_kind f n)) (declaration f n) r e in
+        let b = body_at_number n a.has.body (ap (option_and_then meaning.body_of) a.has.is) in
+        let field = good_named (codes "parent") a.has.body.fields (s.plain (s.instance r)) b.fields a.has.field in
+        (field.reach r refl).1;
   }
 
 -- the names of outputs
@@ -398,6 +461,12 @@ module _ (folder : Folder) (ps : List ProgramFile) (read : AllByRecursion (λ p.
   pub words_of_values : FileHasAllWords r.declared
   words_of_values = file_has_all r.declared resolved_good
 
+  pub wholes_of_values : FileHasAllWholes r.declared
+  wholes_of_values = file_has_all_wholes r.declared resolved_good
+
+  pub wholes_of_file : (f : SourceFile) → IsFileOf r f → FileHasWholes f
+  wholes_of_file f own = file_has_wholes f (subst FileIsGood (sym own.declared) resolved_good)
+
   pub words_of_file : (f : SourceFile) → IsFileOf r f → FileHasWords f
   words_of_file f own = file_has_words f (subst FileIsGood (sym own.declared) resolved_good)
 
@@ -407,6 +476,17 @@ module _ (folder : Folder) (ps : List ProgramFile) (read : AllByRecursion (λ p.
       (declared_file (scope_in ps source.0) source.0.tree) r (sym source.2) in
       subst (AllByRecursion (λ (x : List ℕ). IsName x)) (ap (λ (x : ResolvedFileTree). x.outputs) g.made)
       (texts_named (outputs_of source.0.tree) (written_outputs source.0.tree source_worded))
+
+  symbol_names : HaveNames r.symbols
+  symbol_names =
+      let g = of_mapped (with_names (file_symbols source.0) (output_texts source.0))
+      (declared_file (scope_in ps source.0) source.0.tree) r (sym source.2) in
+      subst HaveNames (ap (λ (x : ResolvedFileTree). x.symbols) g.made)
+      (symbols_named source.0.modules source.0.tree source_worded)
+
+  pub symbols_are_names : (f : SourceFile) → IsFileOf r f → (n : ℕ) (x : List ℕ) → files.symbol_name f n ≡ Some x
+      → IsName x
+  symbols_are_names f own n x e = name_at f.symbols n x (subst HaveNames (sym own.symbols) symbol_names) e
 
 -- files with the outputs of the resolved ones
 pub outputs_are_names : (folder : Folder) (ps : List ProgramFile)

@@ -1,3 +1,4 @@
+pub mod SymbolLemmas
 pub mod FileLemmas
 pub mod ReadLemmas
 pub mod TokenLemmas

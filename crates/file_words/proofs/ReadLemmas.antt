@@ -187,7 +187,7 @@ mutual
       → Read (IsWorded x) 0 ts ks
   expression i (tree.name n) ts ks h f few = made (λ p. tt) (omega arith) (named i n ts ks h f)
   expression i (tree.literal at v) ts ks h f few =
-      made (λ p. tt) (omega arith) (token_at i at (t.Literal v) ts ks h f)
+      made (λ p. p) (omega arith) (token_at i at (t.Literal v) ts ks h f)
   expression i (tree.interpolated at begin hs) ts ks h f few =
       let a = token_at i at (t.LeftPiece begin) ts h.0 h.1 f in
       let b = a_hole i hs h.0 ks h.2 a.rest (still_few a few) in
@@ -384,9 +384,9 @@ mutual
       let d = quoted p h.2.0 q.0 q.1 c.rest in
       let g = existing x q.0 q.2.0 q.2.1 d.rest in
       let k = sign t.Assign q.2.0 q.2.2.0 q.2.2.1 g.rest in
-      second a (second c (second d (second g (second k
+      any_some (second a (both c (second d (second g (second k
       (body b q.2.2.0 ks q.2.2.2 k.rest
-      (still_few k (still_few g (still_few d (still_few c (still_few a few))))))))))
+      (still_few k (still_few g (still_few d (still_few c (still_few a few)))))))))))
 
   body : (b : BodyTree) (ts ks : List Placed) → e.body b ts ks → AreFine ts → AreFew ts → Read (BodyIsWorded b) 0 ts ks
   body (tree.body_plain o) ts ks h f few = an_object false o ts ks h f few
@@ -423,22 +423,22 @@ read_declaration (tree.target_scope at x) ts ks h f few =
 read_declaration (tree.param at n ty) ts ks h f few =
     let a = sign_at at (t.Name (codes "param")) ts h.0 h.1 f in
     let b = named false n h.0 h.2.0 h.2.1 a.rest in
-    second a (second b (made (λ p. tt) (omega arith) (sign (t.Name (type_word ty)) h.2.0 ks h.2.2 b.rest)))
+    any_some (second a (first b (sign (t.Name (type_word ty)) h.2.0 ks h.2.2 b.rest)))
 read_declaration (tree.param_with at n ty x) ts ks h f few =
     let a = sign_at at (t.Name (codes "param")) ts h.0 h.1 f in
     let b = named false n h.0 h.2.0 h.2.1 a.rest in
     let q = h.2.2 in
     let c = sign (t.Name (type_word ty)) h.2.0 q.0 q.1 b.rest in
     let d = sign t.Assign q.0 q.2.0 q.2.1 c.rest in
-    second a (second b (second c (second d
-    (expression false x q.2.0 ks q.2.2 d.rest (still_few d (still_few c (still_few b (still_few a few))))))))
+    any_some (second a (both b (second c (second d
+    (expression false x q.2.0 ks q.2.2 d.rest (still_few d (still_few c (still_few b (still_few a few)))))))))
 read_declaration (tree.var at n v) ts ks h f few =
     let a = sign_at at (t.Name (codes "var")) ts h.0 h.1 f in
     let b = named false n h.0 h.2.0 h.2.1 a.rest in
     let q = h.2.2 in
     let c = sign t.Assign h.2.0 q.0 q.1 b.rest in
-    second a (second b (second c
-    (value v q.0 ks q.2 c.rest (still_few c (still_few b (still_few a few))))))
+    any_some (second a (both b (second c
+    (value v q.0 ks q.2 c.rest (still_few c (still_few b (still_few a few)))))))
 read_declaration (tree.output at n ty v) ts ks h f few =
     let a = sign_at at (t.Name (codes "output")) ts h.0 h.1 f in
     let b = named false n h.0 h.2.0 h.2.1 a.rest in
@@ -454,8 +454,8 @@ read_declaration (tree.a_module at n p b) ts ks h f few =
     let q = h.2.2 in
     let d = quoted p h.2.0 q.0 q.1 c.rest in
     let g = sign t.Assign q.0 q.2.0 q.2.1 d.rest in
-    second a (second c (second d (second g
-    (body b q.2.0 ks q.2.2 g.rest (still_few g (still_few d (still_few c (still_few a few))))))))
+    any_some (second a (both c (second d (second g
+    (body b q.2.0 ks q.2.2 g.rest (still_few g (still_few d (still_few c (still_few a few)))))))))
 
 read_statement : (s : StatementTree) (ts ks : List Placed) → a_statement s ts ks → AreFine ts → AreFew ts
     → Read (StatementIsWorded s) 0 ts ks

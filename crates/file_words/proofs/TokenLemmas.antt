@@ -1,5 +1,5 @@
 -- Names among the tokens of a source are names of template expressions, and there are no more tokens than bytes.
-use Rattle.std.proofs.Common.{◌≡◌, ◌⊎◌, inl, inr, ◌<◌, ◌≤◌, ℕ, ◌+◌, Bool, true, false, true≢false, List, []}
+use Rattle.std.proofs.Common.{◌≡◌, ◌⊎◌, inl, inr, ◌<◌, ◌≤◌, ℕ, pos, ◌+◌, Bool, true, false, true≢false, List, []}
 use Rattle.std.proofs.Common.{◌∷◌, length, map, Option, Some, None, refl, sym, ap, ◌∙◌, subst, arith, chars}
 use Rattle.std.proofs.Common.{length-take, length-drop, codes, cond}
 use Rattle.std.specs.Prelude.{◌||◌, ◌&&◌, ◌==◌, ◌^◌, nat_le, nat_lt, bytes_eq, take, drop, if◌then◌else◌}
@@ -27,6 +27,7 @@ use Rattle.bicep_tree.specs.declared.leaf.Literal.TheVariants as l
 use Rattle.bicep_tree.specs.declared.terminal.Terminal.{Terminal}
 use Rattle.bicep_tree.specs.declared.terminal.Terminal.TheVariants as t
 use Rattle.bicep_tree.specs.Terminals.{word_terminal, kind_terminal, placed, Placed}
+use Rattle.emitted_numbers.specs.Wholes.{IsWholeLiteral}
 
 -- ---- marks are no names
 
@@ -212,9 +213,10 @@ go_on_small c e = small_by (λ k. goes_on_name k ≡ true) c (nat_lt c 65) (nat_
 
 -- ---- terminals
 
--- a name among terminals is a name of template expressions
+-- a name among terminals is a name of template expressions, and a number has 64 bits
 abbrev pub IsFine : Terminal → Type 0
 IsFine (t.Name w) = IsName w
+IsFine (t.Literal v) = IsWholeLiteral v
 IsFine x = Unit {0}
 
 pick : (b : Bool) (x y : Terminal) → IsFine x → IsFine y → IsFine (if b then x else y)
@@ -228,11 +230,16 @@ word_fine w h =
     (pick (bytes_eq w (codes "false")) (t.Literal l.False) _ tt
     (pick (bytes_eq w (codes "null")) (t.Literal l.Null) (t.Name w) tt h))
 
+counted_fine : (n : ℕ) (b : Bool) → nat_lt n (2 ^ 63) ≡ b
+    → IsFine (if b then t.Literal (l.Number (pos n)) else t.Other)
+counted_fine n true e = lt_of_true n (2 ^ 63) e
+counted_fine n false e = tt
+
 terminal_fine : (kind : TokenKind) (bytes : List ℕ) → (kind ≡ k.Name → IsNameWord bytes)
     → IsFine (kind_terminal kind bytes)
 terminal_fine k.Name bytes h = word_fine (chars bytes) (name_word bytes (h refl))
 terminal_fine k.Number bytes h =
-    pick (nat_lt (number_from 0 bytes) (2 ^ 63)) (t.Literal (l.Number _)) t.Other tt tt
+    counted_fine (number_from 0 bytes) (nat_lt (number_from 0 bytes) (2 ^ 63)) refl
 terminal_fine k.Newline bytes h = tt
 terminal_fine k.Text bytes h = tt
 terminal_fine k.LeftPiece bytes h = tt

@@ -1,5 +1,5 @@
--- Bicep trees whose names are names of template expressions, as far as they can be written into these, and whose texts
--- have few holes.
+-- Bicep trees whose names are names of template expressions, as far as they can be written into these, whose numbers
+-- are of 64 bits, and whose texts have few holes.
 use Rattle.std.specs.Prelude.{◌≤◌, ◌^◌, ℕ, suc}
 use Rattle.arm_expr.specs.Grammar.{IsName}
 use Rattle.bicep_tree.specs.Tree.{Tree, Trees, Holes, ObjectTree, MemberTree, MemberTrees, ValueTree, LoopTree}
@@ -7,6 +7,7 @@ use Rattle.bicep_tree.specs.Tree.{ResourceTree, BodyTree, DeclarationTree, State
 use Rattle.bicep_tree.specs.Tree as tree
 use Rattle.std.specs.List.{AllByRecursion}
 use Rattle.bicep_names.specs.Resolve.{function_name}
+use Rattle.emitted_numbers.specs.Wholes.{IsWholeLiteral}
 
 -- how many holes there are
 abbrev pub count : Holes → ℕ
@@ -14,10 +15,10 @@ count tree.no_hole = 0
 count (tree.hole e after hs) = suc (count hs)
 
 abbrev mutual
-  -- names of functions and of members after a `.`
+  -- names of functions and of members after a `.`, and numbers
   pub IsWorded : Tree → Type 0
   IsWorded (tree.name n) = Unit {0}
-  IsWorded (tree.literal at v) = Unit {0}
+  IsWorded (tree.literal at v) = IsWholeLiteral v
   IsWorded (tree.interpolated at first hs) = HolesAreWorded hs × (count hs ≤ 2 ^ 64)
   IsWorded (tree.object o) = ObjectIsWorded o
   IsWorded (tree.array at es) = AreWorded es
@@ -57,7 +58,7 @@ abbrev mutual
   LoopIsWorded (tree.loop at ns xs) = IsWorded xs
 
   pub ResourceIsWorded : ResourceTree → Type 0
-  ResourceIsWorded (tree.resource at n q x b) = BodyIsWorded b
+  ResourceIsWorded (tree.resource at n q x b) = IsName n.text × BodyIsWorded b
 
   pub BodyIsWorded : BodyTree → Type 0
   BodyIsWorded (tree.body_plain o) = ObjectIsWorded o
@@ -65,16 +66,16 @@ abbrev mutual
   BodyIsWorded (tree.body_each l o) = LoopIsWorded l × ObjectIsWorded o
   BodyIsWorded (tree.body_each_if l at c o) = LoopIsWorded l × (IsWorded c × ObjectIsWorded o)
 
--- a declaration, and the name of an output
+-- a declaration, and the name of what it declares
 abbrev pub IsDeclaredWorded : DeclarationTree → Type 0
 IsDeclaredWorded (tree.metadata at n e) = Unit {0}
 IsDeclaredWorded (tree.target_scope at e) = Unit {0}
-IsDeclaredWorded (tree.param at n t) = Unit {0}
-IsDeclaredWorded (tree.param_with at n t e) = IsWorded e
-IsDeclaredWorded (tree.var at n v) = ValueIsWorded v
+IsDeclaredWorded (tree.param at n t) = IsName n.text
+IsDeclaredWorded (tree.param_with at n t e) = IsName n.text × IsWorded e
+IsDeclaredWorded (tree.var at n v) = IsName n.text × ValueIsWorded v
 IsDeclaredWorded (tree.output at n t v) = IsName n.text × ValueIsWorded v
 IsDeclaredWorded (tree.a_resource r) = ResourceIsWorded r
-IsDeclaredWorded (tree.a_module at n q b) = BodyIsWorded b
+IsDeclaredWorded (tree.a_module at n q b) = IsName n.text × BodyIsWorded b
 
 abbrev pub StatementIsWorded : StatementTree → Type 0
 StatementIsWorded (tree.statement ds d) = IsDeclaredWorded d

@@ -136,6 +136,12 @@ module _ (files : List ProgramFile) (rs : List ResolvedFileTree) (h : IsResolved
         symbols = ap (λ (x : ResolvedFileTree). x.symbols) g.made;
       }
 
+  pub no_name_twice : repeated_symbol r.symbols ≡ None
+  no_name_twice =
+      let os = repeated_output (outputs_of of_text.tree) in
+      ap repeated_symbol (sym named.symbols)
+      ∙ first_none (repeated_symbol (file_symbols of_text)) (or_else os (repeated_member of_text.tree)) no_twice
+
   -- the values of the file
   values : FileHasFew r.declared → FileIsGood (scope_in files of_text) r.declared
   values few =

@@ -1,8 +1,9 @@
 //! What holds of the files of programs without faults. A law has no body: its contract is the law.
-ghost use Rattle.std.specs.Prelude.{◌≡◌, ℕ, List, Some, slice_get};
+ghost use Rattle.std.specs.Prelude.{◌≡◌, ℕ, List, Some, None, slice_get};
 ghost use Rattle.std.specs.declared.alloc.Global.{Global};
 ghost use Rattle.std.specs.declared.vec.Vec.{Vec};
 ghost use Rattle.depend_graph.specs.declared.order.Sorted.TheVariants as sorted;
+ghost use Rattle.bicep_symbols.specs.Repeated.{repeated_symbol};
 ghost use Rattle.bicep_circles.specs.Orders.{IsLinkOrder, AreSorted};
 ghost use Rattle.bicep_program.specs.Program.{ProgramFile};
 ghost use Rattle.resolved_program.specs.Programs.{ResolvedFileTree, IsResolved};
@@ -35,6 +36,13 @@ pub fn checked_files_are_paired()
     ensures { (files : List ProgramFile) (rs : List ResolvedFileTree) → IsResolved files rs
         → ((fault : Fault) → ¬ HasFault files fault) → (k : ℕ) (r : ResolvedFileTree) → slice_get rs k ≡ Some r
         → (f : SourceFile) → IsFileOf r f → IsPaired f }
+{}
+
+/// No symbol of such a file has the name of another one, or a name that no symbol may have.
+pub fn checked_files_repeat_no_name()
+    ensures { (files : List ProgramFile) (rs : List ResolvedFileTree) → IsResolved files rs
+        → ((fault : Fault) → ¬ HasFault files fault) → (k : ℕ) (r : ResolvedFileTree) → slice_get rs k ≡ Some r
+        → repeated_symbol r.symbols ≡ None }
 {}
 
 /// No symbols of such a file mention each other in a circle, so `symbol_order` of `bicep_circles` returns an order.

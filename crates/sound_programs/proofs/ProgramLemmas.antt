@@ -23,9 +23,9 @@ use Rattle.sound_programs.proofs.ValueLemmas.{file_sound}
 
 -- ---- the file at a position is one of the program
 
-record IsOne (fs : List SourceFile) (f : SourceFile) : Type 0 where
-  number : ℕ
-  is : slice_get fs number ≡ Some f
+pub record IsOne (fs : List SourceFile) (f : SourceFile) : Type 0 where
+  pub number : ℕ
+  pub is : slice_get fs number ≡ Some f
 
 by_number : (fs : List SourceFile) (f : SourceFile) (o : Option ℕ) → option_and_then (slice_get fs) o ≡ Some f
     → IsOne fs f
@@ -37,19 +37,19 @@ by_file : (fs : List SourceFile) (n : ℕ) (f : SourceFile) (o : Option SourceFi
 by_file fs n f None e = absurd (none-some f e)
 by_file fs n f (Some g) e = by_number fs f (option_and_then module_of (symbol_kind g n)) e
 
-one_of : (fs : List SourceFile) (p : Position) (f : SourceFile) → file_at fs p ≡ Some f → IsOne fs f
+pub one_of : (fs : List SourceFile) (p : Position) (f : SourceFile) → file_at fs p ≡ Some f → IsOne fs f
 unfolding file_at
 one_of fs [] f e = record { number = 0; is = e }
 one_of fs (s ∷ p) f e = by_file fs s.resource f (file_at fs p) e
 
 -- ---- the resolved file of a file
 
-record IsFrom (rs : List ResolvedFileTree) (k : ℕ) (f : SourceFile) : Type 0 where
-  resolved : ResolvedFileTree
-  is : slice_get rs k ≡ Some resolved
-  file : IsFileOf resolved f
+pub record IsFrom (rs : List ResolvedFileTree) (k : ℕ) (f : SourceFile) : Type 0 where
+  pub resolved : ResolvedFileTree
+  pub is : slice_get rs k ≡ Some resolved
+  pub file : IsFileOf resolved f
 
-from : (rs : List ResolvedFileTree) (fs : List SourceFile) (k : ℕ) (f : SourceFile) → AreFilesOf rs fs
+pub from : (rs : List ResolvedFileTree) (fs : List SourceFile) (k : ℕ) (f : SourceFile) → AreFilesOf rs fs
     → slice_get fs k ≡ Some f → IsFrom rs k f
 from [] [] k f h e = absurd (none-some f e)
 from [] (g ∷ fs) k f h e = absurd h

@@ -1,6 +1,7 @@
 use Rattle.std.proofs.Common.{sym, subst}
 use Rattle.bicep_declared.specs.Declarations.{DeclaredFileTree}
 use Rattle.sound_declarations.specs.Values.{AreValuesSound}
+use Rattle.emitted_numbers.specs.Wholes.{FileHasAllWholes}
 use Rattle.tree_names.specs.Words.{FileHasAllWords}
 use Rattle.file_tables.proofs.laws.checked_files_are_emittable.Goals as goal
 
@@ -17,5 +18,9 @@ returns c = λ rs r h f own fs outputs.
       all_words =
           subst (λ (d : DeclaredFileTree). FileHasAllWords d) (sym own.declared)
           (c.names_of_values_are_words.ensures h.folder h.files h.read rs h.resolved h.number r h.is);
+      wholes = c.numbers_are_whole.ensures h.folder h.files h.read rs h.resolved h.number r h.is f own;
+      all_wholes =
+          subst (λ (d : DeclaredFileTree). FileHasAllWholes d) (sym own.declared)
+          (c.numbers_of_values_are_whole.ensures h.folder h.files h.read rs h.resolved h.number r h.is);
       outputs = c.outputs_are_words.ensures h.folder h.files h.read rs h.resolved fs outputs;
     }

@@ -1,5 +1,5 @@
 use Rattle.bicep_declared.specs.View.{output_tree}
-use Rattle.declared_table.specs.Seen.{file_in, files_in}
+use Rattle.filled_tables.specs.Seen.{file_in, files_in}
 use Rattle.emitted_values.proofs.PartLemmas.{is_output}
 use Rattle.emitted_values.proofs.outputs.output.Goals as goal
 

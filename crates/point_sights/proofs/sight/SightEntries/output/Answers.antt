@@ -3,9 +3,9 @@ use Rattle.arm_value.specs.Look.{fold}
 use Rattle.arm_value.specs.View.{json}
 use Rattle.arm_env.specs.Look as look
 use Rattle.arm_env.specs.Look.{a_value, json_in}
-use Rattle.plan_sights.specs.Seats.{site_of}
+use Rattle.plan_telling.specs.Seats.{site_of}
 use Rattle.point_sights.specs.PointSeats.{seat_now}
-use Rattle.plan_sights.proofs.SightLemmas.{shown, hidden, awaited, await_stops}
+use Rattle.plan_telling.proofs.SightLemmas.{shown, hidden, awaited, await_stops}
 use Rattle.point_sights.proofs.sight.SightEntries.output.Goals as goal
 
 pub returns-in-Ok : goal.returns-in-Ok

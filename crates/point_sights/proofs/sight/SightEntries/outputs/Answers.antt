@@ -2,9 +2,9 @@ use Rattle.std.proofs.Common.{refl, map}
 use Rattle.arm_env.specs.Look as look
 use Rattle.arm_env.specs.Look.{a_list, list_in}
 use Rattle.arm_env.specs.Sight.{declared_of}
-use Rattle.plan_sights.specs.Seats.{site_of}
+use Rattle.plan_telling.specs.Seats.{site_of}
 use Rattle.point_sights.specs.PointSeats.{seat_now}
-use Rattle.plan_sights.proofs.SightLemmas.{shown, hidden, awaited, await_stops}
+use Rattle.plan_telling.proofs.SightLemmas.{shown, hidden, awaited, await_stops}
 use Rattle.point_sights.proofs.sight.SightEntries.outputs.Goals as goal
 
 pub returns-in-Ok : goal.returns-in-Ok

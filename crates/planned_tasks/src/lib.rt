@@ -1,0 +1,6 @@
+//! What the tasks of a plan are by what is known at its start.
+//!
+//! The laws are in `laws`; there is no other code.
+#![tactic(auto)]
+
+pub mod laws;

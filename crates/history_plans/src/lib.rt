@@ -4,3 +4,5 @@
 #![tactic(auto)]
 
 pub mod laws;
+
+pub use plan_assembly::{Plan, Task};

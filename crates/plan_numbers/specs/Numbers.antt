@@ -12,7 +12,7 @@ use Rattle.plan_table.specs.Found.{scope_at}
 use Rattle.plan_tasks.specs.Start.{IsPutAt}
 use Rattle.plan_assembly.specs.declared.plan.Task.{Task}
 use Rattle.plan_assembly.specs.declared.plan.Task.TheVariants.{Enter, Put, Leave, Delete}
-use Rattle.plan_numbers.specs.declared.numbers.Numbers.{Numbers}
+pub use Rattle.plan_numbers.specs.declared.numbers.Numbers.{Numbers}
 
 abbrev pub key_tag : Option ResourceId → Option Tag
 key_tag None = None

@@ -12,3 +12,4 @@ mod numbers;
 pub use looking::{enter_of, leave_of, putter_of};
 pub use numbering::number_tasks;
 pub use numbers::Numbers;
+pub use plan_assembly::{Plan, Task};

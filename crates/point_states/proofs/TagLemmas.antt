@@ -16,9 +16,9 @@ use Rattle.plan_cells.specs.Meaning.{Deployment}
 use Rattle.plan_cells.specs.Start.{start_world}
 use Rattle.plan_cells.specs.Tasks.{Task, enter, put, leave, delete, key_by, put_keys, deletes_in}
 use Rattle.plan_table.specs.Opened.{Opened, opened_at}
-use Rattle.plan_assembly.specs.Plans.{task_in}
-use Rattle.plan_assembly.specs.declared.plan.Task as code
-use Rattle.plan_assembly.specs.declared.plan.Task.TheVariants as planned
+use Rattle.plan_numbers.specs.Plans.{task_in}
+use Rattle.plan_numbers.specs.Task as code
+use Rattle.plan_numbers.specs.Task.TheVariants as planned
 use Rattle.plan_numbers.specs.Numbers.{key_tag, put_tags}
 use Rattle.deploy_histories.specs.Planned.{Planned, IsPlanned}
 use Rattle.history_laws.proofs.Puts.{deletes_alone}

@@ -26,7 +26,7 @@ use Rattle.plan_cells.specs.Tasks.{Task, enter, put, leave, delete, deletes_in}
 use Rattle.plan_cells.proofs.ListLemmas.{has_joined, has_left}
 use Rattle.plan_table.specs.declared.table.Table.{Table}
 use Rattle.plan_table.specs.Whole.{scopes_of}
-use Rattle.plan_assembly.specs.declared.plan.Task as plan
+use Rattle.plan_numbers.specs.Task as plan
 use Rattle.plan_numbers.specs.declared.numbers.Numbers.{Numbers}
 use Rattle.plan_numbers.specs.Numbers.{put_tags, AreApart}
 use Rattle.deploy_histories.specs.Planned.{Planned, IsPlanned, first_task, puts_at, putter, course}

@@ -1,1 +1,5 @@
 pub mod Taken
+pub use Rattle.plan_numbers.specs.Plans
+pub use Rattle.plan_numbers.specs.Plan
+pub use Rattle.plan_numbers.specs.Task
+pub use Rattle.plan_numbers.specs.Numbers

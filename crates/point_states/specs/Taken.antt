@@ -12,10 +12,10 @@ use Rattle.plan_cells.specs.Reads.{key_in, is_given_by}
 use Rattle.plan_cells.specs.Start.{start_world}
 use Rattle.plan_cells.specs.Tasks as tasks
 use Rattle.plan_cells.specs.Tasks.{enter, put, leave, delete}
-use Rattle.plan_assembly.specs.declared.plan.Task.{Task}
+use Rattle.plan_numbers.specs.Task.{Task}
 use Rattle.plan_table.specs.declared.table.Table.{Table}
 use Rattle.plan_table.specs.Whole.{scopes_of}
-use Rattle.plan_assembly.specs.Plans.{task_in}
+use Rattle.plan_numbers.specs.Plans.{task_in}
 use Rattle.plan_numbers.specs.Numbers.{AreNumbers}
 use Rattle.plan_numbers.specs.declared.numbers.Numbers.{Numbers}
 use Rattle.deploy_histories.specs.Planned.{Planned, IsPlanned}

@@ -6,4 +6,5 @@
 
 mod taking;
 
+pub use plan_numbers::{Numbers, Plan, Task, leave_of, number_tasks};
 pub use taking::{Taken, take_state};

@@ -4,7 +4,7 @@ ghost use Rattle.arm_value.specs.View.{json};
 ghost use Rattle.arm_ids.specs.declared.id.ResourceId.{ResourceId};
 ghost use Rattle.plan_table.specs.declared.table.Table.{Table};
 ghost use Rattle.plan_cells.specs.Desired.{held_state};
-ghost use Rattle.plan_assembly.specs.declared.plan.Task.{Task};
+ghost use Rattle.plan_numbers.specs.Task.{Task};
 ghost use Rattle.deploy_histories.specs.Planned.{Planned};
 ghost use Rattle.deploy_histories.specs.Events.{progress, state_in};
 ghost use Rattle.point_rows.specs.Rows.{AreIndexed, HasSame};

@@ -7,8 +7,8 @@ ghost use Rattle.file_tables.specs.Checked.{IsCheckedFile};
 ghost use Rattle.file_tables.specs.Emittable.{IsEmittableFile};
 
 use file_words::laws::{
-    names_are_words, names_of_values_are_words, numbers_are_whole, numbers_of_values_are_whole, outputs_are_words,
-    texts_have_few_holes,
+    names_are_words, names_of_values_are_words, numbers_are_whole, numbers_of_values_are_whole,
+    outputs_are_words, texts_have_few_holes,
 };
 use sound_files::laws::{
     checked_files_are_paired, checked_files_are_sound, checked_values_are_sound,

@@ -10,9 +10,9 @@ use Rattle.plan_table.specs.Whole.{scopes_of, rows_in}
 use Rattle.plan_table.specs.Lines.{line_at, cell_of}
 use Rattle.plan_sight.specs.declared.lack.Lack.TheVariants as lack
 use Rattle.plan_sight.proofs.LookLemmas.{cell_of_row}
-use Rattle.plan_assembly.specs.declared.plan.Plan.{Plan}
-use Rattle.plan_assembly.specs.declared.plan.Task.TheVariants.{Leave}
-use Rattle.plan_numbers.specs.declared.numbers.Numbers.{Numbers}
+use Rattle.point_states.specs.Plan.{Plan}
+use Rattle.point_states.specs.Task.TheVariants.{Leave}
+use Rattle.point_states.specs.Numbers.{Numbers}
 use Rattle.deploy_histories.specs.Events.{Event, progress}
 use Rattle.history_plans.specs.Planned.{planned_by}
 use Rattle.point_rows.specs.declared.later.Later.{Later}

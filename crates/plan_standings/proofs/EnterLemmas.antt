@@ -31,10 +31,10 @@ use Rattle.plan_sight.specs.Ready.{IsReady}
 use Rattle.plan_sight.specs.declared.lack.Lack.{Lack}
 use Rattle.plan_sight.specs.declared.lack.Lack.TheVariants as lack
 use Rattle.plan_sight.specs.Seen.{Lacks}
-use Rattle.plan_assembly.specs.declared.plan.Plan.{Plan}
-use Rattle.plan_assembly.specs.declared.plan.Task.TheVariants.{Enter}
-use Rattle.plan_assembly.specs.Plans.{deployment_of}
-use Rattle.plan_numbers.specs.declared.numbers.Numbers.{Numbers}
+use Rattle.point_states.specs.Plan.{Plan}
+use Rattle.point_states.specs.Task.TheVariants.{Enter}
+use Rattle.point_states.specs.Plans.{deployment_of}
+use Rattle.point_states.specs.Numbers.{Numbers}
 use Rattle.deploy_histories.specs.Planned.{Planned}
 use Rattle.deploy_histories.specs.Events.{Event, Progress, progress, IsDone, is_waiting}
 use Rattle.deploy_histories.specs.Values.{task_values, body_of, demanded, entry_value}

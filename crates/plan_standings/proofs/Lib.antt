@@ -7,3 +7,5 @@ pub mod DemandLemmas
 pub mod CircleLemmas
 pub mod EnterLemmas
 pub mod LeaveLemmas
+pub mod LeftLemmas
+pub mod StandLemmas

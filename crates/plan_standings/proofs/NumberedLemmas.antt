@@ -19,11 +19,11 @@ use Rattle.plan_table.proofs.FrameLemmas.{open_frame}
 use Rattle.plan_table.specs.Whole.{scopes_of, IsLaid}
 use Rattle.plan_table.specs.Opened.{Opened}
 use Rattle.plan_table.specs.Found.{scope_at}
-use Rattle.plan_assembly.specs.declared.plan.Task as plan
-use Rattle.plan_assembly.specs.declared.plan.Task.TheVariants.{Enter, Put, Leave, Delete}
-use Rattle.plan_assembly.specs.Plans.{task_in}
-use Rattle.plan_numbers.specs.Numbers.{enter_tag, leave_tag, AreOfScopes}
-use Rattle.plan_numbers.proofs.NumberLemmas.{first_has}
+use Rattle.point_states.specs.Task as plan
+use Rattle.point_states.specs.Task.TheVariants.{Enter, Put, Leave, Delete}
+use Rattle.point_states.specs.Plans.{task_in}
+use Rattle.point_states.specs.Numbers.{enter_tag, leave_tag, AreOfScopes}
+use Rattle.point_states.proofs.NumberLemmas.{first_has}
 use Rattle.tag_places.specs.Places.{first_place}
 use Rattle.deploy_histories.specs.Planned.{Planned}
 use Rattle.deploy_histories.specs.Events.{Progress}

@@ -26,11 +26,11 @@ use Rattle.plan_sight.specs.declared.lack.Lack.TheVariants as lack
 use Rattle.plan_sight.specs.Ready.{IsReady}
 use Rattle.plan_sight.specs.Seen.{Lacks}
 use Rattle.plan_telling.specs.Symbols.{IsComplete}
-use Rattle.plan_assembly.specs.declared.plan.Plan.{Plan}
-use Rattle.plan_assembly.specs.declared.plan.Task.TheVariants.{Put}
-use Rattle.plan_assembly.specs.Plans.{deployment_of, IsPlanned}
-use Rattle.plan_numbers.specs.declared.numbers.Numbers.{Numbers}
-use Rattle.plan_numbers.specs.Numbers.{IsOfTable}
+use Rattle.point_states.specs.Plan.{Plan}
+use Rattle.point_states.specs.Task.TheVariants.{Put}
+use Rattle.point_states.specs.Plans.{deployment_of, IsPlanned}
+use Rattle.point_states.specs.Numbers.{Numbers}
+use Rattle.point_states.specs.Numbers.{IsOfTable}
 use Rattle.deploy_histories.specs.Planned.{Planned}
 use Rattle.deploy_histories.specs.Events.{Event, Progress, progress, IsDone, is_waiting}
 use Rattle.deploy_histories.specs.Values.{TaskValue, a_body, task_values, body_reading, body_of, value_or_null}

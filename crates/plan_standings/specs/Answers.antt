@@ -7,8 +7,8 @@ use Rattle.plan_cells.specs.Children.{Has}
 use Rattle.plan_cells.specs.Tasks.{Task}
 use Rattle.plan_sight.specs.declared.lack.Lack.{Lack}
 use Rattle.plan_sight.specs.Seen.{Lacks}
-use Rattle.plan_assembly.specs.declared.plan.Plan.{Plan}
-use Rattle.plan_assembly.specs.Plans.{deployment_of}
+use Rattle.point_states.specs.Plan.{Plan}
+use Rattle.point_states.specs.Plans.{deployment_of}
 use Rattle.deploy_histories.specs.Events.{Event, progress}
 use Rattle.deploy_histories.specs.Values.{TaskValue, task_values}
 use Rattle.history_plans.specs.Planned.{planned_by}

@@ -2,7 +2,7 @@
 use Rattle.std.specs.Prelude.{ℕ, List, Option, Some, None}
 use Rattle.arm_ids.specs.Held.{HeldResource}
 use Rattle.reading.specs.Knowledge.{Grows}
-use Rattle.plan_assembly.specs.declared.plan.Plan.{Plan}
+use Rattle.point_states.specs.Plan.{Plan}
 use Rattle.deploy_histories.specs.Events.{Event, progress}
 use Rattle.history_plans.specs.Planned.{planned_by}
 use Rattle.point_rows.specs.declared.later.Later.{Later}

@@ -4,7 +4,7 @@ use Rattle.arm_value.specs.Json.{null}
 use Rattle.arm_value.specs.View.{json}
 use Rattle.arm_value.specs.declared.value.Value.{Value}
 use Rattle.arm_ids.specs.Held.{HeldResource}
-use Rattle.plan_assembly.specs.declared.plan.Plan.{Plan}
+use Rattle.point_states.specs.Plan.{Plan}
 use Rattle.deploy_histories.specs.Events.{Event, progress}
 use Rattle.history_plans.specs.Planned.{planned_by}
 use Rattle.point_rows.specs.declared.later.Later.{Later}

@@ -3,3 +3,4 @@ pub mod Answers
 pub mod Puts
 pub mod Entering
 pub mod Leaving
+pub mod Kept

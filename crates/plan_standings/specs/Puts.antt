@@ -8,7 +8,7 @@ use Rattle.plan_table.specs.declared.frame.Instance.{Instance}
 use Rattle.plan_table.specs.Opened.{step_of}
 use Rattle.plan_table.specs.Whole.{whole_of}
 use Rattle.plan_table.specs.Found.{scope_at}
-use Rattle.plan_assembly.specs.declared.plan.Plan.{Plan}
+use Rattle.point_states.specs.Plan.{Plan}
 use Rattle.deploy_histories.specs.Events.{Event, progress}
 use Rattle.history_plans.specs.Planned.{planned_by}
 use Rattle.point_rows.specs.declared.later.Later.{Later}

@@ -14,11 +14,11 @@ use Rattle.plan_table.specs.declared.line.Spot.TheVariants.{Name, Deployments}
 use Rattle.plan_table.specs.Lines.{frame_of, line_at}
 use Rattle.plan_table.specs.Whole.{whole_of}
 use Rattle.plan_tasks.specs.Start.{start_of, IsStartTable}
-use Rattle.plan_assembly.specs.declared.plan.Plan.{Plan}
-use Rattle.plan_assembly.specs.declared.plan.Task.{Task}
-use Rattle.plan_assembly.specs.Plans.{IsPlanned}
-use Rattle.plan_numbers.specs.declared.numbers.Numbers.{Numbers}
-use Rattle.plan_numbers.specs.Numbers.{AreNumbers}
+use Rattle.point_states.specs.Plan.{Plan}
+use Rattle.point_states.specs.Task.{Task}
+use Rattle.point_states.specs.Plans.{IsPlanned}
+use Rattle.point_states.specs.Numbers.{Numbers}
+use Rattle.point_states.specs.Numbers.{AreNumbers}
 use Rattle.deploy_histories.specs.Planned as histories
 use Rattle.deploy_histories.specs.Planned.{Planned}
 use Rattle.deploy_histories.specs.Events.{Event, Progress, progress, is_waiting, IsDone}

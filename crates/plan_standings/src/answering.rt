@@ -1,7 +1,7 @@
 // What comes of a value that lacks something.
 ghost use Rattle.std.specs.Prelude.{◌≡◌, ◌<◌, ℕ, length, Some, IfOk};
 ghost use Rattle.plan_cells.specs.Tasks as cells;
-ghost use Rattle.plan_assembly.specs.declared.plan.Plan as plans;
+ghost use Rattle.point_states.specs.Plan as plans;
 ghost use Rattle.plan_sight.specs.declared.lack.Lack.TheVariants as lack_of;
 ghost use Rattle.point_rows.specs.Rows.{AreIndexed};
 ghost use Rattle.task_standings.specs.declared.standing.Standing.TheVariants as standing_of;
@@ -12,11 +12,9 @@ use crate::waiting::leaver_of_line;
 use arm_ids::{Held, Key};
 use arm_value::OutOfMemory;
 use board_history::History;
-use plan_assembly::plan::Plan;
-use plan_numbers::Numbers;
 use plan_sight::lack::Lack;
 use point_rows::later::Later;
-use point_states::{Taken, take_state};
+use point_states::{Numbers, Plan, Taken, take_state};
 use std::alloc::{AllocError, Global};
 use task_standings::Standing;
 

@@ -1,6 +1,6 @@
 // How an entry of a scope stands.
 ghost use Rattle.std.specs.Prelude.{◌≡◌, ◌<◌, ℕ, length, IfOk};
-ghost use Rattle.plan_assembly.specs.declared.plan.Task.TheVariants.{Enter};
+ghost use Rattle.point_states.specs.Task.TheVariants.{Enter};
 ghost use Rattle.deploy_histories.specs.Events.{progress};
 ghost use Rattle.history_plans.specs.Planned.{planned_by};
 ghost use Rattle.point_rows.specs.Rows.{known_now};
@@ -15,10 +15,9 @@ use crate::answering::answer_lack;
 use arm_ids::Held;
 use arm_value::{OutOfMemory, Value};
 use board_history::History;
-use plan_assembly::plan::Plan;
-use plan_numbers::Numbers;
 use plan_sight::lack::Lack;
 use point_rows::later::Later;
+use point_states::{Numbers, Plan};
 use point_values::laws::seen_tasks_are_ready;
 use scope_entries::settling::{Settling, settle};
 use std::alloc::Global;

@@ -1,7 +1,7 @@
 // How a put stands.
 ghost use Rattle.std.specs.Prelude.{◌≡◌, ℕ, Some, IfOk};
-ghost use Rattle.plan_assembly.specs.declared.plan.Task.TheVariants.{Put};
-ghost use Rattle.plan_numbers.specs.Numbers.{IsOfTable};
+ghost use Rattle.point_states.specs.Task.TheVariants.{Put};
+ghost use Rattle.point_states.specs.Numbers.{IsOfTable};
 ghost use Rattle.deploy_histories.specs.Events.{progress};
 ghost use Rattle.history_plans.specs.Planned.{planned_by};
 ghost use Rattle.point_rows.specs.Rows.{known_now};
@@ -15,11 +15,10 @@ use crate::answering::answer_lack;
 use arm_ids::Held;
 use arm_value::OutOfMemory;
 use board_history::History;
-use plan_assembly::plan::Plan;
-use plan_numbers::Numbers;
 use plan_table::frame::Instance;
 use point_rows::later::Later;
 use point_sights::body::told_of_body;
+use point_states::{Numbers, Plan};
 use point_values::laws::seen_tasks_are_ready;
 use std::alloc::Global;
 use task_standings::Standing;

@@ -2,14 +2,13 @@
 ghost use Rattle.std.specs.Prelude.{◌≡◌, ◌<◌, length, slice_get, Some, IfOk};
 ghost use Rattle.plan_table.specs.Lines.{frame_of};
 ghost use Rattle.plan_table.specs.Whole.{IsLaid};
-ghost use Rattle.plan_assembly.specs.declared.plan.Task.TheVariants.{Leave};
-ghost use Rattle.plan_numbers.specs.Numbers.{AreNumbers};
+ghost use Rattle.point_states.specs.Task.TheVariants.{Leave};
+ghost use Rattle.point_states.specs.Numbers.{AreNumbers};
 ghost use Rattle.plan_standings.specs.Waits.{table_of, line_frame};
 
 use arm_value::OutOfMemory;
-use plan_assembly::plan::Plan;
-use plan_numbers::{Numbers, leave_of};
 use plan_table::line::Spot;
+use point_states::{Numbers, Plan, leave_of};
 use std::alloc::Global;
 
 // The number of the scope of a cell.

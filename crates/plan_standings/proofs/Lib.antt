@@ -9,3 +9,4 @@ pub mod EnterLemmas
 pub mod LeaveLemmas
 pub mod LeftLemmas
 pub mod StandLemmas
+pub mod FailLemmas

@@ -4,3 +4,5 @@ pub mod Puts
 pub mod Entering
 pub mod Leaving
 pub mod Kept
+pub mod Tells
+pub mod Ended

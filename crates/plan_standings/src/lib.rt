@@ -9,6 +9,7 @@
 
 mod answering;
 mod entering;
+mod failing;
 mod kinds;
 mod leaving;
 mod noting;
@@ -19,6 +20,7 @@ mod waiting;
 
 pub use answering::answer_lack;
 pub use entering::enter_standing;
+pub use failing::put_failing;
 pub use leaving::{Leaving, leave_standing};
 pub use putting::put_standing;
 pub use standings::PlanStandings;

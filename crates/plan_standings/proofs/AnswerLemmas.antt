@@ -12,7 +12,7 @@ use Rattle.plan_sight.specs.declared.lack.Lack.TheVariants as lack
 use Rattle.plan_sight.proofs.LookLemmas.{cell_of_row}
 use Rattle.point_states.specs.Plan.{Plan}
 use Rattle.point_states.specs.Task.TheVariants.{Leave}
-use Rattle.point_states.specs.Numbers.{Numbers}
+use Rattle.plan_numbers.specs.declared.numbers.Numbers.{Numbers}
 use Rattle.deploy_histories.specs.Events.{Event, progress}
 use Rattle.history_plans.specs.Planned.{planned_by}
 use Rattle.point_rows.specs.declared.later.Later.{Later}

@@ -34,7 +34,7 @@ use Rattle.plan_sight.specs.Seen.{Lacks}
 use Rattle.point_states.specs.Plan.{Plan}
 use Rattle.point_states.specs.Task.TheVariants.{Enter}
 use Rattle.point_states.specs.Plans.{deployment_of}
-use Rattle.point_states.specs.Numbers.{Numbers}
+use Rattle.plan_numbers.specs.declared.numbers.Numbers.{Numbers}
 use Rattle.deploy_histories.specs.Planned.{Planned}
 use Rattle.deploy_histories.specs.Events.{Event, Progress, progress, IsDone, is_waiting}
 use Rattle.deploy_histories.specs.Values.{task_values, body_of, demanded, entry_value}

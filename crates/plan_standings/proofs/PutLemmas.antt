@@ -29,7 +29,7 @@ use Rattle.plan_telling.specs.Symbols.{IsComplete}
 use Rattle.point_states.specs.Plan.{Plan}
 use Rattle.point_states.specs.Task.TheVariants.{Put}
 use Rattle.point_states.specs.Plans.{deployment_of, IsPlanned}
-use Rattle.point_states.specs.Numbers.{Numbers}
+use Rattle.plan_numbers.specs.declared.numbers.Numbers.{Numbers}
 use Rattle.point_states.specs.Numbers.{IsOfTable}
 use Rattle.deploy_histories.specs.Planned.{Planned}
 use Rattle.deploy_histories.specs.Events.{Event, Progress, progress, IsDone, is_waiting}

@@ -21,7 +21,7 @@ use Rattle.point_states.specs.Plans.{task_in}
 use Rattle.point_states.specs.Numbers.{IsOfTable}
 use Rattle.point_states.proofs.NumberLemmas.{got}
 use Rattle.point_states.proofs.CheckLemmas.{each_at}
-use Rattle.point_states.specs.Numbers.{Numbers}
+use Rattle.plan_numbers.specs.declared.numbers.Numbers.{Numbers}
 use Rattle.deploy_histories.specs.Planned.{Planned}
 use Rattle.deploy_histories.specs.Events.{Event, Progress, progress, IsDone, is_waiting}
 use Rattle.deploy_histories.specs.Values.{task_values, body_of}

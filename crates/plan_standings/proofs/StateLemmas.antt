@@ -12,7 +12,7 @@ use Rattle.plan_cells.specs.Tasks.{Task}
 use Rattle.plan_table.specs.declared.table.Table.{Table}
 use Rattle.point_states.specs.Plan.{Plan}
 use Rattle.point_states.specs.Plans.{deployment_of}
-use Rattle.point_states.specs.Numbers.{Numbers}
+use Rattle.plan_numbers.specs.declared.numbers.Numbers.{Numbers}
 use Rattle.deploy_histories.specs.Planned.{Planned}
 use Rattle.deploy_histories.specs.Events.{Event, Progress, progress}
 use Rattle.deploy_histories.specs.Values.{TaskValue, task_values}

@@ -17,7 +17,7 @@ use Rattle.plan_tasks.specs.Start.{start_of, IsStartTable}
 use Rattle.point_states.specs.Plan.{Plan}
 use Rattle.point_states.specs.Task.{Task}
 use Rattle.point_states.specs.Plans.{IsPlanned}
-use Rattle.point_states.specs.Numbers.{Numbers}
+use Rattle.plan_numbers.specs.declared.numbers.Numbers.{Numbers}
 use Rattle.point_states.specs.Numbers.{AreNumbers}
 use Rattle.deploy_histories.specs.Planned as histories
 use Rattle.deploy_histories.specs.Planned.{Planned}

@@ -18,8 +18,8 @@ scope_position-requires-clause-there c =
     c.in-Enter.is (placed_within c.args.plan.now c.args.task c.requires.scope.0 c.requires.scope.1)
     c.requires.of_table
 
-pub scope_position-requires-clause-there-in-Leave : goal.scope_position-requires-clause-there-in-Leave
-scope_position-requires-clause-there-in-Leave c =
+pub scope_position-requires-in-Leave-clause-there : goal.scope_position-requires-in-Leave-clause-there
+scope_position-requires-in-Leave-clause-there c =
     here_in c.args.plan.now [] c.args.task (Leave c.in-Leave.frame) c.index.result.now c.index.ensures
     c.in-Leave.is (placed_within c.args.plan.now c.args.task c.requires.scope.0 c.requires.scope.1)
     c.requires.of_table

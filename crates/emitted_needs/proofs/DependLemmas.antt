@@ -22,6 +22,8 @@ use Rattle.source_needs.proofs.PassingLemmas.{same_number, all_dependencies}
 use Rattle.source_worlds.specs.Numbers.{is_put}
 use Rattle.emitted_files.specs.Files.{AreElements}
 use Rattle.emitted_programs.specs.Given.{deployed}
+use Rattle.emitted_needs.specs.Keys.{IsKeyed, HasAnswer}
+use Rattle.emitted_needs.proofs.KeyLemmas.{element_answer}
 use Rattle.emitted_needs.proofs.MentionLemmas.{Scene, Other, new_world, new_step, target_of, listed_of, put_is}
 use Rattle.emitted_needs.proofs.MentionLemmas.{Agrees, element_agrees}
 
@@ -113,6 +115,35 @@ module _ {z : Form} (s : Scene z) (o : Other s) (c : Step) where
       (λ x k. element_agrees z s o c n j x (put n (is_first n ns)) e.0 k)
       (λ k. elements_agree ns js b e.1 (λ m g. put m (is_later n m ns g)) k)
 
+  -- ---- where all that is mentioned has a key
+
+  none_named : value_in (new_world s) (let r : Reads Bool = pure false in r) ≡ Some false
+  unfolding value_in
+  none_named = refl
+
+  or_answer : (b : Bool) (r : Reads Bool) → HasAnswer (value_in (new_world s) r)
+      → HasAnswer (value_in (new_world s) (or_else dep b r))
+  or_answer true r h = (true, rest_true r)
+  or_answer false r h = h
+
+  elements_answer : (ns : List ℕ) (js : List Json) → AreElements s.d.files s.file z ns js
+      → ((n : ℕ) → has ns n ≡ true → is_put s.file n ≡ true)
+      → ((n : ℕ) → has ns n ≡ true → IsKeyed z s.d s.w s.at s.file n)
+      → HasAnswer (value_in (new_world s) (elements_name dep s.new c js (new_step s o) (listed_of s o)))
+  elements_answer [] [] e put keyed = (false, none_named)
+  elements_answer [] (j ∷ js) e put keyed = absurd e
+  elements_answer (n ∷ ns) [] e put keyed = absurd e
+  elements_answer (n ∷ ns) (j ∷ js) e put keyed =
+      let first = element_answer z s o c n j (put n (is_first n ns)) e.0 (keyed n (is_first n ns)) in
+      let more = elements_name dep s.new c js (new_step s o) (listed_of s o) in
+      subst HasAnswer
+      (sym
+      (value_in-continued Cell Json Bool Bool (new_world s)
+      (element_names dep s.new c j (new_step s o) (listed_of s o)) (λ x. or_else dep x more)
+      ∙ ap (option_and_then (λ x. value_in (new_world s) (or_else dep x more))) first.1))
+      (or_answer first.0 more
+      (elements_answer ns js e.1 (λ m g. put m (is_later n m ns g)) (λ m g. keyed m (is_later n m ns g))))
+
 -- ---- an instance and another
 
 module _ {z : Form} (s : Scene z) (x o : Other s) where
@@ -166,6 +197,15 @@ module _ {z : Form} (s : Scene z) (x o : Other s) where
         is_dependency = is_needed a.0 a.1.0;
         means = a.1.1;
       }
+
+  pub mention_answer : ((n : ℕ) → is_dependency s.file x.instance.resource n ≡ true
+      → IsKeyed z s.d s.w s.at s.file n)
+      → HasAnswer (value_in (new_world s) (depends deployment s.new (new_step s x) (new_step s o)))
+  mention_answer keyed =
+      subst HasAnswer (sym (ap (value_in (new_world s)) depends_is))
+      (elements_answer s o (new_step s x) (dependencies s.file (target_of s x).put.number)
+      (listed_of s x).declaration.depends_on (target_of s x).is_dependent.depends_on dependency_put
+      (λ n e. keyed n (is_needed n e)))
 
   pub mention_back : (b : Bool)
       → value_in (new_world s) (depends deployment s.new (new_step s x) (new_step s o)) ≡ Some b

@@ -8,6 +8,7 @@ pub mod NameLemmas
 pub mod ElementLemmas
 pub mod TargetLemmas
 pub mod MentionLemmas
+pub mod KeyLemmas
 pub mod DependLemmas
 pub mod StartLemmas
 pub mod BatchLemmas

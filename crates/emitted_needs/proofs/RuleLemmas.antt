@@ -44,11 +44,12 @@ use Rattle.emitted_worlds.proofs.TemplateLemmas.{has_template}
 use Rattle.emitted_programs.specs.Given.{IsDeployed, deployed}
 use Rattle.emitted_programs.proofs.AboveLemmas.{counted_scope, included_admitted}
 use Rattle.emitted_programs.proofs.ReadLemmas.{deployed_facts}
+use Rattle.emitted_needs.specs.Keys.{AreKeyed, MentionsAreKeyed, HasAnswer}
 use Rattle.emitted_needs.specs.Symbols.{HaveSymbols}
 use Rattle.emitted_needs.specs.Tasks.{to_task}
 use Rattle.emitted_needs.proofs.BatchLemmas.{batches_in, same_batches}
 use Rattle.emitted_needs.proofs.ChildLemmas.{child_forth, child_back}
-use Rattle.emitted_needs.proofs.DependLemmas.{mention_forth, mention_back}
+use Rattle.emitted_needs.proofs.DependLemmas.{mention_forth, mention_back, mention_answer}
 use Rattle.emitted_needs.proofs.MentionLemmas.{Scene, Other}
 use Rattle.emitted_needs.proofs.OrderLemmas.{position_is, position_same, one_position, in_order, order_forth}
 use Rattle.emitted_needs.proofs.OrderLemmas.{order_back}
@@ -199,6 +200,11 @@ module _ (z : Form) (d : SourceProgram) (u : TemplateTree) (bound : List (List �
         → IsMention z d w p s t → b ≡ true
     mentions_back b e k = mention_back scene first second b e k
 
+    mentions_answer : AreKeyed z d w p s
+        → HasAnswer (value_in rw (depends dep q (step m s.copy) (step n t.copy)))
+    mentions_answer k =
+        let f = file_there in mention_answer scene first second (λ j e. k f.0 f.1.0 j e)
+
   -- ---- the instances of two tasks
 
   module _ (x y a b : Task) (e : to_task r x ≡ Some a) (f : to_task r y ≡ Some b) (is_task : IsTask d w x)
@@ -296,6 +302,14 @@ module _ (z : Form) (d : SourceProgram) (u : TemplateTree) (bound : List (List �
           mentions_back c.at c.new c.is_new c.instance g.instance c.number g.number c.is_number g.is_number
           (started_included x is_task (c.at, c.instance) c.is)
           (ended_included y other_task (c.at, g.instance) g.is) answer (sym (ap (value_in rw) depends_is) ∙ k) l
+
+      depends_answer : AreKeyed z d w c.at c.instance
+          → HasAnswer (value_in rw (depends_on dep (started a) (ended b)))
+      depends_answer k =
+          subst HasAnswer (sym (ap (value_in rw) depends_is))
+          (mentions_answer c.at c.new c.is_new c.instance g.instance c.number g.number c.is_number g.is_number
+          (started_included x is_task (c.at, c.instance) c.is)
+          (ended_included y other_task (c.at, g.instance) g.is) k)
 
     -- ---- both instances, or none of one scope
 
@@ -461,3 +475,17 @@ module _ (z : Form) (d : SourceProgram) (u : TemplateTree) (bound : List (List �
 
     pub rule_back : value_in rw (needs dep a b) ≡ Some true → SourceNeeds z d w x y
     rule_back g = of_rule (needs_by_order dep a b) refl g
+
+    -- ---- where all that is mentioned has a key
+
+    of_keyed : Pairing → MentionsAreKeyed z d w x → HasAnswer (value_in rw (depends_on dep (started a) (ended b)))
+    of_keyed (apart k l never) h = (false, l)
+    of_keyed (one_scope c n) h = depends_answer c n (h c.at c.instance c.is)
+
+    rule_keyed : (o : Bool) → needs_by_order dep a b ≡ o → MentionsAreKeyed z d w x
+        → HasAnswer (value_in rw (needs dep a b))
+    rule_keyed true k h = (true, rule_value true k)
+    rule_keyed false k h = subst HasAnswer (sym (rule_value false k)) (of_keyed pairing h)
+
+    pub rule_answer : MentionsAreKeyed z d w x → HasAnswer (value_in rw (needs dep a b))
+    rule_answer h = rule_keyed (needs_by_order dep a b) refl h

@@ -1,3 +1,4 @@
 pub mod Tasks
 pub mod Needs
 pub mod Symbols
+pub mod Keys

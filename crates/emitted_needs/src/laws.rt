@@ -18,6 +18,7 @@ ghost use Rattle.source_needs.specs.Orders.{IsAfter};
 ghost use Rattle.source_needs.specs.Tasks.{IsTask};
 ghost use Rattle.source_worlds.specs.Numbers.{numbering};
 ghost use Rattle.emitted_programs.specs.Given.{IsDeployed, deployed};
+ghost use Rattle.emitted_needs.specs.Keys.{MentionsAreKeyed, HasAnswer};
 ghost use Rattle.emitted_needs.specs.Needs.{ReadsFrom, Needs};
 ghost use Rattle.emitted_needs.specs.Symbols.{HaveSymbols};
 ghost use Rattle.emitted_needs.specs.Tasks.{to_task};
@@ -50,4 +51,14 @@ pub fn needs_are_the_same()
         → IsTask d w y → (answer : Bool)
         → value_in (renamed (numbering z d.files) w) (needs (deployed d u bound) a b) ≡ Some answer
         → SourceNeeds z d w x y ↔ Needs (deployed d u bound) (renamed (numbering z d.files) w) a b }
+{}
+
+/// The rule of `plan_cells` has an answer in each desired state where the declaration of the instance that the first
+/// task starts mentions only what has a key: the elements of `dependsOn` have values.
+pub fn needs_have_answers()
+    ensures { (z : Form) (d : SourceProgram) (u : TemplateTree) (bound : List (List ℕ × BoundMeaning))
+        (held : List HeldResource) → IsDeployed z d u bound held → HaveSymbols d → (w : World)
+        → Satisfies d (held_state held) w → (x y a b : Task) → to_task (numbering z d.files) x ≡ Some a
+        → to_task (numbering z d.files) y ≡ Some b → IsTask d w x → IsTask d w y → MentionsAreKeyed z d w x
+        → HasAnswer (value_in (renamed (numbering z d.files) w) (needs (deployed d u bound) a b)) }
 {}

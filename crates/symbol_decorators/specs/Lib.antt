@@ -1,0 +1,2 @@
+pub mod Decorators
+pub mod Batches

@@ -2,4 +2,3 @@ pub mod OpenLemmas
 pub mod StepLemmas
 pub mod EndLemmas
 pub mod NameLemmas
-pub mod ReplayLemmas

@@ -1,6 +1,6 @@
 // The board.
 
-ghost use Rattle.std.specs.Prelude.{◌≡◌, ◌<◌, ℕ, IfOk, OnErr, Some, [], length, map};
+ghost use Rattle.std.specs.Prelude.{◌≡◌, ◌<◌, ℕ, IfErr, IfOk, OnErr, Some, [], length, map};
 ghost use Rattle.point_values.specs.Seen.{IsSeen};
 ghost use Rattle.deploy_core.specs.Opens.{AreStartNeeds};
 ghost use Rattle.deploy_histories.specs.Events as event;
@@ -8,16 +8,19 @@ ghost use Rattle.deploy_histories.specs.Events.{at_opening, progress, IsBegun};
 ghost use Rattle.deploy_histories.specs.Legal.{HasEnded, IsLegal, MayEnd};
 ghost use Rattle.board_history.specs.Past.{event_of, with_event};
 ghost use Rattle.board_dealing.specs.Boards.{IsNext, HasPassed};
+ghost use Rattle.board_dealing.specs.Kept.{IsKept};
+ghost use Rattle.board_replays.specs.Replays.{noted_of, IsReopened, IsBoardFault};
 ghost use Rattle.deploy_core.specs.Endings.{IsTrueEnding};
 ghost use Rattle.deploy_core.specs.Names.{name_of};
 
 use crate::ending::{Ending, refused_ending, unrefused_ending};
 use crate::naming::task_name;
-use crate::opening::first_parts;
+use crate::opening::{Parts, first_parts};
 use arm_value::{OutOfMemory, Text};
 use board_dealing::dealing::{deal, give_back, is_refused, pause, take};
-use board_dealing::run_out;
 use board_history::History;
+use board_replays::replaying::reopen;
+use board_replays::{BoardFault, Noted};
 use dealer_trait::Next;
 use provider_trait::{Answer, Event};
 use std::alloc::Global;
@@ -53,28 +56,74 @@ impl<S: Standings> Model for Board<S> {
         b.history.count b.history.events b.agenda b.seen };
 }
 
+// The fault; the part is dropped.
+fn dropped<T: Drop>(_part: T, fault: BoardFault) -> BoardFault
+    ensures { result ≡ fault }
+{
+    fault
+}
+
+// The board with these parts, of which nothing has happened, after recorded answers.
+fn opened<S: Standings>(
+    alloc: Global,
+    standings: S,
+    parts: Parts,
+    answers: Vec<Noted>,
+) -> Result<Board<S>, BoardFault>
+    requires sound { S.sound standings }
+    requires kept { IsKept (S.planned standings) (S.known standings) parts.history.count parts.history.events
+        parts.agenda 0 }
+    requires nothing { parts.history.events ≡ [] }
+    ensures planned { IfOk result (λ b. S.planned b.0 ≡ S.planned standings) }
+    ensures count { IfOk result (λ b. b.1.count ≡ length (S.planned standings).tasks) }
+    ensures reopened { IfOk result (λ b. IsReopened (S.planned standings) (map noted_of answers.items) b.1.events) }
+    ensures fault { IfErr result (IsBoardFault (S.planned standings) (map noted_of answers.items)) }
+{
+    let mut standings = standings;
+    let mut history = parts.history;
+    let mut agenda = parts.agenda;
+    let mut seen = 0;
+    match reopen(
+        alloc,
+        &mut standings,
+        &mut history,
+        &mut agenda,
+        &mut seen,
+        answers,
+    ) {
+        Ok(()) => Ok(Board {
+            standings,
+            history,
+            agenda,
+            seen,
+        }),
+        Err(fault) => Err(dropped((standings, (history, agenda)), fault)),
+    }
+}
+
 impl<S: Standings> Board<S> {
-    /// The board of a plan of which nothing has happened. The needs are the pairs of a task and of one that it needs by
-    /// what is known at the start; pairs of other numbers change nothing.
+    /// The board of a plan. Without recorded answers nothing has happened; else the history is replayed from them, and
+    /// then there was a crash. The needs are the pairs of a task and of one that it needs by what is known at the
+    /// start; pairs of other numbers change nothing.
+    ///
+    /// Fails with `BadAnswer` where the answers do not follow: with how many of them do.
     pub fn open(
         alloc: Global,
         standings: S,
         needs: &[(usize, usize)],
-    ) -> Result<Board<S>, OutOfMemory>
+        answers: Vec<Noted>,
+    ) -> Result<Board<S>, BoardFault>
         requires sound { S.sound standings }
         requires seen { IsSeen (S.planned standings) at_opening (S.known standings) }
         requires needs { AreStartNeeds (S.planned standings) needs.now }
-        ensures { IfOk result (λ b. b
-            ≡ (standings, record { count = length (S.planned standings).tasks; events = [] })) }
+        ensures planned { IfOk result (λ b. S.planned b.0 ≡ S.planned standings) }
+        ensures count { IfOk result (λ b. b.1.count ≡ length (S.planned standings).tasks) }
+        ensures reopened { IfOk result (λ b. IsReopened (S.planned standings) (map noted_of answers.items) b.1.events) }
+        ensures fault { IfErr result (IsBoardFault (S.planned standings) (map noted_of answers.items)) }
     {
         match first_parts(alloc, &standings, needs) {
-            Ok(parts) => Ok(Board {
-                standings,
-                history: parts.history,
-                agenda: parts.agenda,
-                seen: 0,
-            }),
-            Err(_) => run_out(standings),
+            Ok(parts) => opened(alloc, standings, parts, answers),
+            Err(_) => Err(dropped((standings, answers), BoardFault::OutOfMemory)),
         }
     }
 

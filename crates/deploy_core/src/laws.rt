@@ -2,9 +2,8 @@
 ghost use Rattle.std.specs.Prelude.{◌≡◌, ◌∷◌, ℕ, List};
 ghost use Rattle.plan_cells.specs.Known.{Table};
 ghost use Rattle.deploy_histories.specs.Planned.{Planned};
-ghost use Rattle.deploy_histories.specs.Answers.{Noted, IsReplay};
 ghost use Rattle.deploy_histories.specs.Endings.{Stands, IsEnding, circular};
-ghost use Rattle.deploy_histories.specs.Events.{Event, Progress};
+ghost use Rattle.deploy_histories.specs.Events.{Progress};
 ghost use Rattle.deploy_histories.specs.Points.{IsTableOf};
 ghost use Rattle.deploy_histories.specs.Readiness.{Fault, at_fault};
 ghost use Rattle.task_standings.specs.Failures.{IsFaulty};
@@ -17,10 +16,4 @@ pub fn endings_are_true()
         → IsFaulty x p u f → Stands x p u (at_fault f) }
     ensures circular { (x : Planned) (p : Progress) (t : Table) → IsTableOf x p t → (u : ℕ) (us : List ℕ)
         → IsCircular x p (u ∷ us) → IsEnding x p (circular u us) }
-{}
-
-/// A history that is replayed from answers is the only one.
-pub fn replays_are_one()
-    ensures { (x : Planned) (ns : List Noted) (p : Progress) (g h : List Event) → IsReplay x p ns g
-        → IsReplay x p ns h → g ≡ h }
 {}

@@ -1,0 +1,5 @@
+pub mod TextLemmas
+pub mod TurnLemmas
+pub mod HeadLemmas
+pub mod LimitLemmas
+pub mod ResourceLemmas

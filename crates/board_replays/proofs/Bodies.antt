@@ -1,5 +1,5 @@
 -- A task is ready with one body, by whatever is known.
-use Rattle.std.proofs.Common.{◌≡◌, inl, ℕ, Option, Some, None, refl, sym, ap, subst, ◌∙◌}
+use Rattle.std.proofs.Common.{◌≡◌, inl, ℕ, Option, Some, refl, sym, ap, subst, ◌∙◌}
 use Rattle.arm_value.specs.Json.{Json}
 use Rattle.reading.specs.Knowledge.{Told, value, told, Grows, IsToldStill}
 use Rattle.reading.proofs.Growth.{told_still}
@@ -14,7 +14,7 @@ use Rattle.deploy_histories.specs.Events.{Progress}
 use Rattle.deploy_histories.specs.Legal.{MayStart}
 use Rattle.deploy_histories.specs.Points.{point, IsKnownThen}
 use Rattle.deploy_histories.specs.Readiness.{readiness, ready, IsReadyWith}
-use Rattle.deploy_histories.specs.Values.{a_body, body_reading, body_of, value_or_null}
+use Rattle.deploy_histories.specs.Values.{a_body, body_reading, value_or_null}
 use Rattle.deploy_histories.proofs.ReadinessLemmas.{ready_says}
 use Rattle.task_standings.proofs.Agreement.{AreOne, joined, grows_left, grows_right, one_known}
 

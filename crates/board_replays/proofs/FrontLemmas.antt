@@ -12,7 +12,7 @@ use Rattle.deploy_histories.specs.Answers.{StopsFollowing}
 use Rattle.history_laws.proofs.Steps.{at_itself, at_other, start_waits}
 use Rattle.history_replays.proofs.Recording.{legal_front, legal_joined}
 use Rattle.board_history.specs.Stages.{refuses}
-use Rattle.board_dealing.proofs.Passages.{after_all_both, progress_by}
+use Rattle.board_dealing.proofs.Passages.{progress_by}
 use Rattle.board_replays.specs.Plays.{SuitsNoted, NoneRefuses, AreOpen, AreLate}
 use Rattle.board_replays.proofs.Joining.{refused_is, apart, suits_by}
 use Rattle.board_replays.proofs.PlayLemmas.{open_more, have_late}

@@ -1,13 +1,13 @@
 -- Replays one after another, and what follows from answers that follow.
 use Rattle.std.proofs.Common.{◌≡◌, ℕ, Bool, true, false, true≢false, List, [], ◌∷◌, ◌++◌, map, refl, sym, ap, subst}
 use Rattle.std.proofs.Common.{◌∙◌}
-use Rattle.std.proofs.lemmas.List.{append_assoc, append-nil, map-append}
+use Rattle.std.proofs.lemmas.List.{append_assoc, map-append}
 use Rattle.provider_trait.specs.declared.answer.Answer.{Answer}
 use Rattle.provider_trait.specs.declared.answer.Answer.TheVariants.{Stored, Gone, Refused}
 use Rattle.deploy_histories.specs.Planned.{Planned}
 use Rattle.deploy_histories.specs.Events.{Event, Progress, progress, after, after_all, at_opening}
 use Rattle.deploy_histories.specs.Legal.{May, MayEnd, IsLegalFrom, IsLegal}
-use Rattle.deploy_histories.specs.Answers.{Noted, begin_of, answer_of, Settles, SettlesThen, PlaysThen, last_play}
+use Rattle.deploy_histories.specs.Answers.{Noted, begin_of, answer_of, Settles, PlaysThen, last_play}
 use Rattle.deploy_histories.specs.Answers.{where_refused, IsReplay, Follow}
 use Rattle.history_replays.proofs.Recording.{legal_front}
 use Rattle.board_history.specs.Stages.{refuses}

@@ -1,5 +1,5 @@
 -- A recorded answer is played.
-use Rattle.std.proofs.Common.{◌≡◌, ◌≢◌, ◌↔◌, ◌==◌, inl, inr, ℕ, suc, ◌<◌, ◌≤◌, Bool, true, false, true≢false, List, []}
+use Rattle.std.proofs.Common.{◌≡◌, ◌≢◌, ◌↔◌, ◌==◌, inr, ℕ, suc, ◌≤◌, Bool, true, false, true≢false, List, []}
 use Rattle.std.proofs.Common.{◌∷◌, ◌++◌}
 use Rattle.std.proofs.Common.{map, length, Option, Some, None, refl, sym, ap, subst, ◌∙◌, arith}
 use Rattle.std.specs.Prelude.{slice_get, option_map, Result, Ok, Err, IfOk, OnOk, IsTrue, is_ok, if◌then◌else◌}
@@ -18,16 +18,14 @@ use Rattle.plan_cells.specs.Tasks.{Task}
 use Rattle.deploy_histories.specs.Planned.{Planned}
 use Rattle.deploy_histories.specs.Events as event
 use Rattle.deploy_histories.specs.Events.{Event, Progress, progress, after_all, begin, is_begun, is_waiting}
-use Rattle.deploy_histories.specs.Events.{IsBegun, done_status}
-use Rattle.deploy_histories.specs.Legal.{IsAct, SuitsTask, May, MayStart, MayEnd, IsLegalFrom}
-use Rattle.deploy_histories.specs.Answers.{Noted, begin_of, answer_of, where_refused, IsReplay, Follow}
-use Rattle.deploy_histories.proofs.ReadinessLemmas.{ready_says}
-use Rattle.history_laws.proofs.Steps.{at_itself, at_other, start_waits}
+use Rattle.deploy_histories.specs.Events.{IsBegun}
+use Rattle.deploy_histories.specs.Legal.{IsAct, SuitsTask, May, MayEnd, IsLegalFrom}
+use Rattle.deploy_histories.specs.Answers.{Noted, begin_of, answer_of, IsReplay, Follow}
+use Rattle.history_laws.proofs.Steps.{at_itself, start_waits}
 use Rattle.board_history.specs.Past.{Past, with_event}
 use Rattle.board_history.specs.Stages.{refuses}
 use Rattle.point_values.specs.Seen.{IsSeen}
 use Rattle.task_standings.specs.declared.standing.Kind.{Kind}
-use Rattle.task_standings.specs.declared.standing.Standing.{Standing}
 use Rattle.task_standings.specs.declared.standing.Standing.TheVariants.{Ready, Waits, Stuck}
 use Rattle.task_standings.specs.Standings.{kind_of, Needs, IsStuck, IsStanding}
 use Rattle.task_standings.proofs.Lasting.{needs_come_first, stuck_is_not_ready}
@@ -39,13 +37,12 @@ use Rattle.board_dealing.specs.Looks.{IsReady, IsFree}
 use Rattle.board_dealing.specs.Passes.{GoesOn}
 use Rattle.board_dealing.proofs.Covering.{progress_more}
 use Rattle.board_dealing.proofs.Happening.{begun_concerns}
-use Rattle.board_dealing.proofs.Passages.{progress_by, settles_so}
+use Rattle.board_dealing.proofs.Passages.{settles_so}
 use Rattle.board_dealing.proofs.Pausing.{not_held}
-use Rattle.board_dealing.proofs.PassLemmas.{ready_waits}
 use Rattle.board_dealing.proofs.LookLemmas.{ready_now}
 use Rattle.board_dealing.proofs.DealLemmas.{suits_act, kept_begun}
 use Rattle.board_replays.specs.Plays.{suits_kind, IsReadyAs, SuitsNoted, IsPlayable, IsBegunNow, IsBegunFor, IsEnded}
-use Rattle.board_replays.specs.Plays.{NoneRefuses, NoneOf, AreOpen, ArePlayed, AreLate, HavePlayed, IsPlayedOn}
+use Rattle.board_replays.specs.Plays.{NoneOf, AreOpen, ArePlayed, AreLate, HavePlayed, IsPlayedOn}
 use Rattle.board_replays.proofs.Bodies.{one_body}
 use Rattle.board_replays.proofs.Joining.{none_refuses_both, replay_then, replay_one, follows_early, follows_late}
 use Rattle.board_replays.proofs.Joining.{refused_is, done_is, where_it_refuses, where_it_does}

@@ -115,6 +115,10 @@ impl Dealer for Row {
     ghost use Rattle.dealer_trait.specs.Steps.{answered, given_back, IsBegun, MayAnswer, AsksFor, HasEnd};
     ghost use Rattle.crew_times.specs.Marks.{steps_of};
 
+    ghost Fixed = { Unit {0} };
+
+    ghost fixed = { λ _. tt };
+
     ghost steps = { λ r. steps_of r.marks.items };
 
     ghost is_end = { λ r. (r.next ≡ length r.stages.items) × (r.opened ≡ 0) };

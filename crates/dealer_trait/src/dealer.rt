@@ -16,6 +16,11 @@ pub trait Dealer {
     ghost use Rattle.dealer_trait.specs.declared.dealer_step.DealerStep.{DealerStep};
     ghost use Rattle.dealer_trait.specs.Steps.{answered, given_back, IsBegun, MayAnswer, AsksFor, HasEnd};
 
+    /// What no call changes: of a board its plan.
+    ghost Fixed: { Type 0 };
+
+    ghost fixed: { Self → Fixed };
+
     /// Its steps, oldest first.
     ghost steps: { Self → List DealerStep };
 
@@ -29,16 +34,19 @@ pub trait Dealer {
     /// end.
     fn next(&mut self, alloc: Global, worker: u32) -> Result<Next, OutOfMemory>
         ensures asked { AsksFor worker (steps self.old) (steps self.new) result }
-        ensures end { HasEnd (is_end self.new) result };
+        ensures end { HasEnd (is_end self.new) result }
+        ensures fixed { fixed self.new ≡ fixed self.old };
 
     /// Takes the answer to the open Begin of the task: `Stored` or `Refused` to a put, `Gone` or
     /// `Refused` to a deletion. It takes no memory.
     fn answer(&mut self, task: u32, answer: Answer)
         requires { MayAnswer task answer (steps self.old) }
-        ensures { steps self.new ≡ steps self.old ++ answered task answer ∷ [] };
+        ensures steps { steps self.new ≡ steps self.old ++ answered task answer ∷ [] }
+        ensures fixed { fixed self.new ≡ fixed self.old };
 
     /// Takes the job of the open Begin of the task back. It takes no memory.
     fn back(&mut self, task: u32)
         requires { IsBegun task (steps self.old) }
-        ensures { steps self.new ≡ steps self.old ++ given_back task ∷ [] };
+        ensures steps { steps self.new ≡ steps self.old ++ given_back task ∷ [] }
+        ensures fixed { fixed self.new ≡ fixed self.old };
 }

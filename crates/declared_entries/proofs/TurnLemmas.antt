@@ -1,5 +1,5 @@
 -- A table that is filled in an order.
-use Rattle.std.proofs.Common.{◌≡◌, ◌<◌, ◌∙◌, ℕ, suc, List, [], ◌∷◌, length, map, Bool, true, refl, sym}
+use Rattle.std.proofs.Common.{◌≡◌, ◌<◌, ◌∙◌, ℕ, suc, List, [], ◌∷◌, length, map, true, refl, sym}
 use Rattle.std.proofs.Common.{subst, ap, arith, get_or}
 use Rattle.depend_graph.specs.Orders.{IsAmong}
 use Rattle.resolved_program.specs.declared.resolved.ResolvedFile.{ResolvedFile}
@@ -18,6 +18,7 @@ use Rattle.ordered_emissions.specs.Orders.{IsPaired, IsOrderOf, kinds}
 use Rattle.ordered_emissions.proofs.TurnLemmas.{earlier_suffice, every_known, heads_known}
 use Rattle.declared_table.specs.Seen.{Shape, file_of, files_of, file_in, files_in, is_known, whole_in, emission_in}
 use Rattle.declared_table.specs.Seen.{sight, whole_sight, full_name_in, condition_in}
+use Rattle.declared_table.specs.declared.mark.Mark.{Mark}
 
 links_length : (xs : List Kind) (ds : List DeclaredTree) → length xs ≡ length ds → length (links xs ds) ≡ length xs
 links_length [] ds e = refl
@@ -28,11 +29,11 @@ kinds_length : (xs : List (ℕ × List ℕ × Kind)) → length (map (λ x. x.2)
 kinds_length [] = refl
 kinds_length (x ∷ xs) = ap suc (kinds_length xs)
 
--- the file, the files of the program, and the variables that have an entry
+-- the file, the files of the program, and the marks of the symbols
 abbrev Given : Type 0
-Given = (ResolvedFile × List ResolvedFile) × List Bool
+Given = (ResolvedFile × List ResolvedFile) × List Mark
 
-module _ (r : ResolvedFile) (rs : List ResolvedFile) (marks : List Bool) (order : List ℕ)
+module _ (r : ResolvedFile) (rs : List ResolvedFile) (marks : List Mark) (order : List ℕ)
     (paired : IsPaired (file_of r marks)) (o : IsOrderOf (file_of r marks) order) (sound : IsSound (file_of r marks))
     (s : Shape) (files : s.0 ≡ (r, rs)) (entries : s.1.0 ≡ marks) where
   given : ◌≡◌ {A = Given} ((r, rs), marks) (s.0, s.1.0)

@@ -11,7 +11,7 @@ ghost use Rattle.declared_table.specs.Seen.{whole_sight, full_name_in, condition
 
 use crate::entries::entry_of;
 use arm_value::OutOfMemory;
-use declared_table::Table;
+use declared_table::{Mark, Table};
 use resolved_program::ResolvedFile;
 use std::alloc::Global;
 
@@ -28,8 +28,8 @@ fn add(alloc: Global, table: &mut Table, number: usize) -> Result<(), OutOfMemor
     table.push(number, entry)
 }
 
-/// The table of what the declarations of a file become. `has_entry` marks the variables that have an entry in the
-/// template, by the numbers of their symbols, and the order has each symbol after those that its declaration mentions.
+/// The table of what the declarations of a file become. `marks` says what is known of each symbol, by its number, and
+/// the order has each symbol after those that its declaration mentions.
 ///
 /// # Errors
 ///
@@ -38,19 +38,19 @@ pub fn table_of<'a>(
     alloc: Global,
     file: &'a ResolvedFile,
     files: &'a [ResolvedFile],
-    has_entry: &'a [bool],
+    marks: &'a [Mark],
     order: &[u32],
 ) -> Result<Table<'a>, OutOfMemory>
-    requires paired { IsPaired (file_of file.now has_entry.now) }
-    requires order { IsOrderOf (file_of file.now has_entry.now) order.now }
-    requires sound { IsSound (file_of file.now has_entry.now) }
-    ensures sight { IfOk result (λ t. sight t ≡ whole_sight (file_of file.now has_entry.now) (files_of files.now)) }
+    requires paired { IsPaired (file_of file.now marks.now) }
+    requires order { IsOrderOf (file_of file.now marks.now) order.now }
+    requires sound { IsSound (file_of file.now marks.now) }
+    ensures sight { IfOk result (λ t. sight t ≡ whole_sight (file_of file.now marks.now) (files_of files.now)) }
     ensures names { IfOk result (λ t. (n : ℕ) (fs : List Frame) → IsRun fs → full_name_in t n fs
-        ≡ (whole (file_of file.now has_entry.now) (files_of files.now)).full_name n fs) }
+        ≡ (whole (file_of file.now marks.now) (files_of files.now)).full_name n fs) }
     ensures conditions { IfOk result (λ t. (n : ℕ) (fs : List Frame) → IsRun fs → condition_in t n fs
-        ≡ (whole (file_of file.now has_entry.now) (files_of files.now)).condition n fs) }
+        ≡ (whole (file_of file.now marks.now) (files_of files.now)).condition n fs) }
 {
-    let mut table = Table::empty(alloc, file, files, has_entry)?;
+    let mut table = Table::empty(alloc, file, files, marks)?;
     for node in order {
         add(alloc, &mut table, *node as usize)?;
     }

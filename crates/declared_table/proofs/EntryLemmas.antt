@@ -1,6 +1,6 @@
 -- The entries of a table, as it is filled.
 use Rattle.std.proofs.Common.{◌≡◌, ◌<◌, ◌⊎◌, inl, inr, ℕ, zero, suc, List, [], ◌∷◌, ◌++◌, length, Option, Some, None}
-use Rattle.std.proofs.Common.{Bool, ap, sym, ◌∙◌, arith, subst, replicate}
+use Rattle.std.proofs.Common.{ap, sym, ◌∙◌, arith, subst, replicate}
 use Rattle.std.proofs.lemmas.Option.{none-some, same_Some}
 use Rattle.std.specs.Prelude.{slice_get, slice_set}
 use Rattle.bicep_meaning.specs.Files.{SourceFile}
@@ -10,6 +10,7 @@ use Rattle.declared_types.specs.declared.resources.Typed.{Typed}
 use Rattle.declared_table.specs.Seen.{Shape, file_of, files_of, file_in, whole_in}
 use Rattle.declared_table.specs.Entries.{IsEntry, AreEntries, IsTable}
 use Rattle.declared_table.specs.declared.entry.Entry.{Entry}
+use Rattle.declared_table.specs.declared.mark.Mark.{Mark}
 use Rattle.declared_table.proofs.ListLemmas.{set_cases, front_there, last_there, one_longer}
 
 abbrev no_places : ℕ → List (Option ℕ)
@@ -65,7 +66,7 @@ module _ (file : SourceFile) (b : Emission) where
               new)
 
 -- a table with one more entry
-pub table_pushed : (r : ResolvedFile) (rs : List ResolvedFile) (marks : List Bool) (ts : List Typed)
+pub table_pushed : (r : ResolvedFile) (rs : List ResolvedFile) (marks : List Mark) (ts : List Typed)
     (places : List (Option ℕ)) (es : List Entry) → IsTable r rs marks ts places es → (n : ℕ) (e : Entry)
     → IsEntry (file_of r marks) (whole (file_of r marks) (files_of rs)) n e
     → (place : ℕ) (places2 : List (Option ℕ)) (es2 : List Entry) → place ≡ length es

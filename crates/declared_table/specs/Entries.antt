@@ -9,6 +9,7 @@ use Rattle.declared_types.specs.Types.{AreTypes}
 use Rattle.declared_types.specs.declared.resources.Typed.{Typed}
 use Rattle.kept_parts.specs.Kept.{IsKept, IsKeptHoles, AreKeptHoles}
 use Rattle.declared_table.specs.declared.entry.Entry.{Entry}
+use Rattle.declared_table.specs.declared.mark.Mark.{Mark}
 use Rattle.declared_table.specs.Seen.{file_of, files_of}
 use Rattle.resolved_program.specs.declared.resolved.ResolvedFile.{ResolvedFile}
 
@@ -33,7 +34,7 @@ pub record AreEntries (file : SourceFile) (b : Emission) (places : List (Option 
   pub is : (n p : ℕ) (e : Entry) → slice_get places n ≡ Some (Some p) → slice_get es p ≡ Some e → IsEntry file b n e
 
 -- the table has the types of the file, and an entry for each symbol that has a place
-pub record IsTable (r : ResolvedFile) (rs : List ResolvedFile) (marks : List Bool) (ts : List Typed)
+pub record IsTable (r : ResolvedFile) (rs : List ResolvedFile) (marks : List Mark) (ts : List Typed)
     (places : List (Option ℕ)) (es : List Entry) : Type 0 where
   pub paired : IsPaired (file_of r marks)
   pub types : AreTypes (file_of r marks) ts

@@ -1,8 +1,9 @@
 -- What a table states: the file, and what those of its declarations become that are in the table.
 use Rattle.std.specs.Prelude.{ℕ, Bool, false, List, [], map, slice_index_or}
+use Rattle.template_parts.specs.declared.looping.Batches.TheVariants.{Parallel}
 use Rattle.bicep_symbols.specs.Entries.{symbol_of}
 use Rattle.bicep_declared.specs.View.{file_tree}
-use Rattle.bicep_meaning.specs.Files.{SourceFile, at_once}
+use Rattle.bicep_meaning.specs.Files.{SourceFile}
 use Rattle.arm_expr.specs.Tree.{Tree}
 use Rattle.bicep_emission.specs.Emitted.{Frame}
 use Rattle.resolved_program.specs.declared.resolved.ResolvedFile.{ResolvedFile}
@@ -10,18 +11,26 @@ use Rattle.emitted_declarations.specs.Declared.{Emission, whole}
 use Rattle.emission_laws.specs.Holes.{refilled}
 use Rattle.emitted_expressions.specs.Sight.{Sight}
 use Rattle.ordered_emissions.specs.Known.{known, known_full_name, known_condition}
+use Rattle.declared_table.specs.declared.mark.Mark.{Mark}
 
--- a file of a program, as far as emission looks at it: its list of modules, the values of its parameters and the
--- batches of its loops are left out; the variables that have an entry are marked by their numbers
-abbrev pub file_of : ResolvedFile → List Bool → SourceFile
+-- a symbol without a mark is no variable that has an entry, and all instances of its loop may begin at once
+abbrev pub unmarked : Mark
+unmarked = record { has_entry = false; batches = Parallel }
+
+abbrev pub mark_of : List Mark → ℕ → Mark
+mark_of marks n = slice_index_or marks n unmarked
+
+-- a file of a program, as far as emission looks at it: its list of modules and the values of its parameters are left
+-- out; the variables that have an entry, and the batches of loops, are marked by their numbers
+abbrev pub file_of : ResolvedFile → List Mark → SourceFile
 file_of r marks = record {
   symbols = map symbol_of r.entries.items;
   declared = file_tree r.declared;
   outputs = r.outputs.items;
   modules = [];
-  has_entry = λ n. slice_index_or marks n false;
+  has_entry = λ n. (mark_of marks n).has_entry;
   accepts = λ n j. false;
-  batches = at_once;
+  batches = λ n. (mark_of marks n).batches;
 }
 
 -- a file of the program as another file looks at it
@@ -32,9 +41,9 @@ file_outside r = file_of r []
 abbrev pub files_of : List ResolvedFile → List SourceFile
 files_of rs = map file_outside rs
 
--- the file and all files; the variables that have an entry, and the symbols that are in the table, by their numbers
+-- the file and all files; the marks of the symbols, and which of them are in the table, by their numbers
 abbrev pub Shape : Type 0
-Shape = (ResolvedFile × List ResolvedFile) × (List Bool × List Bool)
+Shape = (ResolvedFile × List ResolvedFile) × (List Mark × List Bool)
 
 abbrev pub file_in : Shape → SourceFile
 file_in s = file_of s.0.0 s.1.0

@@ -8,8 +8,11 @@
 mod declarations;
 mod entry;
 mod lookup;
+mod mark;
 mod sizes;
 mod table;
 
 pub use entry::Entry;
+pub use mark::Mark;
 pub use table::Table;
+pub use template_parts::Batches;

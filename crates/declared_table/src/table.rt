@@ -2,23 +2,25 @@
 ghost use Rattle.std.specs.Prelude.{◌≡◌, ◌<◌, ◌++◌, ◌∷◌, [], length, slice_set, true, is_some, is_ok, if◌then◌else◌};
 ghost use Rattle.std.specs.Prelude.{IfOk, OnOk, MatchOption};
 ghost use Rattle.ordered_emissions.specs.Orders.{IsPaired};
-ghost use Rattle.declared_table.specs.Seen.{file_of, file_in, whole_in, is_known};
+ghost use Rattle.declared_table.specs.Seen.{mark_of, file_of, file_in, whole_in, is_known};
 ghost use Rattle.declared_table.specs.Entries.{IsEntry};
 
 use crate::entry::Entry;
+use crate::mark::Mark;
 use arm_value::OutOfMemory;
 use declared_types::{Typed, types_of};
 use resolved_program::ResolvedFile;
 use std::alloc::{AllocError, Global};
 use std::marker::Model;
+use template_parts::Batches;
 
 /// What the declarations of a file become, as far as the table is filled. Contracts see the file, the files of the
-/// program, the variables that have an entry, and which symbols are in the table.
+/// program, the marks of the symbols, and which symbols are in the table.
 #[derive(Drop)]
 pub struct Table<'a> {
     pub(crate) file: &'a ResolvedFile,
     pub(crate) files: &'a [ResolvedFile],
-    pub(crate) has_entry: &'a [bool],
+    pub(crate) marks: &'a [Mark],
     pub(crate) types: Vec<Typed>,
     places: Vec<Option<usize>>,
     entries: Vec<Entry>,
@@ -49,15 +51,14 @@ impl<'a> Model for Table<'a> {
 
     ghost use Rattle.declared_table.specs.Entries.{IsTable};
 
-    ghost view = { λ t. ((t.file.now, t.files.now), (t.has_entry.now, map is_some t.places.items)) };
+    ghost view = { λ t. ((t.file.now, t.files.now), (t.marks.now, map is_some t.places.items)) };
 
-    ghost invariant = { λ t. IsTable t.file.now t.files.now t.has_entry.now t.types.items t.places.items
+    ghost invariant = { λ t. IsTable t.file.now t.files.now t.marks.now t.types.items t.places.items
         t.entries.items };
 }
 
 impl<'a> Table<'a> {
-    /// A table without entries. `has_entry` marks the variables that have an entry in the template, by the numbers of
-    /// their symbols.
+    /// A table without entries. `marks` says what is known of each symbol, by its number.
     ///
     /// # Errors
     ///
@@ -66,11 +67,11 @@ impl<'a> Table<'a> {
         alloc: Global,
         file: &'a ResolvedFile,
         files: &'a [ResolvedFile],
-        has_entry: &'a [bool],
+        marks: &'a [Mark],
     ) -> Result<Table<'a>, OutOfMemory>
-        requires paired { IsPaired (file_of file.now has_entry.now) }
+        requires paired { IsPaired (file_of file.now marks.now) }
         ensures file { IfOk result (λ t. t.0 ≡ (file.now, files.now)) }
-        ensures marks { IfOk result (λ t. t.1.0 ≡ has_entry.now) }
+        ensures marks { IfOk result (λ t. t.1.0 ≡ marks.now) }
         ensures count { IfOk result (λ t. length t.1.1 ≡ length file.now.entries.items) }
     {
         let count = file.entries.len();
@@ -83,7 +84,7 @@ impl<'a> Table<'a> {
         Ok(Table {
             file,
             files,
-            has_entry,
+            marks,
             types,
             places,
             entries: Vec::new(alloc),
@@ -97,11 +98,28 @@ impl<'a> Table<'a> {
         self.file
     }
 
+    // The mark of a symbol.
+    fn mark(&self, number: usize) -> Mark
+        ensures { result ≡ mark_of self.now.1.0 number }
+    {
+        self.marks.get(number).copied().unwrap_or(Mark {
+            has_entry: false,
+            batches: Batches::Parallel,
+        })
+    }
+
     /// Whether a symbol is a variable that has an entry in the template.
     pub fn is_entry(&self, number: usize) -> bool
         ensures { result ≡ (file_in self.now).has_entry number }
     {
-        self.has_entry.get(number).copied().unwrap_or(false)
+        self.mark(number).has_entry
+    }
+
+    /// When the instances of the loop of a symbol may begin.
+    pub fn batches(&self, number: usize) -> Batches
+        ensures { result ≡ (file_in self.now).batches number }
+    {
+        self.mark(number).batches
     }
 
     /// The entry of a symbol, where it is in the table.

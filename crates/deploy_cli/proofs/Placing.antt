@@ -10,7 +10,7 @@ use Rattle.literal_template.specs.declared.resource.Resource.{Resource}
 use Rattle.bicep_literal.specs.Literal.{Declaration}
 use Rattle.bicep_literal.specs.Source.{DeclareEach}
 use Rattle.deploy_cli.specs.Words.{Deploy}
-use Rattle.deploy_cli.specs.Names.{is_name_byte, is_group_name}
+use Rattle.request_names.specs.Names.{is_name_byte, is_group_name}
 use Rattle.deploy_cli.specs.Puts.{place_of}
 use Rattle.deploy_cli.specs.Outcomes.{CanPut}
 use Rattle.deploy_cli.specs.Prepared.{Folder, IsPrepared}

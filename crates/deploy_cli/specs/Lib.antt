@@ -1,5 +1,4 @@
 pub mod Words
-pub mod Names
 pub mod Puts
 pub mod Program
 pub mod Report

@@ -5,7 +5,7 @@ use Rattle.arm_edges.specs.Faults.{Rose}
 use Rattle.literal_template.specs.Template.{template_bytes, StatedBy}
 use Rattle.literal_template.specs.declared.resource.Resource.{Resource}
 use Rattle.deploy_cli.specs.Words.{Deploy}
-use Rattle.deploy_cli.specs.Names.{is_group_name, is_deployment_name}
+use Rattle.request_names.specs.Names.{is_group_name, is_deployment_name}
 use Rattle.deploy_cli.specs.Program.{IsProgram, IsLexical, IsSyntax, IsNotBuilt}
 use Rattle.deploy_cli.specs.declared.outcome.Outcome.{Outcome}
 use Rattle.deploy_cli.specs.declared.outcome.Outcome.TheVariants as outcome

@@ -7,7 +7,6 @@
 mod command;
 mod deploy;
 mod job;
-mod names;
 mod outcome;
 mod prepare;
 mod program;

@@ -9,13 +9,13 @@ ghost use Rattle.deploy_cli.specs.Program.{IsProgram};
 ghost use Rattle.deploy_cli.specs.Prepared.{folder_of, WasRead, IsRefused, IsPrepared, IsNotPrepared};
 ghost use Rattle.deploy_cli.specs.Prepared.{TreeCounts, IsRead, IsNotRead};
 
-use crate::names::{is_deployment_name, is_group_name};
 use crate::outcome::Outcome;
 use crate::program::program;
 use crate::words::Command;
 use arm_edges::{Tree, TreeFault};
 use arm_value::Bytes;
 use literal_template::Resource;
+use request_names::{is_deployment_name, is_group_name};
 use std::alloc::Global;
 
 // Reads the file of that name.

@@ -4,18 +4,22 @@ use Rattle.std.proofs.Common.{◌∷◌, length, get_or, Option, Some, None, ref
 use Rattle.std.specs.Prelude.{slice_index, slice_index_or, option_map, replicate, not, All, if◌then◌else◌}
 use Rattle.std.specs.Prelude.{Result, Ok, Err, IfOk, is_ok}
 use Rattle.std.specs.declared.alloc.AllocError.{AllocError}
+use Rattle.std.specs.declared.alloc.Global.{Global}
+use Rattle.std.specs.declared.vec.Vec.{Vec}
 use Rattle.std.proofs.lemmas.Bool.{cases_eq}
 use Rattle.std.proofs.lemmas.List.{length-set}
 use Rattle.std.proofs.lemmas.Option.{slice_get_within}
 use Rattle.depend_graph.specs.Shape.{Shape, times, undone, Needs, is_done, with_edge, Chain, IsCircle}
-use Rattle.depend_graph.specs.Orders.{IsOrder}
+use Rattle.depend_graph.specs.Orders.{IsOrder, IsSorted}
+use Rattle.depend_graph.specs.declared.order.Sorted.{Sorted}
+use Rattle.depend_graph.specs.declared.order.Sorted.TheVariants as sorted
 use Rattle.depend_graph.proofs.Keeping.{get_or-replicate, length-replicate}
 use Rattle.plan_cells.specs.Known.{Table}
 use Rattle.plan_cells.specs.Tasks.{Task}
 use Rattle.deploy_histories.specs.Planned.{Planned}
 use Rattle.deploy_histories.specs.Events.{Event, Progress, progress, Status, is_waiting, is_begun, is_done as done_by}
 use Rattle.deploy_histories.specs.Events.{done_status, NoneBegun}
-use Rattle.deploy_histories.specs.Points.{IsTableOf}
+use Rattle.deploy_histories.specs.Points.{IsKnownThen, IsTableOf}
 use Rattle.deploy_histories.specs.Readiness.{needs_now, at_fault}
 use Rattle.deploy_histories.specs.Readiness as readiness
 use Rattle.deploy_histories.specs.Endings as endings
@@ -26,12 +30,14 @@ use Rattle.task_standings.specs.declared.standing.TaskFault.{TaskFault}
 use Rattle.task_standings.specs.declared.standing.Failing.{Failing}
 use Rattle.task_standings.specs.declared.standing.Failing.TheVariants as failing
 use Rattle.task_standings.specs.Failures.{IsFaulty, NeedsUndone, Tells, TellsFault, IsFailing}
+use Rattle.task_standings.specs.Outputs.{AreOutputs}
+use Rattle.task_standings.specs.declared.standing.RootOutput.{RootOutput}
 use Rattle.task_agenda.specs.declared.agenda.Agenda.{Agenda}
 use Rattle.board_dealing.specs.Kept.{IsKept}
 use Rattle.deploy_core.specs.declared.ending.Ending.{Ending}
 use Rattle.deploy_core.specs.declared.ending.Ending.TheVariants.{Succeeded, Refused, Faulty, Circular}
 use Rattle.deploy_core.specs.Endings.{NeedInTurn, IsCircular, HasTurns, IsTrueEnding, IsRefusedEnding, IsUndoneNeed}
-use Rattle.deploy_core.specs.Endings.{IsTurn, AreTurns, IsInTurn}
+use Rattle.deploy_core.specs.Endings.{IsTurn, AreTurns, HasOutputs}
 use Rattle.board_dealing.proofs.Edges.{edge_to, edge_from}
 use Rattle.deploy_core.proofs.OpenLemmas.{there, none_needed}
 use Rattle.board_dealing.proofs.Undone.{itself}
@@ -266,20 +272,43 @@ module _ (tells : Tells) (x : Planned) (p : Progress) where
   pub turns_so : (g : Shape) (o s : Option (ℕ × TaskFault)) → o ≡ s → AreTurns tells x p g o → AreTurns tells x p g s
   turns_so g o s i t = subst (λ (k : Option (ℕ × TaskFault)). AreTurns tells x p g k) i t
 
-  -- where each task has what it needs, the order of the graph says how the deployment has ended
-  pub end_in_turn : (g : Shape) (r : Result Ending AllocError) → HasTurns x p (length x.tasks) g
-      → IfOk r (IsInTurn g) → IfOk r (IsTrueEnding tells x p)
-  end_in_turn g (Ok Succeeded) t i = all_done x p g t i.0 i.1
-  end_in_turn g (Ok (Circular us)) t i = circle_of x p g (length x.tasks) t us.items i.0 i.1
-  end_in_turn g (Ok (Refused u code)) t i = absurd i
-  end_in_turn g (Ok (Faulty u said)) t i = absurd i
-  end_in_turn g (Err e) t i = tt
+  -- where each task that is not done needs one that is not, an order of the graph says that each is done
+  pub done_in_turn : (g : Shape) (s : Sorted) (order : Vec ℕ Global) → s ≡ sorted.Order order
+      → HasTurns x p (length x.tasks) g → IsSorted g s → AllDone x p
+  done_in_turn g s order e t i =
+      all_done x p g t order.items (subst (λ (k : Sorted). IsSorted g k) e i)
+
+  pub circle_in_turn : (g : Shape) (s : Sorted) (us : Vec ℕ Global) → s ≡ sorted.Circle us
+      → HasTurns x p (length x.tasks) g → IsSorted g s → IsCircular x p us.items
+  circle_in_turn g s us e t i =
+      let c = subst (λ (k : Sorted). IsSorted g k) e i in
+      circle_of x p g (length x.tasks) t us.items c.0 c.1
+
+  -- the outputs that are known are those by all that is known
+  pub success_is : (t : Table) → IsKnownThen x p t → AllDone x p
+      → ((y : Planned) (q : Progress) (s a : Table) → IsKnownThen y q s → IsTableOf y q a → (os : List RootOutput)
+      → AreOutputs y s os → AreOutputs y a os) → (r : Result Ending AllocError) → IfOk r (HasOutputs x t)
+      → IfOk r (IsTrueEnding tells x p)
+  success_is t k d law (Ok (Succeeded os)) h = (d, λ a i. law x p t a k i os.items h)
+  success_is t k d law (Ok (Refused u code)) h = absurd h
+  success_is t k d law (Ok (Faulty u said)) h = absurd h
+  success_is t k d law (Ok (Circular us)) h = absurd h
+  success_is t k d law (Err e) h = tt
+
+  -- the same of another plan that is the same
+  pub ending_of : (y : Planned) → y ≡ x → (r : Result Ending AllocError) → IfOk r (IsTrueEnding tells y p)
+      → IfOk r (IsTrueEnding tells x p)
+  ending_of y e r i = subst (λ (z : Planned). IfOk r (IsTrueEnding tells z p)) e i
 
   pub end_refused : (o : Option Ending) (e : Ending) → o ≡ Some e → IsRefusedEnding p o → IsTrueEnding tells x p e
   end_refused o (Refused u code) i r = subst (λ (k : Option Ending). IsRefusedEnding p k) i r
-  end_refused o Succeeded i r = absurd (subst (λ (k : Option Ending). IsRefusedEnding p k) i r)
+  end_refused o (Succeeded os) i r = absurd (subst (λ (k : Option Ending). IsRefusedEnding p k) i r)
   end_refused o (Faulty u said) i r = absurd (subst (λ (k : Option Ending). IsRefusedEnding p k) i r)
   end_refused o (Circular us) i r = absurd (subst (λ (k : Option Ending). IsRefusedEnding p k) i r)
+
+pub turns_of : (x y : Planned) (p : Progress) (g : Shape) → x ≡ y → HasTurns y p (length y.tasks) g
+    → HasTurns x p (length x.tasks) g
+turns_of x y p g e t = subst (λ (z : Planned). HasTurns z p (length z.tasks) g) (sym e) t
 
 pub edge_added : (old new : Shape) (n v : ℕ) (r : Result (Unit {0}) AllocError) (o : Unit {0}) → r ≡ Ok o
     → new ≡ (if is_ok r then with_edge old n v else old) → new ≡ with_edge old n v

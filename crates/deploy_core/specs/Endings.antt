@@ -1,8 +1,8 @@
 -- How a deployment has ended, by what is returned.
-use Rattle.std.specs.Prelude.{◌≡◌, ◌<◌, ◌≤◌, ℕ, suc, false, List, [], ◌∷◌, length, All, slice_index, Option, Some}
+use Rattle.std.specs.Prelude.{◌≡◌, ◌<◌, ℕ, suc, false, List, [], ◌∷◌, length, Option, Some}
 use Rattle.std.specs.Prelude.{None}
-use Rattle.depend_graph.specs.Shape.{Shape, Needs, is_done, IsCircle}
-use Rattle.depend_graph.specs.Orders.{IsOrder}
+use Rattle.depend_graph.specs.Shape.{Shape, Needs, is_done}
+use Rattle.plan_cells.specs.Known.{Table}
 use Rattle.deploy_histories.specs.Planned.{Planned}
 use Rattle.deploy_histories.specs.Events.{Progress, done_status}
 use Rattle.deploy_histories.specs.Endings.{AtLeast}
@@ -11,6 +11,7 @@ use Rattle.task_standings.specs.declared.standing.TaskFault.{TaskFault}
 use Rattle.task_standings.specs.declared.standing.Failing.{Failing}
 use Rattle.task_standings.specs.declared.standing.Failing.TheVariants as failing
 use Rattle.task_standings.specs.Failures.{Tells, TellsFault, NeedsUndone}
+use Rattle.task_standings.specs.Outputs.{AreOutputs, AreAllOutputs}
 use Rattle.task_agenda.specs.declared.agenda.Agenda.{Agenda}
 use Rattle.deploy_core.specs.declared.ending.Ending.{Ending}
 use Rattle.deploy_core.specs.declared.ending.Ending.TheVariants.{Succeeded, Refused, Faulty, Circular}
@@ -26,10 +27,10 @@ module _ (x : Planned) (p : Progress) where
   IsCircular [] = ⊥
   IsCircular (u ∷ us) = NeedInTurn u us u × AtLeast x p u us
 
--- the ending is a true one: every task is done; or this was the first answer that refused; or the task needs nothing
--- more, and this is its fault; or the tasks need each other in a circle
+-- the ending is a true one: every task is done, and these are the outputs of the root; or this was the first answer
+-- that refused; or the task needs nothing more, and this is its fault; or the tasks need each other in a circle
 abbrev pub IsTrueEnding : Tells → Planned → Progress → Ending → Type 0
-IsTrueEnding tells x p Succeeded = AllDone x p
+IsTrueEnding tells x p (Succeeded os) = AllDone x p × AreAllOutputs x p os.items
 IsTrueEnding tells x p (Refused u code) = p.refusal ≡ Some (record { task = u; code = code })
 IsTrueEnding tells x p (Faulty u said) = TellsFault tells x p u said
 IsTrueEnding tells x p (Circular us) = IsCircular x p us.items
@@ -38,7 +39,7 @@ IsTrueEnding tells x p (Circular us) = IsCircular x p us.items
 abbrev pub IsRefusedEnding : Progress → Option Ending → Type 0
 IsRefusedEnding p None = p.refusal ≡ None
 IsRefusedEnding p (Some (Refused u code)) = p.refusal ≡ Some (record { task = u; code = code })
-IsRefusedEnding p (Some Succeeded) = ⊥
+IsRefusedEnding p (Some (Succeeded os)) = ⊥
 IsRefusedEnding p (Some (Faulty u said)) = ⊥
 IsRefusedEnding p (Some (Circular us)) = ⊥
 
@@ -64,9 +65,9 @@ abbrev pub AreTurns : Tells → Planned → Progress → Shape → Option (ℕ �
 AreTurns tells x p g (Some f) = TellsFault tells x p f.0 f.1
 AreTurns tells x p g None = HasTurns x p (length x.tasks) g
 
--- the nodes may be done one after another, or there is a circle of them
-abbrev pub IsInTurn : Shape → Ending → Type 0
-IsInTurn g Succeeded = (order : List ℕ) × IsOrder g order
-IsInTurn g (Circular us) = IsCircle g us.items × All (λ v. slice_index us.items 0 ≤ v) us.items
-IsInTurn g (Refused u code) = ⊥
-IsInTurn g (Faulty u said) = ⊥
+-- each task is done, and these are the outputs of the root
+abbrev pub HasOutputs : Planned → Table → Ending → Type 0
+HasOutputs x t (Succeeded os) = AreOutputs x t os.items
+HasOutputs x t (Refused u code) = ⊥
+HasOutputs x t (Faulty u said) = ⊥
+HasOutputs x t (Circular us) = ⊥

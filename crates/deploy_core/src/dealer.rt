@@ -10,7 +10,12 @@ use task_standings::Standings;
 impl<S: Standings> Dealer for Board<S> {
     ghost use Rattle.deploy_histories.specs.Events.{progress};
     ghost use Rattle.deploy_histories.specs.Legal.{HasEnded};
+    ghost use Rattle.deploy_histories.specs.Planned.{Planned};
     ghost use Rattle.deploy_core.specs.Steps.{steps_of};
+
+    ghost Fixed = { Planned };
+
+    ghost fixed = { λ b. S.planned b.0 };
 
     ghost steps = { λ b. steps_of (S.planned b.0) b.1.events };
 

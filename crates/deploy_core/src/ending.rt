@@ -1,14 +1,18 @@
 // How a deployment has ended.
 
 ghost use Rattle.std.specs.Prelude.{◌≡◌, ◌<◌, ℕ, IfOk, None, false, length};
+ghost use Rattle.depend_graph.specs.Orders.{IsSorted};
 ghost use Rattle.depend_graph.specs.Shape.{undone_needs};
-ghost use Rattle.deploy_histories.specs.Events.{progress, done_status, is_waiting};
+ghost use Rattle.deploy_histories.specs.Events.{Progress, progress, done_status, is_waiting};
 ghost use Rattle.deploy_histories.specs.Legal.{HasEnded};
 ghost use Rattle.task_agenda.specs.Agendas.{count};
+ghost use Rattle.point_values.specs.Seen.{IsSeen};
 ghost use Rattle.task_standings.specs.Failures.{IsFailing};
+ghost use Rattle.task_standings.specs.Outputs.{IsAllSeen};
+ghost use Rattle.task_standings.specs.Standings.{AreScopesSeen};
 ghost use Rattle.deploy_core.specs.Endings.{IsTrueEnding, IsRefusedEnding, IsUndoneNeed, HasTurns, IsTurn, AreTurns};
 ghost use Rattle.deploy_core.specs.declared.ending.Ending.TheVariants.{Faulty};
-ghost use Rattle.deploy_core.specs.Endings.{IsInTurn};
+ghost use Rattle.deploy_core.specs.Endings.{HasOutputs};
 ghost use Rattle.board_dealing.specs.Kept.{IsKept};
 ghost use Rattle.board_dealing.specs.Looks.{StaysKept};
 
@@ -17,14 +21,14 @@ use board_history::History;
 use depend_graph::{Graph, Sorted};
 use std::alloc::Global;
 use task_agenda::Agenda;
-use task_standings::laws::needed_by_all;
-use task_standings::{Failing, Standings, TaskFault};
+use task_standings::laws::{needed_by_all, outputs_by_all};
+use task_standings::{Failing, RootOutput, Standings, TaskFault};
 
 /// How a deployment has ended.
 #[derive(Drop)]
 pub enum Ending {
-    /// Every task is done.
-    Succeeded,
+    /// Every task is done, and these are the outputs of the root that have a value, in the order of the template.
+    Succeeded(Vec<RootOutput>),
     /// This task was the first that was refused, with this code.
     Refused(u32, Text),
     /// This task needs nothing more, and has this fault.
@@ -147,21 +151,41 @@ fn first_fault<S: Standings>(
     Ok(None)
 }
 
-// Whether the nodes may be done one after another; else a circle of them.
-fn in_turn(alloc: Global, turns: &Graph) -> Result<Ending, OutOfMemory>
-    ensures { IfOk result (IsInTurn turns.now) }
+// An order of the nodes, or a circle of them. The graph is dropped.
+fn order_of(alloc: Global, turns: Graph) -> Result<Sorted, OutOfMemory>
+    ensures { IfOk result (IsSorted turns) }
 {
-    match turns.order(alloc)? {
-        Sorted::Order(_order) => Ok(Ending::Succeeded),
-        Sorted::Circle(tasks) => Ok(Ending::Circular(tasks)),
-    }
+    turns.order(alloc)
 }
 
-// The same of a graph that is dropped.
-fn ended_in_turn(alloc: Global, turns: Graph) -> Result<Ending, OutOfMemory>
-    ensures { IfOk result (IsInTurn turns) }
+// Each task is done, and these are the outputs of the root.
+fn succeeded<S: Standings>(alloc: Global, standings: &S) -> Result<Ending, OutOfMemory>
+    requires sound { S.sound standings.now }
+    requires over { (p : Progress) × IsAllSeen (S.planned standings.now) p (S.known standings.now) }
+    ensures { IfOk result (HasOutputs (S.planned standings.now) (S.known standings.now)) }
 {
-    in_turn(alloc, &turns)
+    Ok(Ending::Succeeded(standings.outputs(alloc)?))
+}
+
+// How the deployment has ended, by a graph that has a need of each task that is not done.
+fn ending_in_turn<S: Standings>(
+    alloc: Global,
+    standings: &S,
+    _history: &History,
+    turns: Graph,
+) -> Result<Ending, OutOfMemory>
+    requires sound { S.sound standings.now }
+    requires seen { IsSeen (S.planned standings.now) (progress _history.now.events) (S.known standings.now) }
+    requires scopes { AreScopesSeen (S.planned standings.now) (progress _history.now.events) (S.known standings.now) }
+    requires turns { HasTurns (S.planned standings.now) (progress _history.now.events)
+        (length (S.planned standings.now).tasks) turns }
+    ensures { IfOk result (IsTrueEnding S.tells (S.planned standings.now) (progress _history.now.events)) }
+{
+    outputs_by_all();
+    match order_of(alloc, turns)? {
+        Sorted::Order(_order) => succeeded(alloc, standings),
+        Sorted::Circle(tasks) => Ok(Ending::Circular(tasks)),
+    }
 }
 
 // A task with this fault ends the deployment. The graph is dropped.
@@ -194,7 +218,7 @@ fn ending_by<S: Standings>(
     let mut turns = turns;
     match first_fault(alloc, standings, history, agenda, &mut turns)? {
         Some((task, fault)) => Ok(faulty(turns, task, fault)),
-        None => ended_in_turn(alloc, turns),
+        None => ending_in_turn(alloc, standings, history, turns),
     }
 }
 

@@ -115,6 +115,10 @@ impl Dealer for ScriptedDealer {
     ghost use Rattle.driver_fakes.specs.Dealing.{Deals, HasEnded, Keeps};
     ghost use Rattle.driver_fakes.specs.ScriptedDealers.{hand_of};
 
+    ghost Fixed = { Unit {0} };
+
+    ghost fixed = { λ _. tt };
+
     ghost steps = { λ d. d.steps.items };
 
     ghost is_end = { λ d. HasEnded (hand_of d) };
@@ -122,6 +126,7 @@ impl Dealer for ScriptedDealer {
     fn next(&mut self, alloc: Global, worker: u32) -> Result<Next, OutOfMemory>
         ensures asked { AsksFor worker self.old.steps.items self.new.steps.items result }
         ensures end { HasEnd (HasEnded (hand_of self.new)) result }
+        ensures fixed { ◌≡◌ {A = Unit {0}} tt tt }
         ensures deals { Deals (hand_of self.old) worker result }
         ensures keeps { Keeps (hand_of self.old) (hand_of self.new) }
     {

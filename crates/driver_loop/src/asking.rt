@@ -30,6 +30,7 @@ pub fn deal<R: Wait, G: Dealer, C: Crew>(
     ensures len { length opens.new ≡ length opens.old }
     ensures seats { C.seats crew.new ≡ length opens.old }
     ensures ready { C.is_ready crew.new }
+    ensures stays { G.fixed board.new ≡ G.fixed board.old }
     ensures fixed { C.fixed crew.new ≡ C.fixed crew.old }
     ensures tied { Tied (G.steps board.new) opens.new }
     ensures ran { (course : List Action) × AreHands course

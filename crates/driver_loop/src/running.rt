@@ -34,6 +34,7 @@ pub fn run<R: Wait, G: Dealer, C: Crew, B: Book>(
     ensures len { length opens.new ≡ length opens.old }
     ensures seats { C.seats crew.new ≡ length opens.old }
     ensures ready { C.is_ready crew.new }
+    ensures stays { G.fixed board.new ≡ G.fixed board.old }
     ensures fixed { C.fixed crew.new ≡ C.fixed crew.old }
     ensures drove { Drove (G.is_end board.new) B.tells
         (moment (G.steps board.old) (C.received crew.old) (C.sent crew.old) opens.old)
@@ -67,6 +68,7 @@ fn turn<R: Wait, G: Dealer, C: Crew, B: Book>(
     ensures len { length opens.new ≡ length opens.old }
     ensures seats { C.seats crew.new ≡ length opens.old }
     ensures ready { C.is_ready crew.new }
+    ensures stays { G.fixed board.new ≡ G.fixed board.old }
     ensures fixed { C.fixed crew.new ≡ C.fixed crew.old }
     ensures tied { Tied (G.steps board.new) opens.new }
     ensures turned { Turns (G.is_end board.new) B.tells
@@ -101,6 +103,7 @@ fn take<R: Wait, G: Dealer, C: Crew, B: Book>(
     ensures len { length opens.new ≡ length opens.old }
     ensures seats { C.seats crew.new ≡ length opens.old }
     ensures ready { C.is_ready crew.new }
+    ensures stays { G.fixed board.new ≡ G.fixed board.old }
     ensures fixed { C.fixed crew.new ≡ C.fixed crew.old }
     ensures tied { Tied (G.steps board.new) opens.new }
     ensures turned { Turns (G.is_end board.new) B.tells
@@ -137,6 +140,7 @@ fn ask<R: Wait, G: Dealer, C: Crew>(
     ensures len { length opens.new ≡ length opens.old }
     ensures seats { C.seats crew.new ≡ length opens.old }
     ensures ready { C.is_ready crew.new }
+    ensures stays { G.fixed board.new ≡ G.fixed board.old }
     ensures fixed { C.fixed crew.new ≡ C.fixed crew.old }
     ensures tied { Tied (G.steps board.new) opens.new }
     ensures ran { (course : List Action) × Asks fault.old fault.new course
@@ -169,6 +173,7 @@ fn earlier(before: Option<DriveFault>, now: Option<DriveFault>) -> Option<DriveF
 // Gives the dealer each open job back.
 fn give_back<G: Dealer>(board: &mut G, opens: &mut [Option<OpenJob>])
     requires { Tied (G.steps board.old) opens.old }
+    ensures stays { G.fixed board.new ≡ G.fixed board.old }
     ensures len { length opens.new ≡ length opens.old }
     ensures tied { Tied (G.steps board.new) opens.new }
 {
@@ -183,6 +188,7 @@ fn give_back<G: Dealer>(board: &mut G, opens: &mut [Option<OpenJob>])
 fn back_one<G: Dealer>(board: &mut G, opens: &mut [Option<OpenJob>], k: usize, task: u32)
     requires tied { Tied (G.steps board.old) opens.old }
     requires at { (k < length opens.old) × IsTaskAt opens.old k (Some task) }
+    ensures stays { G.fixed board.new ≡ G.fixed board.old }
     ensures len { length opens.new ≡ length opens.old }
     ensures tied { Tied (G.steps board.new) opens.new }
 {

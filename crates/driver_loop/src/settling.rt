@@ -24,6 +24,7 @@ pub fn settle<G: Dealer, B: Book>(
 ) -> Option<DriveFault>
     requires tied { Tied (G.steps board.old) opens.old }
     requires open { IsOfOpenJob opens.old done }
+    ensures stays { G.fixed board.new ≡ G.fixed board.old }
     ensures opens { opens.new ≡ set opens.old done.worker None }
     ensures tied { Tied (G.steps board.new) opens.new }
     ensures settled { (refused : Option BookFault)
@@ -55,6 +56,7 @@ fn note_done<B: Book>(book: &mut B, done: &Done) -> Option<BookFault>
 // Gives the dealer the answer that was noted, or else the job back.
 fn finish<G: Dealer>(board: &mut G, done: Done, refused: Option<BookFault>) -> Option<DriveFault>
     requires { IsOpenFor (G.steps board.old) done }
+    ensures stays { G.fixed board.new ≡ G.fixed board.old }
     ensures steps { G.steps board.new
         ≡ G.steps board.old ++ end_of done.job.task done.got refused ∷ [] }
     ensures fault { result ≡ fault_by (taken done refused) }
@@ -79,6 +81,7 @@ fn answer_or_back<G: Dealer>(
     refused: Option<BookFault>,
 ) -> Option<DriveFault>
     requires { MayAnswer task answer (G.steps board.old) }
+    ensures stays { G.fixed board.new ≡ G.fixed board.old }
     ensures steps { G.steps board.new
         ≡ G.steps board.old ++ end_of task (Ok answer) refused ∷ [] }
     ensures fault { (worker : ℕ) → result ≡ fault_of worker (Ok answer) refused }

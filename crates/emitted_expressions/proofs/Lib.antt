@@ -1,1 +1,1 @@
-mod FrameLemmas
+pub mod FrameLemmas

@@ -1,5 +1,6 @@
-//! The order in which the declarations of a file are emitted, and which of its variables have an entry.
-ghost use Rattle.std.specs.Prelude.{◌≡◌, ℕ, false, List, map, slice_index_or, IfOk};
+//! The order in which the declarations of a file are emitted, and the marks of its symbols.
+ghost use Rattle.std.specs.Prelude.{◌≡◌, ◌≤◌, ℕ, false, List, map, slice_index_or, IfOk};
+ghost use Rattle.template_parts.specs.declared.looping.Batches.TheVariants.{Parallel};
 ghost use Rattle.bicep_names.specs.declared.kind.Kind.{Kind};
 ghost use Rattle.bicep_declared.specs.View.{declared_tree};
 ghost use Rattle.resolved_program.specs.Programs.{ResolvedFileTree};
@@ -10,14 +11,15 @@ ghost use Rattle.bicep_mentions.specs.Entries as spec;
 ghost use Rattle.bicep_states.specs.View.{known};
 ghost use Rattle.bicep_checks.specs.Faults.{links_of};
 ghost use Rattle.sound_files.specs.Files.{IsFileOf};
-ghost use Rattle.declared_table.specs.Seen.{file_of};
+ghost use Rattle.declared_table.specs.Seen.{file_of, mark_of};
 ghost use Rattle.file_tables.specs.Checked.{IsCheckedFile};
-ghost use Rattle.file_tables.specs.Orders.{HasNoCircle, IsOrderFor};
+ghost use Rattle.file_tables.specs.Orders.{HasNoCircle, HasEntries, IsOrderFor, mark_at};
 
 use arm_value::OutOfMemory;
 use bicep_circles::symbol_order;
 use bicep_declared::Declared;
 use bicep_states::{StateTable, has_entry, state_table};
+use declared_table::{Batches, Mark};
 use depend_graph::Sorted;
 use resolved_program::ResolvedFile;
 use sound_files::laws::checked_files_have_no_circle;
@@ -28,8 +30,9 @@ use std::alloc::Global;
 pub struct FileOrder {
     /// The numbers of its symbols, each after those that its declaration mentions.
     pub order: Vec<u32>,
-    /// Whether each symbol, by its number, is a variable that has an entry in the template: one that reads no state.
-    pub has_entry: Vec<bool>,
+    /// What is known of each symbol, by its number: whether it is a variable that has an entry in the template, which
+    /// is one that reads no state, and the batches of its loop.
+    pub marks: Vec<Mark>,
 }
 
 // The symbols of a file in which none mention each other in a circle, each after those that its declaration mentions.
@@ -69,27 +72,78 @@ fn marks_of(
 // The same of a file whose symbols have that order.
 fn entries_of(alloc: Global, file: &ResolvedFile, order: &[u32]) -> Result<Vec<bool>, OutOfMemory>
     requires { IsLinkOrder (links_of (file_view file.now)) order.now }
-    ensures { IfOk result (λ v. IsFileOf (file_view file.now) (file_of file.now v.items)) }
+    ensures { IfOk result (λ v. HasEntries (file_view file.now) v.items) }
 {
     let declarations = file.declared.declarations.as_slice();
     let table = state_table(alloc, file.entries.as_slice(), declarations, order)?;
     marks_of(alloc, &table, declarations)
 }
 
+// The greater number.
+fn greater(a: usize, b: usize) -> usize
+    ensures first { a ≤ result }
+    ensures second { b ≤ result }
+{
+    if a < b { b } else { a }
+}
+
+// The mark of a number.
+fn mark_at(has_entry: &[bool], batches: &[Batches], number: usize) -> Mark
+    ensures { result ≡ mark_at has_entry.now batches.now number }
+{
+    Mark {
+        has_entry: has_entry.get(number).copied().unwrap_or(false),
+        batches: batches.get(number).copied().unwrap_or(Batches::Parallel),
+    }
+}
+
+// Marks of the variables that have an entry and of loops with these batches.
+fn joined(alloc: Global, has_entry: &[bool], batches: &[Batches]) -> Result<Vec<Mark>, OutOfMemory>
+    ensures { IfOk result (λ v. (n : ℕ) → mark_of v.items n ≡ mark_at has_entry.now batches.now n) }
+{
+    let mut marks = Vec::new(alloc);
+    for number in 0..greater(has_entry.len(), batches.len()) {
+        marks.push(mark_at(has_entry, batches, number))?;
+    }
+    Ok(marks)
+}
+
+// The marks of a file whose symbols have that order.
+fn marked(
+    alloc: Global,
+    file: &ResolvedFile,
+    order: &[u32],
+    batches: &[Batches],
+) -> Result<Vec<Mark>, OutOfMemory>
+    requires { IsLinkOrder (links_of (file_view file.now)) order.now }
+    ensures file { IfOk result (λ v. IsFileOf (file_view file.now) (file_of file.now v.items)) }
+    ensures batches { IfOk result (λ v. (n : ℕ) → (mark_of v.items n).batches ≡ slice_index_or batches.now n Parallel) }
+{
+    let has_entry = entries_of(alloc, file, order)?;
+    joined(alloc, has_entry.as_slice(), batches)
+}
+
 /// An order of the symbols of a file of a checked program, each after those that its declaration mentions, and which
-/// of them are variables that have an entry in the template.
+/// of them are variables that have an entry in the template. `batches` are those of loops, by the numbers of their
+/// symbols.
 ///
 /// # Errors
 ///
 /// `OutOfMemory`, also where there are more than 4,294,967,295 symbols.
-pub fn file_order(alloc: Global, file: &ResolvedFile) -> Result<FileOrder, OutOfMemory>
+pub fn file_order(
+    alloc: Global,
+    file: &ResolvedFile,
+    batches: &[Batches],
+) -> Result<FileOrder, OutOfMemory>
     requires { (rs : List ResolvedFileTree) × IsCheckedFile rs (file_view file.now) }
-    ensures { IfOk result (IsOrderFor file.now) }
+    ensures order { IfOk result (IsOrderFor file.now) }
+    ensures batches { IfOk result (λ x. (n : ℕ) → (file_of file.now x.marks.items).batches n
+        ≡ slice_index_or batches.now n Parallel) }
 {
     checked_files_have_no_circle();
     let order = order_of(alloc, file)?;
-    match entries_of(alloc, file, order.as_slice()) {
-        Ok(has_entry) => Ok(FileOrder { order, has_entry }),
+    match marked(alloc, file, order.as_slice(), batches) {
+        Ok(marks) => Ok(FileOrder { order, marks }),
         Err(error) => Err(error),
     }
 }

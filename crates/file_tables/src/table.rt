@@ -28,7 +28,7 @@ pub fn file_table<'a>(
 ) -> Result<Table<'a>, OutOfMemory>
     requires checked { IsCheckedFile (map file_view files.now) (file_view file.now) }
     requires order { IsOrderFor file.now order.now }
-    ensures { IfOk result (IsTableOf (file_of file.now order.now.has_entry.items) (files_of files.now)) }
+    ensures { IfOk result (IsTableOf (file_of file.now order.now.marks.items) (files_of files.now)) }
 {
     checked_files_are_emittable();
     orders_are_of_files();
@@ -36,7 +36,7 @@ pub fn file_table<'a>(
         alloc,
         file,
         files,
-        order.has_entry.as_slice(),
+        order.marks.as_slice(),
         order.order.as_slice(),
     )
 }

@@ -48,7 +48,8 @@ use Rattle.tree_names.specs.Words.{ValueHasAllWords, LoopHasWords, ConditionHasW
 use Rattle.tree_names.specs.Words.{FileHasAllWords}
 use Rattle.emitted_numbers.specs.Wholes.{HasWholes, ValueHasWholes, FileHasWholes, LoopHasWholes, ConditionHasWholes}
 use Rattle.emitted_numbers.specs.Wholes.{BodyHasWholes, DeclaredHasWholes, FileHasAllWholes}
-use Rattle.file_words.specs.Words.{ObjectIsWorded, MembersAreWorded, MemberIsWorded, LoopIsWorded, ResourceIsWorded}
+use Rattle.file_words.specs.Words.{IsShort, ObjectIsWorded, MembersAreWorded, MemberIsWorded, LoopIsWorded}
+use Rattle.file_words.specs.Words.{ResourceIsWorded}
 use Rattle.file_words.specs.Words.{BodyIsWorded, IsDeclaredWorded, FileIsWorded}
 use Rattle.file_words.proofs.TokenLemmas.{tokens_fine, count_of_tokens}
 use Rattle.file_words.proofs.ReadLemmas.{read_file}
@@ -64,7 +65,7 @@ file_worded folder name f h =
     let count = count_of_tokens h.bytes h.source.tokens h.source.lexed in
     let same = length-map h.source.tokens placed in
     read_file f (map placed h.source.tokens) [] h.source.parsed
-    (tokens_fine h.bytes h.source.tokens h.source.lexed) (omega (arith, small, count, same))
+    (tokens_fine h.bytes h.source.tokens h.source.lexed h.small) (omega (arith, small, count, same))
 
 -- ---- the declarations of a file, with nested resources
 
@@ -78,7 +79,7 @@ one_more ts t h g = all-append IsDeclaredWorded ts (t ∷ []) h (g, tt)
 mutual
   nested : (r : ResourceTree) (ts : List DeclarationTree) → ResourceIsWorded r → AreWritten ts
       → AreWritten (with_nested r ts)
-  nested (tree.resource at n q x b) ts g h = in_body b ts g.1 h
+  nested (tree.resource at n q x b) ts g h = in_body b ts g.1.1 h
 
   in_body : (b : BodyTree) (ts : List DeclarationTree) → BodyIsWorded b → AreWritten ts → AreWritten (with_body b ts)
   in_body (tree.body_plain o) ts g h = in_object o ts g h
@@ -129,16 +130,16 @@ abbrev GoodCondition : Option SourceTree → Type 0
 GoodCondition None = Unit {0}
 GoodCondition (Some c) = Good c
 
-record GoodBody (b : d.BodyTree) : Type 0 where
+pub record GoodBody (b : d.BodyTree) : Type 0 where
   each : GoodLoop b.each
   condition : GoodCondition b.condition
   fields : AreGood b.fields
 
-abbrev IsGood : DeclaredTree → Type 0
+abbrev pub IsGood : DeclaredTree → Type 0
 IsGood (d.parameter at t) = Unit {0}
 IsGood (d.parameter_with at t e) = Good e
 IsGood (d.variable at v) = GoodValue v
-IsGood (d.a_resource at q existing b) = GoodBody b
+IsGood (d.a_resource at q existing b) = IsShort q.text × GoodBody b
 IsGood (d.a_module at b) = GoodBody b
 
 module _ (sc : Scope) where
@@ -188,7 +189,8 @@ module _ (sc : Scope) where
       (λ y g. (g, tt))
   declared_good (tree.output at n t v) h = tt
   declared_good (tree.a_resource (tree.resource at n q x b)) h =
-      where-mapped GoodBody SomeIsGood (some_resource n.at q x) (body_of sc b) (body_good b h.1) (λ y g. (g, tt))
+      where-mapped GoodBody SomeIsGood (some_resource n.at q x) (body_of sc b) (body_good b h.1.1)
+      (λ y g. ((h.1.0, g), tt))
   declared_good (tree.a_module at n q b) h =
       where-mapped GoodBody SomeIsGood (some_module n.at) (body_of sc b) (body_good b h.1) (λ y g. (g, tt))
 
@@ -227,9 +229,9 @@ module _ {B : Type 0} (P : B → Type 0) (g : DeclarationTree → Found (Option 
       (λ y k. k)) (all_good ts h.1))
       (λ p k. all-append P p.0 p.1 k.0 k.1)
 
-record FileIsGood (x : DeclaredFileTree) : Type 0 where
-  declarations : AllByRecursion IsGood x.declarations
-  outputs : AllByRecursion (λ o. GoodValue o.value) x.outputs
+pub record FileIsGood (x : DeclaredFileTree) : Type 0 where
+  pub declarations : AllByRecursion IsGood x.declarations
+  pub outputs : AllByRecursion (λ o. GoodValue o.value) x.outputs
 
 file_good : (sc : Scope) (f : FileTree) → FileIsWorded f → WhereFound FileIsGood (declared_file sc f)
 unfolding declared_file
@@ -260,7 +262,7 @@ declared_few : (x : DeclaredTree) → IsGood x → DeclaredHasFew x
 declared_few (d.parameter at t) h = tt
 declared_few (d.parameter_with at t e) h = h.few
 declared_few (d.variable at v) h = h.few
-declared_few (d.a_resource at q existing b) h = body_few b h
+declared_few (d.a_resource at q existing b) h = body_few b h.1
 declared_few (d.a_module at b) h = body_few b h
 
 all_few : (xs : List DeclaredTree) → AllByRecursion IsGood xs → AllByRecursion DeclaredHasFew xs
@@ -295,7 +297,7 @@ declared_has : (x : DeclaredTree) → IsGood x → DeclaredHasWords x
 declared_has (d.parameter at t) h = tt
 declared_has (d.parameter_with at t e) h = h.all
 declared_has (d.variable at v) h = h.all
-declared_has (d.a_resource at q existing b) h = body_has b h
+declared_has (d.a_resource at q existing b) h = body_has b h.1
 declared_has (d.a_module at b) h = body_has b h
 
 all_have : (xs : List DeclaredTree) → AllByRecursion IsGood xs → AllByRecursion DeclaredHasWords xs
@@ -331,7 +333,7 @@ declared_whole : (x : DeclaredTree) → IsGood x → DeclaredHasWholes x
 declared_whole (d.parameter at t) h = tt
 declared_whole (d.parameter_with at t e) h = h.wholes
 declared_whole (d.variable at v) h = h.wholes
-declared_whole (d.a_resource at q existing b) h = body_whole b h
+declared_whole (d.a_resource at q existing b) h = body_whole b h.1
 declared_whole (d.a_module at b) h = body_whole b h
 
 all_whole : (xs : List DeclaredTree) → AllByRecursion IsGood xs → AllByRecursion DeclaredHasWholes xs
@@ -369,11 +371,11 @@ body_is_good (Some (d.parameter at t)) b e h = absurd (none-some b e)
 body_is_good (Some (d.parameter_with at t x)) b e h = absurd (none-some b e)
 body_is_good (Some (d.variable at v)) b e h = absurd (none-some b e)
 body_is_good (Some (d.a_resource at q existing y)) b e h =
-    subst GoodBody (same_Some y b e) (h (d.a_resource at q existing y) refl)
+    subst GoodBody (same_Some y b e) (h (d.a_resource at q existing y) refl).1
 body_is_good (Some (d.a_module at y)) b e h = subst GoodBody (same_Some y b e) (h (d.a_module at y) refl)
 
 module _ (f : SourceFile) (h : FileIsGood f.declared) where
-  at_number : (n : ℕ) (x : DeclaredTree) → declaration f n ≡ Some x → IsGood x
+  pub at_number : (n : ℕ) (x : DeclaredTree) → declaration f n ≡ Some x → IsGood x
   at_number n x e = at_place IsGood f.declared.declarations n x e h.declarations
 
   body_at_number : (n : ℕ) (b : d.BodyTree) → body_at f n ≡ Some b → GoodBody b
@@ -447,7 +449,7 @@ module _ (folder : Folder) (ps : List ProgramFile) (read : AllByRecursion (λ p.
       file_worded folder source.0.name source.0.tree
       (at_place (λ p. IsReadAs folder p.name p.tree) ps k source.0 source.1 read)
 
-  resolved_good : FileIsGood r.declared
+  pub resolved_good : FileIsGood r.declared
   resolved_good =
       let g = of_mapped (with_names (file_symbols source.0) (output_texts source.0))
       (declared_file (scope_in ps source.0) source.0.tree) r (sym source.2) in

@@ -3,3 +3,4 @@ pub mod FileLemmas
 pub mod ReadLemmas
 pub mod TokenLemmas
 pub mod WordLemmas
+mod PartLemmas

@@ -27,7 +27,8 @@ use Rattle.bicep_tree.specs.Tree.{DecoratorTree, DecoratorTrees, ResourceTree, B
 use Rattle.bicep_tree.specs.Tree.{FileTree}
 use Rattle.bicep_tree.specs.Tree as tree
 use Rattle.bicep_names.specs.Resolve.{function_name}
-use Rattle.file_words.specs.Words.{count, IsWorded, AreWorded, HolesAreWorded, ObjectIsWorded, MembersAreWorded}
+use Rattle.file_words.specs.Words.{IsShort, count, IsWorded, AreWorded, HolesAreWorded}
+use Rattle.file_words.specs.Words.{ObjectIsWorded, MembersAreWorded}
 use Rattle.file_words.specs.Words.{MemberIsWorded, ValueIsWorded, LoopIsWorded, ResourceIsWorded, BodyIsWorded}
 use Rattle.file_words.specs.Words.{IsDeclaredWorded, StatementIsWorded, FileIsWorded}
 use Rattle.file_words.proofs.TokenLemmas.{IsFine, AreFine}
@@ -104,12 +105,12 @@ token i s ts ks h f =
 named : (i : Bool) (x : Name) (ts ks : List Placed) → form.named i x ts ks → AreFine ts → Read (IsName x.text) 1 ts ks
 named i x ts ks h f = token_at i x.at (t.Name x.text) ts ks h f
 
-quoted : (q : Quoted) (ts ks : List Placed) → form.quoted q ts ks → AreFine ts → Read Nothing 0 ts ks
-quoted q ts ks h f = any_some (sign_at q.at (t.Literal (l.Text q.text)) ts ks h f)
+quoted : (q : Quoted) (ts ks : List Placed) → form.quoted q ts ks → AreFine ts → Read (IsShort q.text) 0 ts ks
+quoted q ts ks h f = made (λ p. p.1) (omega arith) (sign_at q.at (t.Literal (l.Text q.text)) ts ks h f)
 
 labelled : (x : Label) (ts ks : List Placed) → form.labelled x ts ks → AreFine ts → Read Nothing 0 ts ks
 labelled (label.Name x) ts ks h f = made (λ p. tt) (omega arith) (named false x ts ks h f)
-labelled (label.Quoted q) ts ks h f = quoted q ts ks h f
+labelled (label.Quoted q) ts ks h f = made (λ p. tt) (omega arith) (quoted q ts ks h f)
 
 -- the name of a function
 called : (i : Bool) (x : Function) (ts ks : List Placed) → form.function i x ts ks → AreFine ts
@@ -187,7 +188,7 @@ mutual
       → Read (IsWorded x) 0 ts ks
   expression i (tree.name n) ts ks h f few = made (λ p. tt) (omega arith) (named i n ts ks h f)
   expression i (tree.literal at v) ts ks h f few =
-      made (λ p. p) (omega arith) (token_at i at (t.Literal v) ts ks h f)
+      made (λ p. p.0) (omega arith) (token_at i at (t.Literal v) ts ks h f)
   expression i (tree.interpolated at begin hs) ts ks h f few =
       let a = token_at i at (t.LeftPiece begin) ts h.0 h.1 f in
       let b = a_hole i hs h.0 ks h.2 a.rest (still_few a few) in
@@ -384,7 +385,7 @@ mutual
       let d = quoted p h.2.0 q.0 q.1 c.rest in
       let g = existing x q.0 q.2.0 q.2.1 d.rest in
       let k = sign t.Assign q.2.0 q.2.2.0 q.2.2.1 g.rest in
-      any_some (second a (both c (second d (second g (second k
+      any_some (second a (both c (both d (second g (second k
       (body b q.2.2.0 ks q.2.2.2 k.rest
       (still_few k (still_few g (still_few d (still_few c (still_few a few)))))))))))
 

@@ -32,7 +32,7 @@ mutual
       → HaveNames (with_resource inside r ss)
   of_resource inside (tree.resource at n q x b) ss g h =
       let kind = resource_kind inside b in
-      of_body (length ss) b (ss ++ symbol_at n kind ∷ []) g.1 (one_more ss n kind h g.0)
+      of_body (length ss) b (ss ++ symbol_at n kind ∷ []) g.1.1 (one_more ss n kind h g.0)
 
   of_body : (n : ℕ) (b : BodyTree) (ss : List Symbol) → BodyIsWorded b → HaveNames ss → HaveNames (with_body n b ss)
   of_body n (tree.body_plain o) ss g h = of_object n o ss g h

@@ -1,8 +1,10 @@
--- Names among the tokens of a source are names of template expressions, and there are no more tokens than bytes.
+-- Names among the tokens of a source are names of template expressions, texts among them are no longer than the source,
+-- and there are no more tokens than bytes.
 use Rattle.std.proofs.Common.{◌≡◌, ◌⊎◌, inl, inr, ◌<◌, ◌≤◌, ℕ, pos, ◌+◌, Bool, true, false, true≢false, List, []}
-use Rattle.std.proofs.Common.{◌∷◌, length, map, Option, Some, None, refl, sym, ap, ◌∙◌, subst, arith, chars}
-use Rattle.std.proofs.Common.{length-take, length-drop, codes, cond}
-use Rattle.std.specs.Prelude.{◌||◌, ◌&&◌, ◌==◌, ◌^◌, nat_le, nat_lt, bytes_eq, take, drop, if◌then◌else◌}
+use Rattle.std.proofs.Common.{◌∷◌, length, map, Option, Some, None, refl, sym, ap, ◌∙◌, subst, arith}
+use Rattle.std.proofs.Common.{length-take, length-drop, length-append, codes, cond, zero, suc, ◌*◌, ◌-◌, ◌++◌}
+use Rattle.std.specs.Prelude.{◌||◌, ◌&&◌, ◌==◌, ◌^◌, nat_le, nat_lt, bytes_eq, take, drop, unwrap_or, if◌then◌else◌}
+use Rattle.std.specs.Str.{chars, chars_after, continuation_len, lead_bits}
 use Rattle.std.specs.Char.{is_ascii_alphabetic, is_ascii_digit, to_ascii_lowercase}
 use Rattle.std.specs.Int.{is_in_range}
 use Rattle.std.specs.List.{AllByRecursion, list_all}
@@ -10,6 +12,11 @@ use Rattle.foundation.proofs.AsciiWords.{word}
 use Rattle.foundation.proofs.Comparisons.{le_true, le_of_true, le_of_false, lt_true, lt_of_true, eq_of_true}
 use Rattle.foundation.proofs.TruthValues.{both, and_true}
 use Rattle.arm_expr.specs.Grammar.{Kind, letter, digit, blank, sign, kind_of, goes_on_name, GoOnName, IsName}
+use Rattle.bicep_lexer.specs.Escapes.{hexadecimal, is_scalar, simple_escape}
+use Rattle.bicep_lexer.specs.Skipped.{newline_length}
+use Rattle.bicep_lexer.specs.Values.{with_digit, character_of, unescaped_from, unescaped, inside, below_newline}
+use Rattle.bicep_lexer.specs.declared.value.Mode.{Mode}
+use Rattle.bicep_lexer.specs.declared.value.Mode.TheVariants as mode
 use Rattle.bicep_lexer.specs.Bytes.{is_letter, is_name_byte, number_from}
 use Rattle.bicep_lexer.specs.Grammar.{IsWord, Part, bytes_of, tokens_of, InARow, Throughout, begins, Spells, AreSlices}
 use Rattle.bicep_lexer.specs.Grammar.{turned, line_after_token, NoneIsOpen}
@@ -23,11 +30,13 @@ use Rattle.bicep_lexer.specs.declared.front.Turn.{Turn}
 use Rattle.bicep_lexer.specs.declared.kind.TokenKind.{TokenKind}
 use Rattle.bicep_lexer.specs.declared.kind.TokenKind.TheVariants as k
 use Rattle.bicep_lexer.proofs.Complete.{slices}
+use Rattle.bicep_tree.specs.declared.leaf.Literal.{Literal}
 use Rattle.bicep_tree.specs.declared.leaf.Literal.TheVariants as l
 use Rattle.bicep_tree.specs.declared.terminal.Terminal.{Terminal}
 use Rattle.bicep_tree.specs.declared.terminal.Terminal.TheVariants as t
 use Rattle.bicep_tree.specs.Terminals.{word_terminal, kind_terminal, placed, Placed}
 use Rattle.emitted_numbers.specs.Wholes.{IsWholeLiteral}
+use Rattle.file_words.specs.Words.{IsShort}
 
 -- ---- marks are no names
 
@@ -211,12 +220,82 @@ letter_of_small c e = small_by (λ k. k ≡ letter) c (nat_lt c 65) (nat_lt c 91
 pub go_on_small : (c : ℕ) → goes_on_name (kind_of c) ≡ true → goes_on_name (kind_of (to_ascii_lowercase c)) ≡ true
 go_on_small c e = small_by (λ k. goes_on_name k ≡ true) c (nat_lt c 65) (nat_lt c 91) refl refl e refl
 
+-- ---- texts are no longer than their bytes
+
+-- there are no more characters than bytes
+after_short : (n c : ℕ) (bs : List ℕ) → length (chars_after n c bs) ≤ length bs + 1
+after_short zero c [] = omega arith
+after_short zero c (b ∷ bs) = let h = after_short (continuation_len b) (lead_bits b) bs in omega (arith, h)
+after_short (suc n) c [] = omega arith
+after_short (suc n) c (b ∷ bs) = let h = after_short n (c * 64 + (b - 128)) bs in omega (arith, h)
+
+chars_short : (bs : List ℕ) → length (chars bs) ≤ length bs
+unfolding chars
+chars_short [] = omega arith
+chars_short (b ∷ bs) = let h = after_short (continuation_len b) (lead_bits b) bs in omega (arith, h)
+
+either_short : (b : Bool) (xs ys : List ℕ) (n : ℕ) → length xs ≤ n → length ys ≤ n
+    → length (if b then xs else ys) ≤ n
+either_short true xs ys n h g = h
+either_short false xs ys n h g = g
+
+character_short : (b : Bool) (v : ℕ) → length (if b then v ∷ [] else []) ≤ 1
+character_short true v = omega arith
+character_short false v = omega arith
+
+unescaped_short : (m : Mode) (cs : List ℕ) → length (unescaped_from m cs) ≤ length cs
+unescaped_short m [] = omega arith
+unescaped_short mode.Plain (c ∷ cs) =
+    let p = unescaped_short mode.Escaped cs in
+    let q = unescaped_short mode.Plain cs in
+    either_short (c == 92) _ (c ∷ unescaped_from mode.Plain cs) (suc (length cs)) (omega (arith, p)) (omega (arith, q))
+unescaped_short mode.Escaped (c ∷ cs) =
+    let p = unescaped_short (mode.Braced 0) cs in
+    let q = unescaped_short mode.Plain cs in
+    either_short (c == 117) _ (unwrap_or (simple_escape c) c ∷ unescaped_from mode.Plain cs) (suc (length cs))
+    (omega (arith, p)) (omega (arith, q))
+unescaped_short (mode.Braced v) (c ∷ cs) =
+    let one = character_short (is_scalar v) v in
+    let n = length-append (character_of v) (unescaped_from mode.Plain cs) in
+    let p = unescaped_short mode.Plain cs in
+    let q = unescaped_short (mode.Braced (with_digit v (hexadecimal c))) cs in
+    either_short (c == 125) (character_of v ++ unescaped_from mode.Plain cs) _ (suc (length cs))
+    (omega (arith, one, n, p)) (omega (arith, q))
+
+inside_short : (front back : ℕ) (cs : List ℕ) → length (inside front back cs) ≤ length cs
+inside_short front back cs =
+    let p = length-take (length cs - (front + back)) (drop front cs) in
+    let q = length-drop front cs in
+    omega (arith, p, q)
+
+text_short : (bytes : List ℕ) → length bytes ≤ 4194304 → IsShort (unescaped (inside 1 1 (chars bytes)))
+text_short bytes few =
+    let p = unescaped_short mode.Plain (inside 1 1 (chars bytes)) in
+    let q = inside_short 1 1 (chars bytes) in
+    let r = chars_short bytes in
+    omega (arith, p, q, r, few)
+
+verbatim_short : (bytes : List ℕ) → length bytes ≤ 4194304
+    → IsShort (below_newline (inside 3 3 (chars bytes)))
+verbatim_short bytes few =
+    let p = length-drop (newline_length (inside 3 3 (chars bytes))) (inside 3 3 (chars bytes)) in
+    let q = inside_short 3 3 (chars bytes) in
+    let r = chars_short bytes in
+    omega (arith, p, q, r, few)
+
 -- ---- terminals
 
--- a name among terminals is a name of template expressions, and a number has 64 bits
+abbrev pub IsShortLiteral : Literal → Type 0
+IsShortLiteral (l.Text s) = IsShort s
+IsShortLiteral (l.Number z) = Unit {0}
+IsShortLiteral l.True = Unit {0}
+IsShortLiteral l.False = Unit {0}
+IsShortLiteral l.Null = Unit {0}
+
+-- a name among terminals is a name of template expressions, a number has 64 bits, and a text is short
 abbrev pub IsFine : Terminal → Type 0
 IsFine (t.Name w) = IsName w
-IsFine (t.Literal v) = IsWholeLiteral v
+IsFine (t.Literal v) = IsWholeLiteral v × IsShortLiteral v
 IsFine x = Unit {0}
 
 pick : (b : Bool) (x y : Terminal) → IsFine x → IsFine y → IsFine (if b then x else y)
@@ -226,58 +305,58 @@ pick false x y g h = h
 word_fine : (w : List ℕ) → IsName w → IsFine (word_terminal w)
 unfolding word_terminal
 word_fine w h =
-    pick (bytes_eq w (codes "true")) (t.Literal l.True) _ tt
-    (pick (bytes_eq w (codes "false")) (t.Literal l.False) _ tt
-    (pick (bytes_eq w (codes "null")) (t.Literal l.Null) (t.Name w) tt h))
+    pick (bytes_eq w (codes "true")) (t.Literal l.True) _ (tt, tt)
+    (pick (bytes_eq w (codes "false")) (t.Literal l.False) _ (tt, tt)
+    (pick (bytes_eq w (codes "null")) (t.Literal l.Null) (t.Name w) (tt, tt) h))
 
 counted_fine : (n : ℕ) (b : Bool) → nat_lt n (2 ^ 63) ≡ b
     → IsFine (if b then t.Literal (l.Number (pos n)) else t.Other)
-counted_fine n true e = lt_of_true n (2 ^ 63) e
+counted_fine n true e = (lt_of_true n (2 ^ 63) e, tt)
 counted_fine n false e = tt
 
 terminal_fine : (kind : TokenKind) (bytes : List ℕ) → (kind ≡ k.Name → IsNameWord bytes)
-    → IsFine (kind_terminal kind bytes)
-terminal_fine k.Name bytes h = word_fine (chars bytes) (name_word bytes (h refl))
-terminal_fine k.Number bytes h =
+    → length bytes ≤ 4194304 → IsFine (kind_terminal kind bytes)
+terminal_fine k.Name bytes h few = word_fine (chars bytes) (name_word bytes (h refl))
+terminal_fine k.Number bytes h few =
     counted_fine (number_from 0 bytes) (nat_lt (number_from 0 bytes) (2 ^ 63)) refl
-terminal_fine k.Newline bytes h = tt
-terminal_fine k.Text bytes h = tt
-terminal_fine k.LeftPiece bytes h = tt
-terminal_fine k.MiddlePiece bytes h = tt
-terminal_fine k.RightPiece bytes h = tt
-terminal_fine k.VerbatimText bytes h = tt
-terminal_fine k.At bytes h = tt
-terminal_fine k.Dot bytes h = tt
-terminal_fine k.SafeDot bytes h = tt
-terminal_fine k.OpenParen bytes h = tt
-terminal_fine k.CloseParen bytes h = tt
-terminal_fine k.OpenBracket bytes h = tt
-terminal_fine k.SafeBracket bytes h = tt
-terminal_fine k.CloseBracket bytes h = tt
-terminal_fine k.OpenBrace bytes h = tt
-terminal_fine k.CloseBrace bytes h = tt
-terminal_fine k.Comma bytes h = tt
-terminal_fine k.Colon bytes h = tt
-terminal_fine k.DoubleColon bytes h = tt
-terminal_fine k.Question bytes h = tt
-terminal_fine k.DoubleQuestion bytes h = tt
-terminal_fine k.Or bytes h = tt
-terminal_fine k.And bytes h = tt
-terminal_fine k.Assign bytes h = tt
-terminal_fine k.Equals bytes h = tt
-terminal_fine k.NotEquals bytes h = tt
-terminal_fine k.EqualsInsensitive bytes h = tt
-terminal_fine k.NotEqualsInsensitive bytes h = tt
-terminal_fine k.Less bytes h = tt
-terminal_fine k.LessOrEqual bytes h = tt
-terminal_fine k.Greater bytes h = tt
-terminal_fine k.GreaterOrEqual bytes h = tt
-terminal_fine k.Plus bytes h = tt
-terminal_fine k.Minus bytes h = tt
-terminal_fine k.Star bytes h = tt
-terminal_fine k.Slash bytes h = tt
-terminal_fine k.Percent bytes h = tt
-terminal_fine k.Not bytes h = tt
+terminal_fine k.Newline bytes h few = tt
+terminal_fine k.Text bytes h few = (tt, text_short bytes few)
+terminal_fine k.LeftPiece bytes h few = tt
+terminal_fine k.MiddlePiece bytes h few = tt
+terminal_fine k.RightPiece bytes h few = tt
+terminal_fine k.VerbatimText bytes h few = (tt, verbatim_short bytes few)
+terminal_fine k.At bytes h few = tt
+terminal_fine k.Dot bytes h few = tt
+terminal_fine k.SafeDot bytes h few = tt
+terminal_fine k.OpenParen bytes h few = tt
+terminal_fine k.CloseParen bytes h few = tt
+terminal_fine k.OpenBracket bytes h few = tt
+terminal_fine k.SafeBracket bytes h few = tt
+terminal_fine k.CloseBracket bytes h few = tt
+terminal_fine k.OpenBrace bytes h few = tt
+terminal_fine k.CloseBrace bytes h few = tt
+terminal_fine k.Comma bytes h few = tt
+terminal_fine k.Colon bytes h few = tt
+terminal_fine k.DoubleColon bytes h few = tt
+terminal_fine k.Question bytes h few = tt
+terminal_fine k.DoubleQuestion bytes h few = tt
+terminal_fine k.Or bytes h few = tt
+terminal_fine k.And bytes h few = tt
+terminal_fine k.Assign bytes h few = tt
+terminal_fine k.Equals bytes h few = tt
+terminal_fine k.NotEquals bytes h few = tt
+terminal_fine k.EqualsInsensitive bytes h few = tt
+terminal_fine k.NotEqualsInsensitive bytes h few = tt
+terminal_fine k.Less bytes h few = tt
+terminal_fine k.LessOrEqual bytes h few = tt
+terminal_fine k.Greater bytes h few = tt
+terminal_fine k.GreaterOrEqual bytes h few = tt
+terminal_fine k.Plus bytes h few = tt
+terminal_fine k.Minus bytes h few = tt
+terminal_fine k.Star bytes h few = tt
+terminal_fine k.Slash bytes h few = tt
+terminal_fine k.Percent bytes h few = tt
+terminal_fine k.Not bytes h few = tt
 
 -- ---- the tokens of a source
 
@@ -285,18 +364,24 @@ abbrev pub AreFine : List Placed → Type 0
 AreFine ts = AllByRecursion (λ x. IsFine x.1) ts
 
 row_fine : (Then : List Open → Line → ℕ → Type 0) (rest : List ℕ) (os : List Open) (row : Line) (at : ℕ)
-    (ps : List Part) → InARow Then rest os row at ps → AreFine (map placed (tokens_of at ps))
-row_fine Then rest os row at [] h = tt
-row_fine Then rest os row at (g.skip w next ∷ ps) h = row_fine Then rest os next (at + length w) ps h.1
-row_fine Then rest os row at (g.token kind w turn ∷ ps) h = (
-  terminal_fine kind w (word_is os row at kind w (bytes_of ps rest) turn h.0),
-  row_fine Then rest (turned turn os) (line_after_token kind) (at + length w) ps h.1,
-)
+    (ps : List Part) → InARow Then rest os row at ps → length (bytes_of ps rest) ≤ 4194304
+    → AreFine (map placed (tokens_of at ps))
+row_fine Then rest os row at [] h few = tt
+row_fine Then rest os row at (g.skip w next ∷ ps) h few =
+    let n = length-append w (bytes_of ps rest) in
+    row_fine Then rest os next (at + length w) ps h.1 (omega (arith, n, few))
+row_fine Then rest os row at (g.token kind w turn ∷ ps) h few =
+    let n = length-append w (bytes_of ps rest) in (
+      terminal_fine kind w (word_is os row at kind w (bytes_of ps rest) turn h.0) (omega (arith, n, few)),
+      row_fine Then rest (turned turn os) (line_after_token kind) (at + length w) ps h.1 (omega (arith, n, few)),
+    )
 
-pub tokens_fine : (source : List ℕ) (tokens : List Standing) → Spells source tokens → AreFine (map placed tokens)
-tokens_fine source tokens h =
+pub tokens_fine : (source : List ℕ) (tokens : List Standing) → Spells source tokens → length source ≤ 4194304
+    → AreFine (map placed tokens)
+tokens_fine source tokens h few =
+    let n = ap length h.2.is ∙ length-append h.0 (bytes_of h.1 []) in
     subst (λ (ts : List Standing). AreFine (map placed ts)) (sym h.3)
-    (row_fine NoneIsOpen [] [] line.Front (length h.0) h.1 h.2.row)
+    (row_fine NoneIsOpen [] [] line.Front (length h.0) h.1 h.2.row (omega (arith, n, few)))
 
 -- ---- there are no more of them than bytes
 

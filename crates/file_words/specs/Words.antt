@@ -1,6 +1,6 @@
 -- Bicep trees whose names are names of template expressions, as far as they can be written into these, whose numbers
--- are of 64 bits, and whose texts have few holes.
-use Rattle.std.specs.Prelude.{◌≤◌, ◌^◌, ℕ, suc}
+-- are of 64 bits, whose texts have few holes, and in which types of resources are short.
+use Rattle.std.specs.Prelude.{◌≤◌, ◌^◌, ℕ, suc, List, length}
 use Rattle.arm_expr.specs.Grammar.{IsName}
 use Rattle.bicep_tree.specs.Tree.{Tree, Trees, Holes, ObjectTree, MemberTree, MemberTrees, ValueTree, LoopTree}
 use Rattle.bicep_tree.specs.Tree.{ResourceTree, BodyTree, DeclarationTree, StatementTree, FileTree}
@@ -8,6 +8,10 @@ use Rattle.bicep_tree.specs.Tree as tree
 use Rattle.std.specs.List.{AllByRecursion}
 use Rattle.bicep_names.specs.Resolve.{function_name}
 use Rattle.emitted_numbers.specs.Wholes.{IsWholeLiteral}
+
+-- the text has no more characters than a file may have bytes
+abbrev pub IsShort : List ℕ → Type 0
+IsShort text = length text ≤ 4194304
 
 -- how many holes there are
 abbrev pub count : Holes → ℕ
@@ -58,7 +62,7 @@ abbrev mutual
   LoopIsWorded (tree.loop at ns xs) = IsWorded xs
 
   pub ResourceIsWorded : ResourceTree → Type 0
-  ResourceIsWorded (tree.resource at n q x b) = IsName n.text × BodyIsWorded b
+  ResourceIsWorded (tree.resource at n q x b) = IsName n.text × (IsShort q.text × BodyIsWorded b)
 
   pub BodyIsWorded : BodyTree → Type 0
   BodyIsWorded (tree.body_plain o) = ObjectIsWorded o

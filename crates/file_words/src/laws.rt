@@ -11,7 +11,7 @@ ghost use Rattle.emitted_names.specs.Words.{FileHasWords, OutputsAreNames};
 ghost use Rattle.sound_declarations.specs.Few.{FileHasFew};
 ghost use Rattle.sound_files.specs.Files.{IsFileOf};
 ghost use Rattle.tree_names.specs.Words.{FileHasAllWords};
-ghost use Rattle.emitted_numbers.specs.Wholes.{FileHasWholes, FileHasAllWholes};
+ghost use Rattle.emitted_numbers.specs.Wholes.{FileHasWholes, FileHasAllWholes, HasFewParts};
 ghost use Rattle.file_words.specs.Words.{FileIsWorded};
 
 /// A file that is read has names of template expressions, numbers of 64 bits, and texts with at most 2^64 holes.
@@ -49,6 +49,14 @@ pub fn numbers_of_values_are_whole()
         → AllByRecursion (λ p. IsReadAs folder p.name p.tree) files → (rs : List ResolvedFileTree)
         → IsResolved files rs → (k : ℕ) (r : ResolvedFileTree) → slice_get rs k ≡ Some r
         → FileHasAllWholes r.declared }
+{}
+
+/// The names of its resources have fewer than 2^63 parts.
+pub fn names_have_few_parts()
+    ensures { (folder : Folder) (files : List ProgramFile)
+        → AllByRecursion (λ p. IsReadAs folder p.name p.tree) files → (rs : List ResolvedFileTree)
+        → IsResolved files rs → (k : ℕ) (r : ResolvedFileTree) → slice_get rs k ≡ Some r
+        → (f : SourceFile) → IsFileOf r f → HasFewParts f }
 {}
 
 /// The names in its values are names of template expressions, also inside for-expressions.

@@ -1,10 +1,5 @@
--- Calls of the empty name, and of others; and a list of one run.
+-- Calls of the empty name, and of others.
 use Rattle.std.proofs.Common.{◌≡◌, ◌==◌, suc, true, false, ℕ, List, [], ◌∷◌, length, map, refl, arith}
-use Rattle.std.proofs.Common.{◌++◌, ap, ◌∙◌}
-use Rattle.std.specs.Prelude.{Result, Ok, Err}
-use Rattle.std.specs.declared.vec.Vec.{Vec}
-use Rattle.std.specs.declared.alloc.Global.{Global}
-use Rattle.std.specs.declared.alloc.AllocError.{AllocError}
 use Rattle.std.proofs.lemmas.Bool.{true≢false, false≢true}
 use Rattle.std.proofs.lemmas.Bool.Decides.{nat_tests}
 use Rattle.arm_ids.specs.Segments.{is_empty}
@@ -13,9 +8,6 @@ use Rattle.arm_expr.specs.View.{tree_of}
 use Rattle.arm_expr.specs.declared.expr.Expr.{Expr}
 use Rattle.bicep_emission.specs.Emitted.{Frame}
 use Rattle.measured_holes.specs.Holes.{fill, fill_all, in_hole}
-use Rattle.emitted_parts.specs.Built.{IsAdded}
-use Rattle.emitted_expressions.specs.Sight.{frames_of, IsFrame, AreFrames}
-use Rattle.emitted_expressions.specs.declared.turns.Turn.{Turn}
 
 pub hole_filled : (f : Frame) (name : List ℕ) (es : Trees) → is_empty name ≡ true
     → in_hole f es ≡ fill f (call name es)
@@ -34,11 +26,3 @@ item_in f (x ∷ es) e = let n : suc (length es) ≡ 0 = grind (arith, nat_tests
 pub index_in : (f : Frame) (es : List Expr) → (length es == 0) ≡ false → f.index ≡ in_hole f (trees (map tree_of es))
 index_in f [] e = absurd (cc)
 index_in f (x ∷ es) e = refl
-
-pub one_frame : (new : Vec Turn Global) (f : Frame) (t : Result Turn AllocError)
-    (r : Result (Vec Turn Global) AllocError) → new.items ≡ [] → IsAdded (Ok new) t r → IsFrame f t
-    → AreFrames (f ∷ []) r
-one_frame new f (Ok t) (Ok v) n a i =
-    ap frames_of a ∙ ap (λ ts. frames_of (ts ++ t ∷ [])) n ∙ ap (λ g. g ∷ []) i
-one_frame new f (Err x) (Ok v) n a i = absurd a
-one_frame new f t (Err x) n a i = tt

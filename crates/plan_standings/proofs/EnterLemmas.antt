@@ -239,7 +239,7 @@ module _ (g : Plan) (held : List HeldResource) (n : Numbers) (h : List Event) (l
       (subst (λ z. IsNone x p z) (sym (demanded_nothing k (plain d (line_cell t j))
       (subst (λ (a : Deployment). entry_told (told k (plain a (line_cell t j))) ≡ absent) whole b.is_nothing))) tt)
 
-  pub circle_stands : (c : Cell) → IsCircle t l f c → IsStanding x p k u Stuck
+  pub circle_stands : (c : Cell) → IsCircle false t l f c → IsStanding x p k u Stuck
   circle_stands c b =
       let w = b.awaits c b.has in
       stuck_by c (b.own c b.has)

@@ -3,7 +3,6 @@ use Rattle.std.proofs.Common.{◌≡◌, inl, inr, ℕ, ◌<◌, List, [], ◌�
 use Rattle.std.proofs.Common.{arith}
 use Rattle.std.specs.Prelude.{slice_get}
 use Rattle.std.proofs.lemmas.List.{length-map}
-use Rattle.arm_value.specs.declared.value.Value.{Value}
 use Rattle.arm_ids.specs.Held.{HeldResource}
 use Rattle.reading.specs.World.{Each}
 use Rattle.reading.specs.Knowledge.{IsThere}
@@ -33,7 +32,7 @@ use Rattle.point_rows.specs.declared.later.Entry.TheVariants as entry
 use Rattle.point_rows.specs.declared.later.Later.{Later}
 use Rattle.point_rows.specs.Rows.{known_now, IsFit}
 use Rattle.point_knowledge.specs.Steps.{IsBlank}
-use Rattle.scope_entries.specs.Entries.{AreTold}
+use Rattle.scope_entries.specs.Entries.{line_cell, IsToldEntry, AreTold}
 use Rattle.scope_outputs.specs.Outputs.{names_of, AreNoted, IsKept, Leaves}
 use Rattle.scope_outputs.proofs.KeepLemmas.{noted_within}
 use Rattle.task_standings.specs.Standings.{AreScopesSeen, IsScopeSeen}
@@ -49,14 +48,12 @@ ready_table g held p = record { laid = p.table.laid; sound = p.table.filled.soun
 
 -- ---- at the start
 
-no_value : (v : Value) → entry.Missing ≡ entry.Value v → ⊥
-no_value v e = cc
-
 module _ (g : Plan) (held : List HeldResource) (planned : IsPlanned g held)
     (has : histories.IsPlanned (planned_by g held)) (l : Later)
     (blank : IsBlank l) where
   pub blank_told : AreTold (table_of g) l
-  blank_told j v h s e = absurd (no_value v (sym (blank.no_entry j) ∙ e))
+  blank_told j h s =
+      subst (IsToldEntry (table_of g) l (line_cell (table_of g) j)) (sym (blank.no_entry j)) tt
 
   pub blank_seen : ((x : Planned) (p : Progress) (t : Table) (l : Later) → histories.IsPlanned x
       → x.deployment ≡ whole_of t → IsReady t → IsBlank l → IsSeen x p (known_now t l))

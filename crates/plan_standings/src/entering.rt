@@ -1,5 +1,5 @@
 // How an entry of a scope stands.
-ghost use Rattle.std.specs.Prelude.{◌≡◌, ◌<◌, ℕ, length, IfOk};
+ghost use Rattle.std.specs.Prelude.{◌≡◌, ◌<◌, ℕ, false, length, IfOk};
 ghost use Rattle.point_states.specs.Task.TheVariants.{Enter};
 ghost use Rattle.deploy_histories.specs.Events.{progress};
 ghost use Rattle.history_plans.specs.Planned.{planned_by};
@@ -38,7 +38,8 @@ fn answer_settling(
     ensures states { HasStates plan.now held.now history.now.events later.old later.new }
     ensures more { IfOk result (IsOneMore later.old later.new) }
     ensures look { (f u : ℕ) → f < length (table_of plan.now).frames.items
-        → IsNext plan.now held.now history.now.events u (Enter f) → IsSettling (table_of plan.now) later.old f settling
+        → IsNext plan.now held.now history.now.events u (Enter f)
+        → IsSettling false (table_of plan.now) later.old f settling
         → IfOk result (IsEntryLook plan.now held.now history.now.events later.old later.new u) }
 {
     seen_tasks_are_ready();
@@ -78,7 +79,7 @@ pub fn enter_standing(
         → IsScopeSeen (planned_by plan.now held.now) (known_now (table_of plan.now) later.new) u) }
 {
     'looks: loop {
-        let settling = settle(alloc, &plan.start.register, later, frame)?;
+        let settling = settle(alloc, &plan.start.register, later, frame, false)?;
         match answer_settling(alloc, plan, numbers, held, history, later, settling) {
             Ok(Some(standing)) => return Ok(standing),
             Ok(None) => {}

@@ -1,11 +1,11 @@
--- What the rows of a point have once a state or a value was added.
+-- What the rows of a point have once a state or an entry was added.
 use Rattle.std.proofs.Common.{◌≡◌, ◌⊎◌, inl, inr, ℕ, zero, suc, ◌<◌, Bool, true, false, true≢false, List, [], ◌∷◌, ◌++◌}
 use Rattle.std.proofs.Common.{map, length, Option, Some, None, refl, sym, ap, subst, ◌∙◌, arith}
 use Rattle.std.specs.Prelude.{option_map, slice_get, slice_set, if◌then◌else◌}
 use Rattle.arm_value.specs.Json.{Json}
 use Rattle.arm_value.specs.View.{json}
 use Rattle.arm_value.specs.declared.value.Value.{Value}
-use Rattle.reading.specs.Knowledge.{Known, known, missing, value}
+use Rattle.reading.specs.Knowledge.{Known, absent, missing, value}
 use Rattle.deploy_cells.specs.Cells.{Cell, state}
 use Rattle.deploy_cells.specs.Same.{same}
 use Rattle.deploy_cells.proofs.SameLemmas.{cell_is}
@@ -37,7 +37,7 @@ use Rattle.point_rows.specs.declared.later.Later.{Later}
 use Rattle.point_rows.specs.declared.later.StateAt.{StateAt}
 use Rattle.point_rows.specs.Rows.{status_told, state_row, settled, rows_by, line_rows, known_now, told_now, HasState}
 use Rattle.point_rows.specs.Rows.{IsEntrySpot}
-use Rattle.point_knowledge.specs.Steps.{AddsValue, IsStateThen}
+use Rattle.point_knowledge.specs.Steps.{IsEntryOf, AddsEntry, AddsValue, IsStateThen}
 use Rattle.point_knowledge.proofs.BlankLemmas.{is_given, given_or_state}
 
 entry_is : (o u : Option Json) → entry_of o ≡ entry_of u → o ≡ u
@@ -130,22 +130,42 @@ module _ (x : Planned) (p : Progress) (t : Table) (l m : Later) (s : StateAt) (s
     hides = λ v task c is given undone. hides_more v task c is given undone (now_is c);
   }
 
--- ---- a value more
+-- ---- an entry more
 
-module _ (os : List Opened) (c : Cell) (v : Value) where
+-- nothing is known of it at the start
+abbrev IsUnsettled : State → Type 0
+IsUnsettled how.New = Unit {0}
+IsUnsettled how.Open = Unit {0}
+IsUnsettled (how.Late k) = Unit {0}
+IsUnsettled (how.Value v) = ⊥
+IsUnsettled how.Empty = ⊥
+
+settled_is : (x : State) (a : Entry) (o : Option Json) → IsUnsettled x → IsEntryOf o a
+    → known_by (Some (settled x a)) ≡ entry_of o
+settled_is how.New (entry.Value v) o u e = ap entry_of (sym e)
+settled_is how.Open (entry.Value v) o u e = ap entry_of (sym e)
+settled_is (how.Late k) (entry.Value v) o u e = ap entry_of (sym e)
+settled_is how.New entry.Away o u e = ap entry_of (sym e)
+settled_is how.Open entry.Away o u e = ap entry_of (sym e)
+settled_is (how.Late k) entry.Away o u e = ap entry_of (sym e)
+settled_is x entry.Missing o u e = absurd e
+settled_is (how.Value v) a o u e = absurd u
+settled_is how.Empty a o u e = absurd u
+
+module _ (os : List Opened) (c : Cell) (a : Entry) (o : Option Json) (of : IsEntryOf o a) where
   settled_more : (d : Cell) (x : State) (e : Entry) (rest : List Row) (b : Bool) → same d c ≡ b
-      → Says d c (known (json v))
-      (if b then Some (settled x (entry.Value v)) else status_of rest c)
+      → Says d c (entry_of o)
+      (if b then Some (settled x a) else status_of rest c)
       (if b then Some (settled x e) else status_of rest c)
-  settled_more d how.New e rest true h = inr (sym (cell_is d c h), refl)
-  settled_more d how.Open e rest true h = inr (sym (cell_is d c h), refl)
+  settled_more d how.New e rest true h = inr (sym (cell_is d c h), settled_is how.New a o tt of)
+  settled_more d how.Open e rest true h = inr (sym (cell_is d c h), settled_is how.Open a o tt of)
   settled_more d (how.Value u) e rest true h = inl refl
   settled_more d how.Empty e rest true h = inl refl
-  settled_more d (how.Late k) e rest true h = inr (sym (cell_is d c h), refl)
+  settled_more d (how.Late k) e rest true h = inr (sym (cell_is d c h), settled_is (how.Late k) a o tt of)
   settled_more d x e rest false h = inl refl
 
   spot_more : (s : Spot) (x : State) (e : Entry) (rest : List Row) → IsEntrySpot s
-      → Says (cell_of os s) c (known (json v)) (status_of (rows_by os s x (entry.Value v) ++ rest) c)
+      → Says (cell_of os s) c (entry_of o) (status_of (rows_by os s x a ++ rest) c)
       (status_of (rows_by os s x e ++ rest) c)
   spot_more (Parameter f n) x e rest i =
       settled_more (cell_of os (Parameter f n)) x e rest (same (cell_of os (Parameter f n)) c) refl
@@ -160,14 +180,14 @@ module _ (os : List Opened) (c : Cell) (v : Value) where
 
   pub lines_more : (ls : List Line) (es : List Entry) (j : ℕ) → j < length es → j < length ls
       → IsEntrySpot (line_at ls j).spot
-      → Says (cell_of os (line_at ls j).spot) c (known (json v))
-      (status_of (line_rows os ls (slice_set es j (entry.Value v))) c) (status_of (line_rows os ls es) c)
+      → Says (cell_of os (line_at ls j).spot) c (entry_of o)
+      (status_of (line_rows os ls (slice_set es j a)) c) (status_of (line_rows os ls es) c)
   lines_more [] es j h g i = absurd (omega (arith, g))
   lines_more (l ∷ ls) [] j h g i = absurd (omega (arith, h))
   lines_more (l ∷ ls) (e ∷ es) zero h g i = spot_more l.spot l.state e (line_rows os ls es) i
   lines_more (l ∷ ls) (e ∷ es) (suc j) h g i =
-      after_rows (cell_of os (line_at ls j).spot) c (known (json v)) (rows_by os l.spot l.state e)
-      (line_rows os ls (slice_set es j (entry.Value v))) (line_rows os ls es)
+      after_rows (cell_of os (line_at ls j).spot) c (entry_of o) (rows_by os l.spot l.state e)
+      (line_rows os ls (slice_set es j a)) (line_rows os ls es)
       (lines_more ls es j (omega (arith, h)) (omega (arith, g)) i)
 
 -- a parameter or a variable is told by others at each point, and no task gives it
@@ -193,12 +213,13 @@ entry_plain os (Included f r k) i = absurd i
 entry_plain os (Name f r k) i = absurd i
 entry_plain os (Deployments f) i = absurd i
 
-module _ (x : Planned) (p : Progress) (t : Table) (l m : Later) (j : ℕ) (v : Value) (is : x.deployment ≡ whole_of t)
+module _ (x : Planned) (p : Progress) (t : Table) (l m : Later) (j : ℕ) (a : Entry) (o : Option Json)
+    (of : IsEntryOf o a) (is : x.deployment ≡ whole_of t)
     (seen : IsSeen x p (known_now t l)) (h : j < length t.lines.items)
     (spot : IsEntrySpot (line_at t.lines.items j).spot)
-    (told_is : told_now t l (meaning (whole_of t) (cell_of (scopes_of t) (line_at t.lines.items j).spot))
-    ≡ value (Some (json v)))
-    (adds : AddsValue j v l m) where
+    (told_is : entry_told (told_now t l (meaning (whole_of t) (cell_of (scopes_of t) (line_at t.lines.items j).spot)))
+    ≡ entry_of o)
+    (adds : AddsEntry j a l m) where
   abbrev at : Cell
   at = cell_of (scopes_of t) (line_at t.lines.items j).spot
 
@@ -206,34 +227,33 @@ module _ (x : Planned) (p : Progress) (t : Table) (l m : Later) (j : ℕ) (v : V
   rows_with es = line_rows (scopes_of t) t.lines.items es
 
   abbrev Next : Cell → Type 0
-  Next c = (known_now t m c ≡ known_now t l c) ⊎ ((c ≡ at) × (known_now t m c ≡ known (json v)))
+  Next c = (known_now t m c ≡ known_now t l c) ⊎ ((c ≡ at) × (known_now t m c ≡ entry_of o))
 
   next_is : (c : Cell) → Next c
   next_is c =
       let rows_are : map state_row m.states.items ++ rows_with m.entries.items
-      ≡ map state_row l.states.items ++ rows_with (slice_set l.entries.items j (entry.Value v))
+      ≡ map state_row l.states.items ++ rows_with (slice_set l.entries.items j a)
       = ap (λ (ss : List StateAt). map state_row ss ++ rows_with m.entries.items) adds.states
       ∙ ap (λ (es : List Entry). map state_row l.states.items ++ rows_with es) adds.entries in
-      subst (λ (rs : List Row). Says at c (known (json v)) (status_of rs c)
+      subst (λ (rs : List Row). Says at c (entry_of o) (status_of rs c)
       (status_of (map state_row l.states.items ++ rows_with l.entries.items) c)) (sym rows_are)
-      (after_rows at c (known (json v)) (map state_row l.states.items)
-      (rows_with (slice_set l.entries.items j (entry.Value v))) (rows_with l.entries.items)
-      (lines_more (scopes_of t) c v t.lines.items l.entries.items j adds.within h spot))
+      (after_rows at c (entry_of o) (map state_row l.states.items)
+      (rows_with (slice_set l.entries.items j a)) (rows_with l.entries.items)
+      (lines_more (scopes_of t) c a o of t.lines.items l.entries.items j adds.within h spot))
 
-  known_at : IsKnown (meaning x.deployment) (at_point (course x) (point x p.status)) at (Some (json v))
+  known_at : IsKnown (meaning x.deployment) (at_point (course x) (point x p.status)) at o
   known_at =
-      is_told at (Some (json v)) (known_now t l) (told_by_others x p (scopes_of t) (line_at t.lines.items j).spot spot)
+      is_told at o (known_now t l) (told_by_others x p (scopes_of t) (line_at t.lines.items j).spot spot)
       (λ d u e. seen.known_then d u e)
-      (subst (λ (d : Deployment). entry_told (told_now t l (meaning d at)) ≡ known (json v)) (sym is)
-      (ap entry_told told_is))
+      (subst (λ (d : Deployment). entry_told (told_now t l (meaning d at)) ≡ entry_of o) (sym is) told_is)
 
-  known_next : (c : Cell) (o : Option Json) → known_now t m c ≡ entry_of o → Next c
-      → IsKnown (meaning x.deployment) (at_point (course x) (point x p.status)) c o
-  known_next c o e (inl q) = seen.known_then c o (sym q ∙ e)
-  known_next c o e (inr q) =
-      subst (λ (d : Cell). IsKnown (meaning x.deployment) (at_point (course x) (point x p.status)) d o) (sym q.0)
-      (subst (λ (u : Option Json). IsKnown (meaning x.deployment) (at_point (course x) (point x p.status)) at u)
-      (entry_is (Some (json v)) o (sym q.1 ∙ e)) known_at)
+  known_next : (c : Cell) (u : Option Json) → known_now t m c ≡ entry_of u → Next c
+      → IsKnown (meaning x.deployment) (at_point (course x) (point x p.status)) c u
+  known_next c u e (inl q) = seen.known_then c u (sym q ∙ e)
+  known_next c u e (inr q) =
+      subst (λ (d : Cell). IsKnown (meaning x.deployment) (at_point (course x) (point x p.status)) d u) (sym q.0)
+      (subst (λ (y : Option Json). IsKnown (meaning x.deployment) (at_point (course x) (point x p.status)) at y)
+      (entry_is o u (sym q.1 ∙ e)) known_at)
 
   hides_next : (i : ℕ) (task : Task) (c : Cell) → slice_get x.tasks i ≡ Some task
       → is_given_by x.deployment (start_world x.known) task c ≡ true → done_status (p.status i) ≡ false → Next c
@@ -245,8 +265,25 @@ module _ (x : Planned) (p : Progress) (t : Table) (l m : Later) (j : ℕ) (v : V
       (subst (λ (d : Cell). is_given_by x.deployment (start_world x.known) task d ≡ true) q.0 given) plain.0) ∙
       plain.1))
 
-  pub value_seen : IsSeen x p (known_now t m)
-  value_seen = record {
+  pub entry_seen : IsSeen x p (known_now t m)
+  entry_seen = record {
     known_then = λ c o e. known_next c o e (next_is c);
     hides = λ i task c has given undone. hides_next i task c has given undone (next_is c);
   }
+
+-- the value that is told
+pub value_seen : (x : Planned) (p : Progress) (t : Table) (l m : Later) (j : ℕ) (v : Value) → x.deployment ≡ whole_of t
+    → IsSeen x p (known_now t l) → j < length t.lines.items → IsEntrySpot (line_at t.lines.items j).spot
+    → told_now t l (meaning (whole_of t) (cell_of (scopes_of t) (line_at t.lines.items j).spot))
+    ≡ value (Some (json v))
+    → AddsValue j v l m → IsSeen x p (known_now t m)
+value_seen x p t l m j v is seen h spot e adds =
+    entry_seen x p t l m j (entry.Value v) (Some (json v)) refl is seen h spot (ap entry_told e) adds
+
+-- that nothing is told
+pub absence_seen : (x : Planned) (p : Progress) (t : Table) (l m : Later) (j : ℕ) → x.deployment ≡ whole_of t
+    → IsSeen x p (known_now t l) → j < length t.lines.items → IsEntrySpot (line_at t.lines.items j).spot
+    → entry_told (told_now t l (meaning (whole_of t) (cell_of (scopes_of t) (line_at t.lines.items j).spot))) ≡ absent
+    → AddsEntry j entry.Away l m → IsSeen x p (known_now t m)
+absence_seen x p t l m j is seen h spot e adds =
+    entry_seen x p t l m j entry.Away None refl is seen h spot e adds

@@ -149,12 +149,9 @@ module _ (t : Table) (l : Later) where
           subst (λ z. Lacks {A = Fact} t z (waits (cell_at t j))) (sym q) (waits_here (waits (cell_at t j)) refl)
       by_later (how.Late k) entry.Missing (Err f) o q =
           subst (λ z. Lacks {A = Fact} t z (waits (cell_at t j))) (sym q) (waits_here (waits (cell_at t j)) refl)
-      by_later how.New entry.Away (Err f) o q =
-          subst (λ z. Lacks {A = Fact} t z (waits (cell_at t j))) (sym q) (waits_here (waits (cell_at t j)) refl)
-      by_later how.Open entry.Away (Err f) o q =
-          subst (λ z. Lacks {A = Fact} t z (waits (cell_at t j))) (sym q) (waits_here (waits (cell_at t j)) refl)
-      by_later (how.Late k) entry.Away (Err f) o q =
-          subst (λ z. Lacks {A = Fact} t z (waits (cell_at t j))) (sym q) (waits_here (waits (cell_at t j)) refl)
+      by_later how.New entry.Away (Err f) o q = subst (λ z. Lacks {A = Fact} t z (value None)) (sym q) refl
+      by_later how.Open entry.Away (Err f) o q = subst (λ z. Lacks {A = Fact} t z (value None)) (sym q) refl
+      by_later (how.Late k) entry.Away (Err f) o q = subst (λ z. Lacks {A = Fact} t z (value None)) (sym q) refl
       by_later how.New (entry.Value v) (Err f) o q = absurd q
       by_later how.Open (entry.Value v) (Err f) o q = absurd q
       by_later (how.Late k) (entry.Value v) (Err f) o q = absurd q

@@ -6,12 +6,14 @@ use Rattle.plan_sight.specs.declared.lack.Lack.TheVariants as lack
 use Rattle.point_rows.specs.declared.later.Entry.{Entry}
 use Rattle.point_rows.specs.declared.later.Entry.TheVariants as entry
 
--- the value of the entry, seen by a view, else the line is what is missing
+-- the value of the entry, seen by a view, or that there is none, else the line is what is missing
 abbrev pub IsEntryValue : {X : Type 0} → (X → Value) → Entry → ℕ → Result X Lack → Type 0
 IsEntryValue view (entry.Value v) at (Ok x) = view x ≡ v
 IsEntryValue view (entry.Value v) at (Err e) = ⊥
-IsEntryValue view _ at (Ok x) = ⊥
-IsEntryValue view _ at (Err e) = e ≡ lack.Line at
+IsEntryValue view entry.Away at (Ok x) = ⊥
+IsEntryValue view entry.Away at (Err e) = e ≡ lack.NotThere
+IsEntryValue view entry.Missing at (Ok x) = ⊥
+IsEntryValue view entry.Missing at (Err e) = e ≡ lack.Line at
 
 -- whether the condition is true, else the line is what is missing
 abbrev pub IsOfferedBy : Entry → ℕ → Result Bool Lack → Type 0

@@ -47,6 +47,9 @@ settled how.Empty e = rows.Empty
 settled how.New (entry.Value v) = rows.Value (json v)
 settled how.Open (entry.Value v) = rows.Value (json v)
 settled (how.Late k) (entry.Value v) = rows.Value (json v)
+settled how.New entry.Away = rows.Empty
+settled how.Open entry.Away = rows.Empty
+settled (how.Late k) entry.Away = rows.Empty
 settled _ _ = rows.New
 
 -- the condition of an output, and the output: nothing is known of them until its scope was left

@@ -11,7 +11,7 @@ pub enum Entry {
     Missing,
     /// The value. An output has it, and its condition is true.
     Value(Value),
-    /// The condition of the output is false.
+    /// That it has no value: the condition of the output is false, or the parameter or variable has none.
     Away,
 }
 

@@ -28,7 +28,7 @@ fn entry_value(entry: &Entry, at: usize) -> Result<&Value, Lack>
     match entry {
         Entry::Value(value) => Ok(value),
         Entry::Missing => Err(Lack::Line(at)),
-        Entry::Away => Err(Lack::Line(at)),
+        Entry::Away => Err(Lack::NotThere),
     }
 }
 

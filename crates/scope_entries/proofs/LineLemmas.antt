@@ -1,12 +1,11 @@
 -- The lines of the parameters or variables of a scope, one after another.
-use Rattle.std.proofs.Common.{◌≡◌, ◌⊎◌, inl, inr, ℕ, zero, suc, ◌+◌, ◌<◌, ◌≤◌, Bool, true, false, List, [], ◌∷◌, ◌++◌}
+use Rattle.std.proofs.Common.{◌≡◌, inl, inr, ℕ, zero, suc, ◌+◌, ◌<◌, ◌≤◌, Bool, true, false, List, [], ◌∷◌, ◌++◌}
 use Rattle.std.proofs.Common.{map, length, drop, get_or, refl, sym, ap, subst, ◌∙◌, arith}
-use Rattle.std.proofs.lemmas.List.{drop_all}
+use Rattle.std.proofs.lemmas.List.{drop_all, append_assoc, append-nil}
 use Rattle.std.proofs.Math.Seq.{drop-cons}
 use Rattle.reading.specs.World.{Each}
 use Rattle.deploy_cells.specs.Cells.{Cell, parameter, variable}
-use Rattle.plan_cells.specs.Children.{Has, parameter_names, variable_names}
-use Rattle.plan_cells.proofs.ListLemmas.{has_left, has_right}
+use Rattle.plan_cells.specs.Children.{Has, own_cells, parameter_names, variable_names}
 use Rattle.plan_table.specs.declared.table.Table.{Table}
 use Rattle.plan_table.specs.declared.line.Spot.{Spot}
 use Rattle.plan_table.specs.declared.line.Spot.TheVariants.{Parameter, Variable, Offered, Output, Count, Included}
@@ -18,7 +17,7 @@ use Rattle.plan_table.specs.Found.{scope_at, IsLineOf}
 use Rattle.plan_sight.specs.Ready.{IsReady}
 use Rattle.std.proofs.lemmas.Bool.{eq-eqb}
 use Rattle.scope_entries.specs.Entries.{line_cell, is_own_spot, IsOwnLine, AreOwnLines, cells_at, AreLinesOf}
-use Rattle.scope_entries.proofs.OwnLemmas.{OwnCell, own_cell}
+use Rattle.scope_entries.proofs.OwnLemmas.{own_is}
 
 pub each_more : (P : ℕ → Type 0) (js : List ℕ) (j : ℕ) → Each P js → P j → Each P (js ++ j ∷ [])
 each_more P [] j e h = (h, tt)
@@ -32,12 +31,6 @@ pub each_line : (t : Table) (f : ℕ) (js is : List ℕ) (j : ℕ) → is ≡ js
     → IsOwnLine t f j → AreOwnLines t f is
 each_line t f js is j e own line =
     subst (AreOwnLines t f) (sym e) (each_more (IsOwnLine t f) js j own line)
-
-pub cells_kept : (t : Table) (js is : List ℕ) (j : ℕ) (c : Cell) → is ≡ js ++ j ∷ [] → Has c (cells_at t js)
-    → Has c (cells_at t is)
-cells_kept t js is j c e h =
-    subst (λ (ks : List ℕ). Has c (cells_at t ks)) (sym e)
-    (subst (Has c) (sym (cells_more t js j)) (has_left c (cells_at t js) (line_cell t j ∷ []) h))
 
 pub name_there : {A : Type 0} (g : A → List ℕ) (xs : List A) (i : ℕ) (x : A) → i < length xs → x ≡ get_or xs i x
     → Has (g x) (map g xs)
@@ -71,35 +64,29 @@ found_own t f j c p l = record {
 -- ---- one name after another
 
 module _ (t : Table) (c : List ℕ → Cell) where
-  -- the cell of each of these names has a line, but for those that are left
-  abbrev pub LinesLeft : List (List ℕ) → List ℕ → List (List ℕ) → Type 0
-  LinesLeft names js rest = (x : List ℕ) → Has x names → Has (c x) (cells_at t js) ⊎ Has x rest
+  -- the lines have the cells that they had, and those of the names but for those that are left
+  abbrev pub LinesLeft : List Cell → List (List ℕ) → List ℕ → List (List ℕ) → Type 0
+  LinesLeft before names js rest = cells_at t js ++ map c rest ≡ before ++ map c names
 
-  pub lines_begin : (names rest : List (List ℕ)) (js : List ℕ) → rest ≡ names → LinesLeft names js rest
-  lines_begin names rest js e x h = inr (subst (Has x) (sym e) h)
+  pub lines_begin : (names rest : List (List ℕ)) (js : List ℕ) → rest ≡ names
+      → LinesLeft (cells_at t js) names js rest
+  lines_begin names rest js e = ap (λ (xs : List (List ℕ)). cells_at t js ++ map c xs) e
 
-  pub lines_more : (names left rest : List (List ℕ)) (js is : List ℕ) (y : List ℕ) (j : ℕ) → left ≡ y ∷ rest
-      → is ≡ js ++ j ∷ [] → line_cell t j ≡ c y → LinesLeft names js left → LinesLeft names is rest
-  lines_more names left rest js is y j e g l a x h =
-      subst (λ (ks : List ℕ). Has (c x) (cells_at t ks) ⊎ Has x rest) (sym g)
-      (subst (λ (cs : List Cell). Has (c x) cs ⊎ Has x rest) (sym (cells_more t js j))
-      (by_left (subst (λ (ys : List (List ℕ)). Has (c x) (cells_at t js) ⊎ Has x ys) e (a x h))))
-    where
-      by_left : Has (c x) (cells_at t js) ⊎ Has x (y ∷ rest)
-          → Has (c x) (cells_at t js ++ line_cell t j ∷ []) ⊎ Has x rest
-      by_left (inl q) = inl (has_left (c x) (cells_at t js) (line_cell t j ∷ []) q)
-      by_left (inr (inl q)) =
-          inl (has_right (c x) (cells_at t js) (line_cell t j ∷ []) (inl (l ∙ ap c q)))
-      by_left (inr (inr q)) = inr q
+  pub lines_more : (before : List Cell) (names left rest : List (List ℕ)) (js is : List ℕ) (y : List ℕ) (j : ℕ)
+      → left ≡ y ∷ rest → is ≡ js ++ j ∷ [] → line_cell t j ≡ c y → LinesLeft before names js left
+      → LinesLeft before names is rest
+  lines_more before names left rest js is y j e g l a =
+      ap (λ (ks : List ℕ). cells_at t ks ++ map c rest) g
+      ∙ ap (λ (cs : List Cell). cs ++ map c rest) (cells_more t js j)
+      ∙ append_assoc (cells_at t js) (line_cell t j ∷ []) (map c rest)
+      ∙ ap (λ (d : Cell). cells_at t js ++ d ∷ map c rest) l
+      ∙ ap (λ (xs : List (List ℕ)). cells_at t js ++ map c xs) (sym e)
+      ∙ a
 
-  pub lines_end : (names rest : List (List ℕ)) (js : List ℕ) → rest ≡ [] → LinesLeft names js rest → (x : List ℕ)
-      → Has x names → Has (c x) (cells_at t js)
-  lines_end names rest js e a x h =
-      let left = subst (λ (ys : List (List ℕ)). Has (c x) (cells_at t js) ⊎ Has x ys) e (a x h) in
-      elim left [
-        | inl q ↦ q
-        | inr q ↦ absurd q
-      ]
+  pub lines_end : (before : List Cell) (names rest : List (List ℕ)) (js : List ℕ) → rest ≡ []
+      → LinesLeft before names js rest → cells_at t js ≡ before ++ map c names
+  lines_end before names rest js e a =
+      sym (append-nil (cells_at t js)) ∙ ap (λ (xs : List (List ℕ)). cells_at t js ++ map c xs) (sym e) ∙ a
 
 -- what is left of a slice, name by name
 pub names_here : {A : Type 0} (g : A → List ℕ) (xs : List A) (i : ℕ) (x : A) → i < length xs → x ≡ get_or xs i x
@@ -113,25 +100,30 @@ names_gone g xs i h = ap (map g) (drop_all i xs h)
 
 -- ---- all lines of a scope
 
-pub all_lines : (t : Table) (f : ℕ) (ready : IsReady t) (there : f < length t.frames.items) (js : List ℕ)
-    → AreOwnLines t f js
-    → ((x : List ℕ) → Has x (parameter_names (scope_at t f).template)
-    → Has (parameter (scope_at t f).position x) (cells_at t js))
-    → ((x : List ℕ) → Has x (variable_names (scope_at t f).template)
-    → Has (variable (scope_at t f).position x) (cells_at t js))
+pub all_lines : (t : Table) (f : ℕ) (ready : IsReady t) (there : f < length t.frames.items) (none some js : List ℕ)
+    → none ≡ [] → (scope_at t f).is_own ≡ true → AreOwnLines t f js
+    → cells_at t some
+    ≡ cells_at t none ++ map (parameter (scope_at t f).position) (parameter_names (scope_at t f).template)
+    → cells_at t js
+    ≡ cells_at t some ++ map (variable (scope_at t f).position) (variable_names (scope_at t f).template)
     → AreLinesOf t f js
-all_lines t f ready there js own ps vs = record {
+all_lines t f ready there none some js e o own ps vs = record {
   own = own;
-  all = λ c h. by_cell c (own_cell t f ready there c h);
+  cells =
+      vs
+      ∙ ap (λ (cs : List Cell). cs ++ map (variable (scope_at t f).position) (variable_names (scope_at t f).template))
+      (ps ∙ ap (λ (is : List ℕ). cells_at t is
+      ++ map (parameter (scope_at t f).position) (parameter_names (scope_at t f).template)) e)
+      ∙ sym (own_is t f ready there
+      ∙ ap (λ (b : Bool). own_cells b (scope_at t f).position (scope_at t f).template) o);
 }
-  where
-    by_cell : (c : Cell) → OwnCell t f ready there c → Has c (cells_at t js)
-    by_cell c (o, inl q) = subst (λ (d : Cell). Has d (cells_at t js)) q.1.1 (ps q.0 q.1.0)
-    by_cell c (o, inr q) = subst (λ (d : Cell). Has d (cells_at t js)) q.1.1 (vs q.0 q.1.0)
 
 pub no_lines : (t : Table) (f : ℕ) (ready : IsReady t) (there : f < length t.frames.items) (js : List ℕ)
     → js ≡ [] → (scope_at t f).is_own ≡ false → AreLinesOf t f js
 no_lines t f ready there js e n = record {
   own = subst (AreOwnLines t f) (sym e) tt;
-  all = λ c h. let own = (own_cell t f ready there c h).0 in absurd (let no : true ≡ false = sym own ∙ n in cc);
+  cells =
+      ap (cells_at t) e
+      ∙ sym (own_is t f ready there
+      ∙ ap (λ (b : Bool). own_cells b (scope_at t f).position (scope_at t f).template) n);
 }

@@ -58,7 +58,7 @@ module _ (t : Table) (f : ℕ) (ready : IsReady t) (there : f < length t.frames.
   kept : IsKept (whole_of t) (scopes_of t) f o
   kept = ready.laid.kept f (scopes_there t f there)
 
-  own_is : own_of t f ≡ own_cells o.is_own o.position o.template
+  pub own_is : own_of t f ≡ own_cells o.is_own o.position o.template
   own_is =
       ap (λ (b : Bool). of_template (own_cells b o.position) (template_at (whole_of t).template o.position))
       (sym kept.own)

@@ -1,5 +1,5 @@
 -- Lines that are told once, one after another, and all again until none is left.
-use Rattle.std.proofs.Common.{◌≡◌, ◌⊎◌, inl, inr, ℕ, zero, suc, ◌+◌, ◌<◌, ◌≤◌, List, [], ◌∷◌, ◌++◌, length}
+use Rattle.std.proofs.Common.{◌≡◌, ◌⊎◌, inl, inr, ℕ, zero, suc, ◌+◌, ◌<◌, ◌≤◌, Bool, List, [], ◌∷◌, ◌++◌, length}
 use Rattle.std.proofs.Common.{get_or, Option, Some, None, refl, sym, ap, subst, ◌∙◌, arith}
 use Rattle.std.proofs.lemmas.List.{get_or_read}
 use Rattle.std.specs.declared.vec.Vec.{Vec}
@@ -21,10 +21,10 @@ use Rattle.plan_sight.specs.Ready.{IsReady}
 use Rattle.point_rows.specs.declared.later.Later.{Later}
 use Rattle.point_rows.specs.Rows.{known_now}
 use Rattle.scope_entries.specs.Entries.{line_cell, plain_now, own_of, Goes, IsOwnLine, AreOwnLines, cells_at}
-use Rattle.scope_entries.specs.Entries.{IsSettled, IsHeldUp, IsCircle, IsCovered, IsRound, IsRoundOf, AreCovered}
+use Rattle.scope_entries.specs.Entries.{IsDecided, IsHeldUp, IsCircle, IsCovered, IsRound, IsRoundOf, AreCovered}
 use Rattle.scope_entries.specs.declared.settling.Round.{Round}
 use Rattle.scope_entries.specs.declared.settling.Round.TheVariants as round
-use Rattle.scope_entries.proofs.GoesLemmas.{settled_on, goes_nowhere, goes_on}
+use Rattle.scope_entries.proofs.GoesLemmas.{decided_on, decided_there, goes_nowhere, goes_on}
 use Rattle.scope_entries.proofs.OwnLemmas.{own_line}
 use Rattle.scope_entries.proofs.LineLemmas.{each_more}
 
@@ -68,16 +68,17 @@ length_more (y ∷ ys) x = let rest = length_more ys x in omega (arith, rest)
 -- ---- one round
 
 -- after some lines of a round
-pub record IsSoFar (t : Table) (f : ℕ) (l m : Later) (pending : List ℕ) (i : ℕ) (left : List ℕ) : Type 0 where
+pub record IsSoFar (on : Bool) (t : Table) (f : ℕ) (l m : Later) (pending : List ℕ) (i : ℕ) (left : List ℕ)
+    : Type 0 where
   pub goes : Goes t l m
   pub inside : i ≤ length pending
   pub few : length left ≤ i
   pub own : AreOwnLines t f left
-  pub covered : (k : ℕ) → k < i → IsCovered t m left (get_or pending k 0)
+  pub covered : (k : ℕ) → k < i → IsCovered on t m left (get_or pending k 0)
   pub held : length left ≡ i → Each (λ j. IsHeldUp t m f (line_cell t j)) left
 
-module _ (t : Table) (f : ℕ) (l : Later) (pending : List ℕ) where
-  pub round_begins : (left : List ℕ) → left ≡ [] → IsSoFar t f l l pending 0 left
+module _ (on : Bool) (t : Table) (f : ℕ) (l : Later) (pending : List ℕ) where
+  pub round_begins : (left : List ℕ) → left ≡ [] → IsSoFar on t f l l pending 0 left
   round_begins left e = record {
     goes = goes_nowhere t l;
     inside = omega arith;
@@ -87,13 +88,13 @@ module _ (t : Table) (f : ℕ) (l : Later) (pending : List ℕ) where
     held = λ q. subst (Each (λ j. IsHeldUp t l f (line_cell t j))) (sym e) tt;
   }
 
-  covered_on : (m n : Later) (left : List ℕ) (j : ℕ) → Goes t m n → IsCovered t m left j → IsCovered t n left j
-  covered_on m n left j g (inl s) = inl (settled_on t m n (line_cell t j) g.grows s)
+  covered_on : (m n : Later) (left : List ℕ) (j : ℕ) → Goes t m n → IsCovered on t m left j → IsCovered on t n left j
+  covered_on m n left j g (inl s) = inl (decided_on on t m n (line_cell t j) g.grows s)
   covered_on m n left j g (inr h) = inr h
 
   -- the next line is settled
-  pub round_kept : (m n : Later) (i : ℕ) (left : List ℕ) → i < length pending → IsSoFar t f l m pending i left
-      → Goes t m n → IsSettled t n (line_cell t (get_or pending i 0)) → IsSoFar t f l n pending (i + 1) left
+  pub round_kept : (m n : Later) (i : ℕ) (left : List ℕ) → i < length pending → IsSoFar on t f l m pending i left
+      → Goes t m n → IsDecided on t n (line_cell t (get_or pending i 0)) → IsSoFar on t f l n pending (i + 1) left
   round_kept m n i left h s g k = record {
     goes = goes_on t l m n s.goes g;
     inside = omega (arith, h);
@@ -103,15 +104,15 @@ module _ (t : Table) (f : ℕ) (l : Later) (pending : List ℕ) where
     held = λ q. let few = s.few in absurd (omega (arith, few, q));
   }
     where
-      next : (j : ℕ) → (j < i) ⊎ (j ≡ i) → IsCovered t n left (get_or pending j 0)
+      next : (j : ℕ) → (j < i) ⊎ (j ≡ i) → IsCovered on t n left (get_or pending j 0)
       next j (inl q) = covered_on m n left (get_or pending j 0) g (s.covered j q)
-      next j (inr q) = inl (subst (λ (z : ℕ). IsSettled t n (line_cell t (get_or pending z 0))) (sym q) k)
+      next j (inr q) = inl (subst (λ (z : ℕ). IsDecided on t n (line_cell t (get_or pending z 0))) (sym q) k)
 
   -- the next line is left
-  pub round_left : (m n : Later) (i : ℕ) (left more : List ℕ) → i < length pending → IsSoFar t f l m pending i left
+  pub round_left : (m n : Later) (i : ℕ) (left more : List ℕ) → i < length pending → IsSoFar on t f l m pending i left
       → Goes t m n → n ≡ m → IsHeldUp t m f (line_cell t (get_or pending i 0))
       → IsOwnLine t f (get_or pending i 0) → more ≡ left ++ get_or pending i 0 ∷ []
-      → IsSoFar t f l n pending (i + 1) more
+      → IsSoFar on t f l n pending (i + 1) more
   round_left m n i left more h s g same held own e = record {
     goes = goes_on t l m n s.goes g;
     inside = omega (arith, h);
@@ -124,11 +125,11 @@ module _ (t : Table) (f : ℕ) (l : Later) (pending : List ℕ) where
       long : length more ≡ length left + 1
       long = ap length e ∙ length_more left (get_or pending i 0)
 
-      among : (j : ℕ) → IsCovered t m left j → IsCovered t n more j
-      among j (inl s) = inl (settled_on t m n (line_cell t j) g.grows s)
+      among : (j : ℕ) → IsCovered on t m left j → IsCovered on t n more j
+      among j (inl s) = inl (decided_on on t m n (line_cell t j) g.grows s)
       among j (inr h) = inr (subst (Has j) (sym e) (has_left j left (get_or pending i 0 ∷ []) h))
 
-      next : (j : ℕ) → (j < i) ⊎ (j ≡ i) → IsCovered t n more (get_or pending j 0)
+      next : (j : ℕ) → (j < i) ⊎ (j ≡ i) → IsCovered on t n more (get_or pending j 0)
       next j (inl q) = among (get_or pending j 0) (s.covered j q)
       next j (inr q) =
           inr (subst (Has (get_or pending j 0)) (sym e)
@@ -141,14 +142,14 @@ module _ (t : Table) (f : ℕ) (l : Later) (pending : List ℕ) where
           (subst (Each (λ j. IsHeldUp t m f (line_cell t j))) (sym e)
           (each_more (λ j. IsHeldUp t m f (line_cell t j)) left (get_or pending i 0) (s.held q) held))
 
-  pub round_ends : (m : Later) (i : ℕ) (left : List ℕ) → length pending ≤ i → IsSoFar t f l m pending i left
-      → IsRound t m f pending left
+  pub round_ends : (m : Later) (i : ℕ) (left : List ℕ) → length pending ≤ i → IsSoFar on t f l m pending i left
+      → IsRound on t m f pending left
   round_ends m i left h s =
       let all : i ≡ length pending = let inside = s.inside in omega (arith, inside, h) in
       record {
         few = subst (λ (k : ℕ). length left ≤ k) all s.few;
         own = s.own;
-        covered = each_at (IsCovered t m left) pending
+        covered = each_at (IsCovered on t m left) pending
             (λ k q. s.covered k (subst (λ (n : ℕ). k < n) (sym all) q));
         held = λ q. s.held (q ∙ sym all);
       }
@@ -162,22 +163,22 @@ own_at t f (j ∷ js) (suc i) h a = own_at t f js i (omega (arith, h)) a.1
 
 -- ---- rounds
 
-module _ (t : Table) (f : ℕ) (m : Later) (pending left : List ℕ) (one : IsRound t m f pending left) where
+module _ (on : Bool) (t : Table) (f : ℕ) (m : Later) (pending left : List ℕ) (one : IsRound on t m f pending left) where
   -- what is covered by lines is covered by those that are left
-  pub covered_left : (l : Later) → Goes t l m → AreCovered t l f pending → AreCovered t m f left
+  pub covered_left : (l : Later) → Goes t l m → AreCovered on t l f pending → AreCovered on t m f left
   covered_left l g a c h = by_cover (a c h)
     where
-      by_line : (j : ℕ) → line_cell t j ≡ c → IsCovered t m left j → IsSettled t m c ⊎ Has c (cells_at t left)
-      by_line j e (inl s) = inl (subst (IsSettled t m) e s)
+      by_line : (j : ℕ) → line_cell t j ≡ c → IsCovered on t m left j → IsDecided on t m c ⊎ Has c (cells_at t left)
+      by_line j e (inl s) = inl (subst (IsDecided on t m) e s)
       by_line j e (inr h) = inr (subst (λ (d : Cell). Has d (cells_at t left)) e (has_map (line_cell t) j left h))
 
-      by_cover : IsSettled t l c ⊎ Has c (cells_at t pending) → IsSettled t m c ⊎ Has c (cells_at t left)
-      by_cover (inl s) = inl (settled_on t l m c g.grows s)
+      by_cover : IsDecided on t l c ⊎ Has c (cells_at t pending) → IsDecided on t m c ⊎ Has c (cells_at t left)
+      by_cover (inl s) = inl (decided_on on t l m c g.grows s)
       by_cover (inr h) =
           let j = has_mapped (line_cell t) c pending h in
-          by_line j.0 j.1.1 (each_has (IsCovered t m left) pending j.0 one.covered j.1.0)
+          by_line j.0 j.1.1 (each_has (IsCovered on t m left) pending j.0 one.covered j.1.0)
 
-  module _ (ready : IsReady t) (there : f < length t.frames.items) (covered : AreCovered t m f left)
+  module _ (ready : IsReady t) (there : f < length t.frames.items) (covered : AreCovered on t m f left)
       (same : length left ≡ length pending) (some : 0 < length pending) where
     own_in : (e : Cell) → Has e (cells_at t left) → Has e (own_of t f)
     own_in e h =
@@ -186,17 +187,18 @@ module _ (t : Table) (f : ℕ) (m : Later) (pending left : List ℕ) (one : IsRo
         (own_line t f ready there j.0 (each_has (IsOwnLine t f) left j.0 one.own j.1.0))
 
     awaits : (e d : Cell) → Has d (own_of t f) → plain_now t m e ≡ waits d
-        → IsSettled t m d ⊎ Has d (cells_at t left) → Has d (cells_at t left)
+        → IsDecided on t m d ⊎ Has d (cells_at t left) → Has d (cells_at t left)
     awaits e d o w (inl s) =
-        absurd (subst IsThere (awaited (known_now t m) (plain (whole_of t) e) d w) s.is_there)
+        absurd (subst IsThere (awaited (known_now t m) (plain (whole_of t) e) d w) (decided_there on t m d s))
     awaits e d o w (inr h) = h
 
-    pub circle : IsCircle t m f (line_cell t (get_or left 0 0))
+    pub circle : IsCircle on t m f (line_cell t (get_or left 0 0))
     circle = record {
       cells = cells_at t left;
       has = has_map (line_cell t) (get_or left 0 0) left (first_has left (omega (arith, same, some)));
       own = own_in;
       awaits = λ e h. by_line e (has_mapped (line_cell t) e left h);
+      others = covered;
     }
       where
         by_held : (e : Cell) (j : ℕ) → line_cell t j ≡ e → IsHeldUp t m f (line_cell t j)
@@ -215,22 +217,22 @@ module _ (t : Table) (f : ℕ) (m : Later) (pending left : List ℕ) (one : IsRo
             by_held e j.0 j.1.1 (each_has (λ j. IsHeldUp t m f (line_cell t j)) left j.0 (one.held same) j.1.0)
 
     -- the line that was read
-    pub circle_at : (j : ℕ) → j ≡ get_or left 0 j → IsCircle t m f (line_cell t j)
+    pub circle_at : (j : ℕ) → j ≡ get_or left 0 j → IsCircle on t m f (line_cell t j)
     circle_at j e =
-        subst (λ (k : ℕ). IsCircle t m f (line_cell t k))
+        subst (λ (k : ℕ). IsCircle on t m f (line_cell t k))
         (sym (get_or_read left 0 j (omega (arith, same, some)) e 0)) circle
 
 -- a round that left lines
-pub round_of : (t : Table) (f : ℕ) (m : Later) (slice pending : List ℕ) (r : Round) (left : Vec ℕ Global)
-    → slice ≡ pending → r ≡ round.Left left → IsRoundOf t m f slice r → IsRound t m f pending left.items
-round_of t f m slice pending r left e g h =
-    subst (λ (js : List ℕ). IsRound t m f js left.items) e (subst (IsRoundOf t m f slice) g h)
+pub round_of : (on : Bool) (t : Table) (f : ℕ) (m : Later) (slice pending : List ℕ) (r : Round) (left : Vec ℕ Global)
+    → slice ≡ pending → r ≡ round.Left left → IsRoundOf on t m f slice r → IsRound on t m f pending left.items
+round_of on t f m slice pending r left e g h =
+    subst (λ (js : List ℕ). IsRound on t m f js left.items) e (subst (IsRoundOf on t m f slice) g h)
 
 -- no line is left
-pub all_settled : (t : Table) (f : ℕ) (m : Later) (pending : List ℕ) → length pending ≤ 0 → AreCovered t m f pending
-    → (c : Cell) → Has c (own_of t f) → IsSettled t m c
-all_settled t f m [] h a c o = elim (a c o) [
+pub all_settled : (on : Bool) (t : Table) (f : ℕ) (m : Later) (pending : List ℕ) → length pending ≤ 0
+    → AreCovered on t m f pending → (c : Cell) → Has c (own_of t f) → IsDecided on t m c
+all_settled on t f m [] h a c o = elim (a c o) [
   | inl s ↦ s
   | inr q ↦ absurd q
 ]
-all_settled t f m (j ∷ js) h a c o = absurd (omega (arith, h))
+all_settled on t f m (j ∷ js) h a c o = absurd (omega (arith, h))

@@ -1,9 +1,8 @@
 -- What is told of the parameters and variables of a scope at a point, and what of them is kept.
-use Rattle.std.specs.Prelude.{◌≡◌, ◌⊎◌, ◌&&◌, ◌==◌, ℕ, ◌<◌, ◌≤◌, Bool, true, false, List, length, map, Option, Some}
+use Rattle.std.specs.Prelude.{◌≡◌, ◌⊎◌, ◌==◌, ℕ, ◌<◌, ◌≤◌, Bool, true, false, List, length, map, Option, Some, None}
 use Rattle.arm_value.specs.Json.{Json}
 use Rattle.arm_ids.specs.declared.id.ResourceId.{ResourceId}
 use Rattle.arm_value.specs.View.{json}
-use Rattle.arm_value.specs.declared.value.Value.{Value}
 use Rattle.reading.specs.World.{Each}
 use Rattle.reading.specs.Knowledge.{Told, value, waits, absent, Grows, IsThere}
 use Rattle.deploy_cells.specs.Cells.{Cell, state}
@@ -57,16 +56,28 @@ IsAnswerNow t l c (answer.State k) = plain_now t l c ≡ waits (state k)
 
 -- ---- entries
 
-abbrev pub has_value : Entry → Bool
-has_value (entry.Value v) = true
-has_value entry.Missing = false
-has_value entry.Away = false
+-- the entry is what is told of a cell
+abbrev pub IsToldEntry : Table → Later → Cell → Entry → Type 0
+IsToldEntry t l c (entry.Value v) = plain_now t l c ≡ value (Some (json v))
+IsToldEntry t l c entry.Away = entry_told (plain_now t l c) ≡ absent
+IsToldEntry t l c entry.Missing = Unit {0}
 
 -- the entry of each parameter and variable is what is told of it
 abbrev pub AreTold : Table → Later → Type 0
 AreTold t l =
-    (j : ℕ) (v : Value) → j < length t.lines.items → IsEntrySpot (line_at t.lines.items j).spot
-    → entry_at l.entries.items j ≡ entry.Value v → plain_now t l (line_cell t j) ≡ value (Some (json v))
+    (j : ℕ) → j < length t.lines.items → IsEntrySpot (line_at t.lines.items j).spot
+    → IsToldEntry t l (line_cell t j) (entry_at l.entries.items j)
+
+-- what it comes to that a line has no value: settling goes on, or the scope is not settled
+abbrev pub nothing_turn : Bool → ℕ → Turn
+nothing_turn true j = turn.Kept
+nothing_turn false j = turn.Stopped (Nothing j)
+
+-- what a line comes to that has an entry
+abbrev pub kept_turn : Bool → Entry → ℕ → Option Turn
+kept_turn on (entry.Value v) j = Some turn.Kept
+kept_turn on entry.Away j = Some (nothing_turn on j)
+kept_turn on entry.Missing j = None
 
 -- more is known of parameters and variables: what was known stays, what is seen at a point is so still, and each entry
 -- is what is told
@@ -109,18 +120,29 @@ pub record IsSettled (t : Table) (l : Later) (c : Cell) : Type 0 where
   pub is_told : plain_now t l c ≡ value (Some has)
   pub is_there : IsThere (known_now t l c)
 
+-- the cell is told to have no value, and that is known
+pub record IsAbsent (t : Table) (l : Later) (c : Cell) : Type 0 where
+  pub is_absent : entry_told (plain_now t l c) ≡ absent
+  pub is_there : IsThere (known_now t l c)
+
+-- the cell has a value; or none, where settling goes on past those
+abbrev pub IsDecided : Bool → Table → Later → Cell → Type 0
+IsDecided false t l c = IsSettled t l c
+IsDecided true t l c = IsSettled t l c ⊎ IsAbsent t l c
+
 -- the cell waits for one of the scope
 pub record IsHeldUp (t : Table) (l : Later) (f : ℕ) (c : Cell) : Type 0 where
   pub other : Cell
   pub is_own : Has other (own_of t f)
   pub is_awaited : plain_now t l c ≡ waits other
 
--- the cell is one of some of the scope, each of which waits for one of them
-pub record IsCircle (t : Table) (l : Later) (f : ℕ) (c : Cell) : Type 0 where
+-- the cell is one of some of the scope, each of which waits for one of them; all others are decided
+pub record IsCircle (on : Bool) (t : Table) (l : Later) (f : ℕ) (c : Cell) : Type 0 where
   pub cells : List Cell
   pub has : Has c cells
   pub own : (e : Cell) → Has e cells → Has e (own_of t f)
   pub awaits : (e : Cell) → Has e cells → (d : Cell) × (Has d cells × (plain_now t l e ≡ waits d))
+  pub others : (e : Cell) → Has e (own_of t f) → IsDecided on t l e ⊎ Has e cells
 
 -- a cell of the scope waits for the state at the key
 pub record WaitsForState (t : Table) (l : Later) (f : ℕ) (k : ResourceId) : Type 0 where
@@ -141,41 +163,41 @@ pub record HasNothing (t : Table) (l : Later) (f j : ℕ) : Type 0 where
   pub is_own : Has (line_cell t j) (own_of t f)
   pub is_nothing : entry_told (plain_now t l (line_cell t j)) ≡ absent
 
-abbrev pub IsSettling : Table → Later → ℕ → Settling → Type 0
-IsSettling t l f Settled = (c : Cell) → Has c (own_of t f) → IsSettled t l c
-IsSettling t l f (State k) = WaitsForState t l f k
-IsSettling t l f (Line j) = WaitsForLine t l f j
-IsSettling t l f (Nothing j) = HasNothing t l f j
-IsSettling t l f (Circle j) = IsCircle t l f (line_cell t j)
+abbrev pub IsSettling : Bool → Table → Later → ℕ → Settling → Type 0
+IsSettling on t l f Settled = (c : Cell) → Has c (own_of t f) → IsDecided on t l c
+IsSettling on t l f (State k) = WaitsForState t l f k
+IsSettling on t l f (Line j) = WaitsForLine t l f j
+IsSettling on t l f (Nothing j) = (on ≡ false) × HasNothing t l f j
+IsSettling on t l f (Circle j) = IsCircle on t l f (line_cell t j)
 
 -- ---- one line, and all lines once
 
--- the line is settled; or nothing became known, and it waits for another of the scope; or settling ends
-abbrev pub IsTurn : Table → Later → Later → ℕ → ℕ → Turn → Type 0
-IsTurn t l m f j turn.Kept = IsSettled t m (line_cell t j)
-IsTurn t l m f j turn.Waiting = (m ≡ l) × IsHeldUp t l f (line_cell t j)
-IsTurn t l m f j (turn.Stopped s) = IsSettling t m f s
+-- the line is decided; or nothing became known, and it waits for another of the scope; or settling ends
+abbrev pub IsTurn : Bool → Table → Later → Later → ℕ → ℕ → Turn → Type 0
+IsTurn on t l m f j turn.Kept = IsDecided on t m (line_cell t j)
+IsTurn on t l m f j turn.Waiting = (m ≡ l) × IsHeldUp t l f (line_cell t j)
+IsTurn on t l m f j (turn.Stopped s) = IsSettling on t m f s
 
--- the line is settled, or is left
-abbrev pub IsCovered : Table → Later → List ℕ → ℕ → Type 0
-IsCovered t l left j = IsSettled t l (line_cell t j) ⊎ Has j left
+-- the line is decided, or is left
+abbrev pub IsCovered : Bool → Table → Later → List ℕ → ℕ → Type 0
+IsCovered on t l left j = IsDecided on t l (line_cell t j) ⊎ Has j left
 
 -- which lines are left
-pub record IsRound (t : Table) (m : Later) (f : ℕ) (pending left : List ℕ) : Type 0 where
+pub record IsRound (on : Bool) (t : Table) (m : Later) (f : ℕ) (pending left : List ℕ) : Type 0 where
   pub few : length left ≤ length pending
   pub own : AreOwnLines t f left
-  pub covered : Each (IsCovered t m left) pending
+  pub covered : Each (IsCovered on t m left) pending
   pub held : length left ≡ length pending → Each (λ j. IsHeldUp t m f (line_cell t j)) left
 
-abbrev pub IsRoundOf : Table → Later → ℕ → List ℕ → Round → Type 0
-IsRoundOf t m f pending (round.Left left) = IsRound t m f pending left.items
-IsRoundOf t m f pending (round.Stopped s) = IsSettling t m f s
+abbrev pub IsRoundOf : Bool → Table → Later → ℕ → List ℕ → Round → Type 0
+IsRoundOf on t m f pending (round.Left left) = IsRound on t m f pending left.items
+IsRoundOf on t m f pending (round.Stopped s) = IsSettling on t m f s
 
--- each parameter and variable of the scope is settled, or its line is one of these
-abbrev pub AreCovered : Table → Later → ℕ → List ℕ → Type 0
-AreCovered t l f js = (c : Cell) → Has c (own_of t f) → IsSettled t l c ⊎ Has c (cells_at t js)
+-- each parameter and variable of the scope is decided, or its line is one of these
+abbrev pub AreCovered : Bool → Table → Later → ℕ → List ℕ → Type 0
+AreCovered on t l f js = (c : Cell) → Has c (own_of t f) → IsDecided on t l c ⊎ Has c (cells_at t js)
 
--- the lines are those of the parameters and variables of the scope
+-- the lines are those of the parameters and variables of the scope, in their order
 pub record AreLinesOf (t : Table) (f : ℕ) (js : List ℕ) : Type 0 where
   pub own : AreOwnLines t f js
-  pub all : (c : Cell) → Has c (own_of t f) → Has c (cells_at t js)
+  pub cells : cells_at t js ≡ own_of t f

@@ -29,8 +29,8 @@ use point_rows::later::Later;
 use std::alloc::{AllocError, Global};
 use template_parts::run_out;
 
-// What is told of the value of the parameter or variable of a line, before its rule is asked.
-fn raw_told(alloc: Global, register: &Register, later: &Later, at: usize) -> Result<Value, Lack>
+/// What is told of the value of the parameter or variable of a line, before its rule is asked.
+pub fn raw_told(alloc: Global, register: &Register, later: &Later, at: usize) -> Result<Value, Lack>
     requires complete { IsComplete register.now }
     requires fit { IsFit register.now.table later.now }
     requires listed { at < length register.now.table.lines.items }

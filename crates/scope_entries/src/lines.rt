@@ -1,8 +1,8 @@
 // The lines of the parameters and variables of a scope.
-ghost use Rattle.std.specs.Prelude.{◌≡◌, ◌<◌, length, map, true, IfOk, List, ℕ};
+ghost use Rattle.std.specs.Prelude.{◌≡◌, ◌<◌, ◌++◌, length, map, true, IfOk};
 ghost use Rattle.arm_value.specs.Look.{fold};
-ghost use Rattle.deploy_cells.specs.Cells.{Cell, parameter, variable};
-ghost use Rattle.plan_cells.specs.Children.{Has, parameter_names, variable_names};
+ghost use Rattle.deploy_cells.specs.Cells.{parameter, variable};
+ghost use Rattle.plan_cells.specs.Children.{parameter_names, variable_names};
 ghost use Rattle.plan_table.specs.Found.{scope_at};
 ghost use Rattle.plan_sight.specs.Ready.{IsReady};
 ghost use Rattle.scope_entries.specs.Entries.{cells_at, AreOwnLines, AreLinesOf};
@@ -27,9 +27,9 @@ fn push_parameters(
         ≡ parameter_names (scope_at table.now frame).template }
     requires lines { AreOwnLines table.now frame lines.old.items }
     ensures own { IfOk result (λ _. AreOwnLines table.now frame lines.new.items) }
-    ensures parameters { IfOk result (λ _. (x : List ℕ)
-        → Has x (parameter_names (scope_at table.now frame).template)
-        → Has (parameter (scope_at table.now frame).position x) (cells_at table.now lines.new.items)) }
+    ensures cells { IfOk result (λ _. cells_at table.now lines.new.items ≡ cells_at table.now lines.old.items
+        ++ map (parameter (scope_at table.now frame).position)
+        (parameter_names (scope_at table.now frame).template)) }
 {
     for given in parameters {
         match table.parameter_line(alloc, frame, &given.name) {
@@ -55,11 +55,9 @@ fn push_variables(
     requires variables { map (λ v. fold v.name) variables.now ≡ variable_names (scope_at table.now frame).template }
     requires lines { AreOwnLines table.now frame lines.old.items }
     ensures own { IfOk result (λ _. AreOwnLines table.now frame lines.new.items) }
-    ensures kept { IfOk result (λ _. (c : Cell) → Has c (cells_at table.now lines.old.items)
-        → Has c (cells_at table.now lines.new.items)) }
-    ensures variables { IfOk result (λ _. (x : List ℕ)
-        → Has x (variable_names (scope_at table.now frame).template)
-        → Has (variable (scope_at table.now frame).position x) (cells_at table.now lines.new.items)) }
+    ensures cells { IfOk result (λ _. cells_at table.now lines.new.items ≡ cells_at table.now lines.old.items
+        ++ map (variable (scope_at table.now frame).position)
+        (variable_names (scope_at table.now frame).template)) }
 {
     for given in variables {
         match table.variable_line(alloc, frame, &given.name) {
@@ -71,7 +69,7 @@ fn push_variables(
     Ok(())
 }
 
-/// The lines of the parameters and variables that a scope has of its own.
+/// The lines of the parameters and variables that a scope has of its own, in the order of the template.
 pub fn lines_of(alloc: Global, table: &Table, frame: usize) -> Result<Vec<usize>, OutOfMemory>
     requires ready { IsReady table.now }
     requires there { frame < length table.now.frames.items }

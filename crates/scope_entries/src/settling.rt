@@ -1,8 +1,6 @@
 // The parameters and variables of a scope are told until each has a value, or one of them waits or has none.
 ghost use Rattle.std.specs.Prelude.{◌≡◌, ◌<◌, length, IfOk};
-ghost use Rattle.plan_table.specs.declared.table.Table as tables;
 ghost use Rattle.plan_telling.specs.Symbols.{IsComplete};
-ghost use Rattle.point_rows.specs.declared.later.Later as laters;
 ghost use Rattle.point_rows.specs.Rows.{IsFit};
 ghost use Rattle.scope_entries.specs.Entries.{AreTold, Goes, AreOwnLines, AreCovered, IsSettling, IsRoundOf};
 
@@ -18,7 +16,7 @@ use std::alloc::Global;
 /// Whether the parameters and variables of a scope have values, or what one of them lacks.
 #[derive(Drop)]
 pub enum Settling {
-    /// Each has a value.
+    /// Each has a value, or none where settling went on past those.
     Settled,
     /// One waits for the state at this key.
     State(Key),
@@ -54,6 +52,7 @@ fn tell_each(
     later: &mut Later,
     frame: usize,
     pending: &[usize],
+    on: bool,
 ) -> Result<Round, OutOfMemory>
     requires complete { IsComplete register.now }
     requires fit { IsFit register.now.table later.old }
@@ -61,11 +60,11 @@ fn tell_each(
     requires there { frame < length register.now.table.frames.items }
     requires own { AreOwnLines register.now.table frame pending.now }
     ensures goes { Goes register.now.table later.old later.new }
-    ensures round { IfOk result (IsRoundOf register.now.table later.new frame pending.now) }
+    ensures round { IfOk result (IsRoundOf on register.now.table later.new frame pending.now) }
 {
     let mut left = Vec::new(alloc);
     'lines: for at in pending {
-        match tell_line(alloc, register, later, frame, *at)? {
+        match tell_line(alloc, register, later, frame, *at, on)? {
             Turn::Kept => {}
             Turn::Waiting => left.push(*at)?,
             Turn::Stopped(settling) => return Ok(stopped(settling, left)),
@@ -81,19 +80,20 @@ fn settle_lines(
     later: &mut Later,
     frame: usize,
     lines: Vec<usize>,
+    on: bool,
 ) -> Result<Settling, OutOfMemory>
     requires complete { IsComplete register.now }
     requires fit { IsFit register.now.table later.old }
     requires told { AreTold register.now.table later.old }
     requires there { frame < length register.now.table.frames.items }
     requires own { AreOwnLines register.now.table frame lines.items }
-    requires covered { AreCovered register.now.table later.old frame lines.items }
+    requires covered { AreCovered on register.now.table later.old frame lines.items }
     ensures goes { Goes register.now.table later.old later.new }
-    ensures settling { IfOk result (IsSettling register.now.table later.new frame) }
+    ensures settling { IfOk result (IsSettling on register.now.table later.new frame) }
 {
     let mut pending = lines;
     'rounds: while pending.len() > 0 {
-        match tell_each(alloc, register, later, frame, pending.as_slice())? {
+        match tell_each(alloc, register, later, frame, pending.as_slice(), on)? {
             Round::Left(left) => {
                 if left.len() == pending.len() {
                     return Ok(Settling::Circle(left[0]));
@@ -106,7 +106,8 @@ fn settle_lines(
     Ok(Settling::Settled)
 }
 
-/// Tells the parameters and variables of a scope, and keeps the value of each that has one by what is known.
+/// Tells the parameters and variables of a scope, and keeps the value of each that has one by what is known. `on` says
+/// that it goes on past those that have none, and keeps this of them.
 ///
 /// An outer scope has none of its own. Lines that have an entry are not told again. A parameter or variable is told
 /// once, and once more after each round in which another of the scope got its value.
@@ -115,14 +116,15 @@ pub fn settle(
     register: &Register,
     later: &mut Later,
     frame: usize,
+    on: bool,
 ) -> Result<Settling, OutOfMemory>
     requires complete { IsComplete register.now }
     requires fit { IsFit register.now.table later.old }
     requires told { AreTold register.now.table later.old }
     requires there { frame < length register.now.table.frames.items }
     ensures goes { Goes register.now.table later.old later.new }
-    ensures settling { IfOk result (IsSettling register.now.table later.new frame) }
+    ensures settling { IfOk result (IsSettling on register.now.table later.new frame) }
 {
     let lines = lines_of(alloc, &register.table, frame)?;
-    settle_lines(alloc, register, later, frame, lines)
+    settle_lines(alloc, register, later, frame, lines, on)
 }

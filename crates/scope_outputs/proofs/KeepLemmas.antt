@@ -19,8 +19,7 @@ use Rattle.point_rows.specs.declared.later.Later.{Later}
 use Rattle.point_rows.specs.Rows.{entry_at, state_row, line_rows, known_now, IsFit}
 use Rattle.point_rows.proofs.RowsNowLemmas.{indexed_on}
 use Rattle.point_rows.proofs.GrowthLemmas.{stays, stays_after}
-use Rattle.scope_entries.specs.Entries.{line_cell}
-use Rattle.scope_entries.proofs.GoesLemmas.{there_on, told_on, length_set}
+use Rattle.scope_entries.proofs.GoesLemmas.{there_on, told_on, told_with_states, length_set}
 use Rattle.scope_outputs.specs.Outputs.{names_of, position_of, is_missing, Keeps, IsOffered, IsNoted}
 use Rattle.scope_outputs.specs.Outputs.{AreNoted, IsKept, Leaves}
 use Rattle.scope_outputs.specs.declared.telling.Noted.{Noted}
@@ -61,9 +60,7 @@ module _ (t : Table) (f : ℕ) (l m : Later) (e : m.entries.items ≡ l.entries.
     states = s;
     grows = grows_same;
     seen = λ x p is h seen. subst (λ z. IsSeen x p z) (sym known_same) seen;
-    told = λ a i w g spot h.
-        told_on t l m (line_cell t i) (Some (json w)) grows_same
-        (a i w g spot (ap (λ (es : List Entry). entry_at es i) (sym e) ∙ h));
+    told = told_with_states t l m grows_same e;
   }
 
 -- ---- what was told is so still

@@ -44,9 +44,9 @@ use Rattle.point_rows.specs.Rows.{entry_at, state_row, condition_status, output_
 use Rattle.point_rows.specs.Rows.{IsEntrySpot}
 use Rattle.point_rows.proofs.RowsNowLemmas.{condition_found, output_found, past_states, indexed_on}
 use Rattle.point_rows.proofs.GrowthLemmas.{stays}
-use Rattle.scope_entries.specs.Entries.{line_cell, plain_now, AreTold}
+use Rattle.scope_entries.specs.Entries.{line_cell, plain_now, IsToldEntry, AreTold}
 use Rattle.scope_entries.proofs.ThereNowLemmas.{line_there}
-use Rattle.scope_entries.proofs.GoesLemmas.{told_on, entry_set, length_set}
+use Rattle.scope_entries.proofs.GoesLemmas.{told_entry_on, entry_set, length_set}
 use Rattle.scope_outputs.specs.Outputs.{position_of, IsOffered, IsLeft, IsKept, Leaves}
 use Rattle.scope_outputs.proofs.GivenLemmas.{after_rows, lines_given}
 
@@ -324,17 +324,17 @@ module _ (t : Table) (f : ℕ) (ready : IsReady t) (x : List ℕ) (j : ℕ) (e :
 
     -- ---- entries of parameters and variables
 
-    told_by_set : AreTold t l → (i : ℕ) (w : Value) → i < length t.lines.items
-        → IsEntrySpot (line_at t.lines.items i).spot → entry_at m.entries.items i ≡ entry.Value w
+    told_by_set : AreTold t l → (i : ℕ) → i < length t.lines.items → IsEntrySpot (line_at t.lines.items i).spot
         → ((i ≡ j) × (entry_at (slice_set l.entries.items j e) i ≡ e))
         ⊎ (entry_at (slice_set l.entries.items j e) i ≡ entry_at l.entries.items i)
-        → plain_now t m (line_cell t i) ≡ value (Some (json w))
-    told_by_set a i w g s h (inl k) =
+        → IsToldEntry t m (line_cell t i) (entry_at m.entries.items i)
+    told_by_set a i g s (inl k) =
         absurd (no_entry (scopes_of t) (line_at t.lines.items i).spot q x s
         (subst (λ (n : ℕ). cell_of (scopes_of t) (line_at t.lines.items n).spot ≡ offered q x) (sym k.0) line.is))
-    told_by_set a i w g s h (inr k) =
-        told_on t l m (line_cell t i) (Some (json w)) grows
-        (a i w g s (sym k ∙ sym (ap (λ (es : List Entry). entry_at es i) entries) ∙ h))
+    told_by_set a i g s (inr k) =
+        subst (λ (z : Entry). IsToldEntry t m (line_cell t i) z)
+        (sym (ap (λ (es : List Entry). entry_at es i) entries ∙ k))
+        (told_entry_on t l m (line_cell t i) (entry_at l.entries.items i) grows (a i g s))
 
     pub one_leaves : Leaves t f l m
     one_leaves = record {
@@ -345,5 +345,5 @@ module _ (t : Table) (f : ℕ) (ready : IsReady t) (x : List ℕ) (j : ℕ) (e :
       states = states;
       grows = grows;
       seen = λ y p is left seen. still_seen y p is left seen;
-      told = λ a i w g s h. told_by_set a i w g s h (entry_set l.entries.items i j e within);
+      told = λ a i g s. told_by_set a i g s (entry_set l.entries.items i j e within);
     }

@@ -1,5 +1,5 @@
 mod GivenLemmas
 mod LeaveLemmas
 pub mod KeepLemmas
-mod TellLemmas
-mod OfferLemmas
+pub mod TellLemmas
+pub mod OfferLemmas

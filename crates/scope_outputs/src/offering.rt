@@ -109,8 +109,8 @@ fn note_of(
     }
 }
 
-// How many outputs a scope has.
-fn output_count(register: &Register, frame: usize) -> usize
+/// How many outputs a scope has.
+pub fn output_count(register: &Register, frame: usize) -> usize
     requires { frame < length register.now.table.frames.items }
     ensures { result ≡ length (names_of register.now.table frame) }
 {

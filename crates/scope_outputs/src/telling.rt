@@ -63,8 +63,8 @@ fn truth_of(condition: &Value) -> Option<bool>
     }
 }
 
-// Whether the condition of an output is true.
-fn condition_told(
+/// Whether the condition of an output is true.
+pub fn condition_told(
     alloc: Global,
     register: &Register,
     later: &Later,

@@ -1,3 +1,4 @@
 pub mod LengthLemmas
 pub mod FineLemmas
 pub mod SizeLemmas
+mod BatchLemmas

@@ -1,5 +1,5 @@
 -- The batches of the loops of a file (Microsoft Learn, "Iterative loops in Bicep").
-use Rattle.std.specs.Prelude.{◌≡◌, ℕ, pos, Option, Some, None, option_and_then, slice_get}
+use Rattle.std.specs.Prelude.{◌≡◌, ℕ, ℤ, pos, negsuc, List, Option, Some, None, option_and_then, slice_get}
 use Rattle.foundation.specs.Options.{or_else}
 use Rattle.template_parts.specs.declared.looping.Batches.{Batches}
 use Rattle.template_parts.specs.declared.looping.Batches.TheVariants.{Parallel, Serial}
@@ -14,8 +14,13 @@ use Rattle.bicep_decorators.specs.declared.kind.DecoratorKind.TheVariants as k
 use Rattle.bicep_meaning.specs.Files.{SourceFile}
 use Rattle.symbol_decorators.specs.Decorators.{decorators_of}
 
+-- a number that is not negative
+abbrev pub natural : ℤ → Option ℕ
+natural (pos n) = Some n
+natural (negsuc n) = None
+
 abbrev pub number_in : Option Literal → Option ℕ
-number_in (Some (l.Number (pos n))) = Some n
+number_in (Some (l.Number z)) = natural z
 number_in o = None
 
 -- the number that is the first argument
@@ -40,9 +45,12 @@ abbrev pub batches_by : Option ℕ → Batches
 batches_by None = Parallel
 batches_by (Some n) = Serial n
 
--- the batches of the symbol of a number
+-- the batches of the symbol of a number, by the decorators of the symbols
+abbrev pub batches_at : List DecoratorTrees → ℕ → Batches
+batches_at xs n = batches_by (option_and_then size_in (slice_get xs n))
+
 abbrev pub batches_of : FileTree → ℕ → Batches
-batches_of f n = batches_by (option_and_then size_in (slice_get (decorators_of f) n))
+batches_of f n = batches_at (decorators_of f) n
 
 -- the file has the batches that are written
 abbrev pub HasBatches : FileTree → SourceFile → Type 0

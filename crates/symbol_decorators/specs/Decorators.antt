@@ -5,10 +5,10 @@ use Rattle.bicep_tree.specs.Tree.{DecoratorTrees, ResourceTree, BodyTree, Object
 use Rattle.bicep_tree.specs.Tree.{DeclarationTree, StatementTree, FileTree}
 use Rattle.bicep_tree.specs.Tree as tree
 
--- these, and then those of a resource and of the resources that are nested in it
+-- these, and then those of the resources that are nested in a resource
 abbrev mutual
-  pub with_resource : DecoratorTrees → ResourceTree → List DecoratorTrees → List DecoratorTrees
-  with_resource ds (tree.resource at n q x b) xs = with_body b (xs ++ ds ∷ [])
+  pub with_nested : ResourceTree → List DecoratorTrees → List DecoratorTrees
+  with_nested (tree.resource at n q x b) xs = with_body b xs
 
   pub with_body : BodyTree → List DecoratorTrees → List DecoratorTrees
   with_body (tree.body_plain o) xs = with_object o xs
@@ -25,7 +25,11 @@ abbrev mutual
 
   pub with_member : MemberTree → List DecoratorTrees → List DecoratorTrees
   with_member (tree.property l v) xs = xs
-  with_member (tree.child ds r) xs = with_resource ds r xs
+  with_member (tree.child ds r) xs = with_nested r (xs ++ ds ∷ [])
+
+-- these, and then those of a resource and of the resources that are nested in it
+abbrev pub with_resource : DecoratorTrees → ResourceTree → List DecoratorTrees → List DecoratorTrees
+with_resource ds r xs = with_nested r (xs ++ ds ∷ [])
 
 -- these, and then those of a declaration that has a symbol
 abbrev pub with_declaration : DecoratorTrees → DeclarationTree → List DecoratorTrees → List DecoratorTrees

@@ -1,2 +1,4 @@
 pub mod Decorators
 pub mod Batches
+pub mod Limits
+pub mod View

@@ -1,7 +1,8 @@
 // What holds of tasks that wait for others. A law has no body: its contract is the law.
-ghost use Rattle.std.specs.Prelude.{◌≡◌, ℕ, Some, true, slice_get};
+ghost use Rattle.std.specs.Prelude.{◌≡◌, ℕ, List, Some, map, true, slice_get};
 ghost use Rattle.arm_value.specs.Json.{Json};
-ghost use Rattle.reading.specs.Knowledge.{Grows};
+ghost use Rattle.reading.specs.Knowledge.{Completes, Grows};
+ghost use Rattle.deploy_cells.specs.Cells.{World};
 ghost use Rattle.plan_cells.specs.Known.{Table};
 ghost use Rattle.plan_cells.specs.Tasks.{Task};
 ghost use Rattle.deploy_histories.specs.Planned.{Planned};
@@ -9,7 +10,9 @@ ghost use Rattle.deploy_histories.specs.Events.{Progress, IsDone};
 ghost use Rattle.deploy_histories.specs.Points.{IsKnownThen, IsTableOf};
 ghost use Rattle.deploy_histories.specs.Readiness.{ready, readiness, needs_now};
 ghost use Rattle.history_laws.specs.Past.{StaysDone};
+ghost use Rattle.task_standings.specs.Outputs.{AreOutputs, outputs_in, value_of};
 ghost use Rattle.task_standings.specs.Standings.{Needs, IsStuck, IsScopeSeen};
+ghost use Rattle.task_standings.specs.declared.standing.RootOutput.{RootOutput};
 
 /// A task that needs another, or waits for it, is ready only where that is done, whatever is known.
 pub fn needs_come_first()
@@ -41,4 +44,16 @@ pub fn needed_by_all()
 /// What a table has of a scope a larger table has.
 pub fn scopes_stay()
     ensures { (x : Planned) (s t : Table) → Grows s t → (u : ℕ) → IsScopeSeen x s u → IsScopeSeen x t u }
+{}
+
+/// The outputs of the root are the same in each world in which all is so that is known.
+pub fn outputs_are_so()
+    ensures { (x : Planned) (t : Table) (os : List RootOutput) → AreOutputs x t os → (w : World) → Completes t w
+        → map value_of os ≡ outputs_in x w }
+{}
+
+/// Outputs of the root that are known are those by all that is known.
+pub fn outputs_by_all()
+    ensures { (x : Planned) (p : Progress) (s t : Table) → IsKnownThen x p s → IsTableOf x p t
+        → (os : List RootOutput) → AreOutputs x s os → AreOutputs x t os }
 {}

@@ -8,5 +8,5 @@ pub mod laws;
 mod standing;
 mod standings;
 
-pub use standing::{Aim, Failing, Kind, Standing, TaskFault};
+pub use standing::{Aim, Failing, Kind, RootOutput, Standing, TaskFault};
 pub use standings::Standings;

@@ -2,7 +2,7 @@
 
 use arm_value::{Path, Text, Value};
 use provider_trait::Act;
-use template_parts::BindFault;
+use template_parts::{BindFault, ValueType};
 
 /// What a task does.
 #[derive(Clone, Copy, Debug, PartialEq, Eq)]
@@ -55,4 +55,15 @@ pub struct Aim {
     pub id: Text,
     /// The version of the resource's type, empty for a deletion.
     pub api: Text,
+}
+
+/// An output of the root of a deployment.
+#[derive(Drop)]
+pub struct RootOutput {
+    /// Its name, with its letters as they are spelled.
+    pub name: Text,
+    /// Its type.
+    pub kind: ValueType,
+    /// Its value.
+    pub value: Value,
 }

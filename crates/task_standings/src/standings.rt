@@ -1,6 +1,6 @@
 // The trait of what says how tasks stand.
 
-use crate::standing::{Aim, Failing, Kind, Standing};
+use crate::standing::{Aim, Failing, Kind, RootOutput, Standing};
 use arm_value::{OutOfMemory, Text};
 use board_history::History;
 use std::alloc::Global;
@@ -15,7 +15,7 @@ pub trait Standings: Drop {
     ghost use Rattle.plan_cells.specs.Known.{Table};
     ghost use Rattle.plan_cells.specs.Tasks.{Task};
     ghost use Rattle.deploy_histories.specs.Planned.{Planned};
-    ghost use Rattle.deploy_histories.specs.Events.{is_waiting, progress, IsDone, NoneBegun};
+    ghost use Rattle.deploy_histories.specs.Events.{is_waiting, progress, IsDone, NoneBegun, Progress};
     ghost use Rattle.deploy_histories.specs.Legal.{IsAct, IsLegal, NothingMay};
     ghost use Rattle.deploy_histories.specs.Outcome.{target_of};
     ghost use Rattle.point_values.specs.Seen.{IsSeen};
@@ -23,6 +23,7 @@ pub trait Standings: Drop {
     ghost use Rattle.task_standings.specs.Standings.{scope_at};
     ghost use Rattle.task_standings.specs.Standings.{IsScopeSeen, AreScopesSeen};
     ghost use Rattle.task_standings.specs.Failures.{Tells, IsFailing};
+    ghost use Rattle.task_standings.specs.Outputs.{AreOutputs, IsAllSeen};
 
     /// What is deployed.
     ghost planned: { Self → Planned };
@@ -127,4 +128,10 @@ pub trait Standings: Drop {
         ensures seen { IsSeen (planned self.old) (progress history.now.events) (known self.new) }
         ensures grows { Grows (known self.old) (known self.new) }
         ensures failing { IfOk result (IsFailing tells (planned self.old) (progress history.now.events) task) };
+
+    /// The outputs of the root that have a value, in the order of the template, where each task is done.
+    fn outputs(&self, alloc: Global) -> Result<Vec<RootOutput>, OutOfMemory>
+        requires sound { sound self.now }
+        requires over { (p : Progress) × IsAllSeen (planned self.now) p (known self.now) }
+        ensures { IfOk result (λ os. AreOutputs (planned self.now) (known self.now) os.items) };
 }

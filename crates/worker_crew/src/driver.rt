@@ -52,6 +52,7 @@ pub fn drive<R: Threads + Wait + Sync, G: Dealer, P: Provider, B: Book>(
     requires free { HasNoJobs (vec_items seats.old) }
     requires none { NoneBegun (G.steps board.old) }
     ensures free { HasNoJobs (vec_items seats.new) }
+    ensures stays { G.fixed board.new ≡ G.fixed board.old }
     ensures drove { HasDriven (Made P.may P.tells P.calls P.faults) (G.is_end board.new) B.tells
         (G.steps board.old) (G.steps board.new)
         (pages B.notes B.refusals B.first B.faults B.is_broken book.old)
@@ -79,6 +80,7 @@ fn drive_all<R: Threads + Wait + Sync, G: Dealer, P: Provider, B: Book>(
     requires free { HasNoJobs (vec_items seats.old) }
     requires none { NoneBegun (G.steps board.old) }
     ensures free { HasNoJobs (vec_items seats.new) }
+    ensures stays { G.fixed board.new ≡ G.fixed board.old }
     ensures drove { HasDriven (Made P.may P.tells P.calls P.faults) (G.is_end board.new) B.tells
         (G.steps board.old) (G.steps board.new)
         (pages B.notes B.refusals B.first B.faults B.is_broken book.old)
@@ -136,6 +138,7 @@ fn drive_seats<R: Threads + Wait + Sync, G: Dealer, P: Provider, B: Book>(
     requires rooms { AreRooms (vec_len seats) rooms }
     requires none { NoneBegun (G.steps board.old) }
     ensures free { HasNoJobs (vec_items result.0) }
+    ensures stays { G.fixed board.new ≡ G.fixed board.old }
     ensures drove { HasEnded (Made P.may P.tells P.calls P.faults) (G.is_end board.new) B.tells
         (G.steps board.old) (G.steps board.new)
         (pages B.notes B.refusals B.first B.faults B.is_broken book.old)

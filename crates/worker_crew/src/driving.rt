@@ -43,7 +43,8 @@ pub(crate) fn drive_stations<R: Threads + Wait + Sync, G: Dealer, P: Provider, B
     requires set_up { AreSetUp (Made P.may P.tells P.calls P.faults) ends.now results
         (vec_items stations) }
     requires none { NoneBegun (G.steps board.old) }
-    ensures { HasFinished (Made P.may P.tells P.calls P.faults) (G.is_end board.new) B.tells
+    ensures stays { G.fixed board.new ≡ G.fixed board.old }
+    ensures drove { HasFinished (Made P.may P.tells P.calls P.faults) (G.is_end board.new) B.tells
         (G.steps board.old) (G.steps board.new)
         (pages B.notes B.refusals B.first B.faults B.is_broken book.old)
         (pages B.notes B.refusals B.first B.faults B.is_broken book.new)
@@ -73,6 +74,7 @@ fn drive_booked<'a, R: Threads + Wait + Sync, G: Dealer, P: Provider, B: Book>(
         (vec_items stations) }
     requires none { NoneBegun (G.steps board.now) }
     ensures name { result.0.ghost_name ≡ board.entry.ghost_name }
+    ensures stays { G.fixed result.0.now ≡ G.fixed board.entry.now }
     ensures drove { HasFinished (Made P.may P.tells P.calls P.faults) (G.is_end result.0.now)
         B.tells (G.steps board.entry.now) (G.steps result.0.now)
         (pages B.notes B.refusals B.first B.faults B.is_broken book.old)
@@ -104,6 +106,7 @@ fn drive_lent<'a, 'b, R: Threads + Wait + Sync, G: Dealer, P: Provider, B: Book>
     requires none { NoneBegun (G.steps board.now) }
     ensures names { (result.0.ghost_name ≡ board.entry.ghost_name)
         × (result.1.ghost_name ≡ book.entry.ghost_name) }
+    ensures stays { G.fixed result.0.now ≡ G.fixed board.entry.now }
     ensures drove { HasFinished (Made P.may P.tells P.calls P.faults) (G.is_end result.0.now)
         B.tells (G.steps board.entry.now) (G.steps result.0.now)
         (pages B.notes B.refusals B.first B.faults B.is_broken book.entry.now)

@@ -51,7 +51,8 @@ impl<'a, 'b, 'c, G: Dealer, B: Book, P: Serves> Task<P> for Driving<'a, 'b, 'c, 
         (moment (G.steps t.board.now) (view t.results).got (sent_at posts) (vec_items t.opens))
         (G.steps r.0.now) (view r.2).got (sent_at left)
         (pages B.notes B.refusals B.first B.faults B.is_broken t.book.now)
-        (pages B.notes B.refusals B.first B.faults B.is_broken r.1.now) r.3 };
+        (pages B.notes B.refusals B.first B.faults B.is_broken r.1.now) r.3
+        × (G.fixed r.0.now ≡ G.fixed t.board.now) };
 
     fn run<R: Wait>(
         self,
@@ -75,7 +76,8 @@ impl<'a, 'b, 'c, G: Dealer, B: Book, P: Serves> Task<P> for Driving<'a, 'b, 'c, 
             (sent_at (vec_items posts)) (vec_items self.entry.opens))
             (G.steps result.0.0.now) (view result.0.2).got (sent_at (vec_items result.1))
             (pages B.notes B.refusals B.first B.faults B.is_broken self.entry.book.now)
-            (pages B.notes B.refusals B.first B.faults B.is_broken result.0.1.now) result.0.3 }
+            (pages B.notes B.refusals B.first B.faults B.is_broken result.0.1.now) result.0.3
+            × (G.fixed result.0.0.now ≡ G.fixed self.entry.board.now) }
     {
         let Driving {
             alloc,

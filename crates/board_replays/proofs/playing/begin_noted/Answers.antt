@@ -1,6 +1,5 @@
 use Rattle.std.proofs.Common.{refl}
 use Rattle.arm_value.specs.View.{json}
-use Rattle.deploy_histories.specs.Events.{progress}
 use Rattle.board_replays.specs.Replays.{noted_of}
 use Rattle.board_replays.proofs.PlayLemmas.{act_noted, begun_refusal, begun_now}
 use Rattle.board_replays.proofs.playing.begin_noted.Goals as goal

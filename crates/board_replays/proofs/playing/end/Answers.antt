@@ -1,4 +1,4 @@
-use Rattle.std.proofs.Common.{◌∙◌, sym, refl}
+use Rattle.std.proofs.Common.{◌∙◌, sym}
 use Rattle.board_replays.proofs.PlayLemmas.{ended_late, ended_now, ended_unrefused}
 use Rattle.board_replays.proofs.playing.end.Goals as goal
 

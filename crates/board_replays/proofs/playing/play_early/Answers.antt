@@ -1,5 +1,3 @@
-use Rattle.std.proofs.Common.{sym, ap}
-use Rattle.deploy_histories.specs.Events.{progress}
 use Rattle.board_dealing.proofs.PassLemmas.{goes_of}
 use Rattle.board_replays.specs.Replays.{noted_of}
 use Rattle.board_replays.proofs.PlayLemmas.{begun_so, not_begun, early_on, early_not, may_end_as, begun_kept, ended_as}

@@ -1,4 +1,4 @@
-use Rattle.std.proofs.Common.{ℕ, List, Option, refl, subst, sym}
+use Rattle.std.proofs.Common.{ℕ, List, Option, subst, sym}
 use Rattle.deploy_histories.specs.Events.{Event, at_opening}
 use Rattle.deploy_histories.specs.Answers.{IsReplay}
 use Rattle.board_replays.specs.Plays.{AreAllPlayed}

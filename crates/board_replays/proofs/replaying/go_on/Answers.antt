@@ -1,7 +1,6 @@
-use Rattle.std.proofs.Common.{map, subst, sym}
-use Rattle.deploy_histories.specs.Planned.{Planned}
+use Rattle.std.proofs.Common.{map}
 use Rattle.board_dealing.proofs.PassLemmas.{kept_of}
-use Rattle.board_replays.specs.Replays.{noted_of, IsReplayed}
+use Rattle.board_replays.specs.Replays.{noted_of}
 use Rattle.board_replays.proofs.LateLemmas.{some_mapped, reopened_as, fault_as, kept_ok}
 use Rattle.board_replays.proofs.replaying.go_on.Goals as goal
 

@@ -1,4 +1,4 @@
-use Rattle.std.proofs.Common.{ℕ, ◌==◌, map, sym, ap, ◌∙◌}
+use Rattle.std.proofs.Common.{ℕ, ◌==◌, sym, ap, ◌∙◌}
 use Rattle.board_replays.proofs.PlayLemmas.{empty_by, not_empty}
 use Rattle.board_replays.proofs.LateLemmas.{not_reopened}
 use Rattle.board_replays.proofs.replaying.reopen.Goals as goal

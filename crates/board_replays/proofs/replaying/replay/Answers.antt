@@ -1,4 +1,4 @@
-use Rattle.std.proofs.Common.{map, ◌∙◌, sym, subst}
+use Rattle.std.proofs.Common.{map, sym, subst}
 use Rattle.deploy_histories.specs.Planned.{Planned}
 use Rattle.deploy_histories.specs.Events.{progress}
 use Rattle.board_dealing.proofs.PassLemmas.{kept_of, goes_of}

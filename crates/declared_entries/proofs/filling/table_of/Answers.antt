@@ -18,20 +18,20 @@ add-requires-clause-there c =
     let i = c.loop-node.node-index in
     let n = get_or c.args.order.now i 0 in
     subst (λ k. n < k) (sym v.count)
-    (node_there c.args.file.now c.args.files.now c.args.has_entry.now c.args.order.now c.requires.paired
+    (node_there c.args.file.now c.args.files.now c.args.marks.now c.args.order.now c.requires.paired
     c.requires.order c.requires.sound c.loop-node.table v.files v.marks i n c.loop-node-test.true refl)
 
 pub add-requires-clause-sound : goal.add-requires-clause-sound
 add-requires-clause-sound c =
     let v = c.loop-node.invariant in
-    sound_in c.args.file.now c.args.files.now c.args.has_entry.now c.args.order.now c.requires.paired
+    sound_in c.args.file.now c.args.files.now c.args.marks.now c.args.order.now c.requires.paired
     c.requires.order c.requires.sound c.loop-node.table v.files v.marks
 
 pub add-requires-clause-same : goal.add-requires-clause-same
 add-requires-clause-same c =
     let v = c.loop-node.invariant in
     let i = c.loop-node.node-index in
-    same_at c.args.file.now c.args.files.now c.args.has_entry.now c.args.order.now c.requires.paired
+    same_at c.args.file.now c.args.files.now c.args.marks.now c.args.order.now c.requires.paired
     c.requires.order c.requires.sound c.loop-node.table v.files v.marks i (get_or c.args.order.now i 0)
     c.loop-node-test.true refl v.known
 
@@ -43,7 +43,7 @@ loop-node-preserved c =
     let bs = c.loop-node.table.1.1 in
     let there =
     subst (λ k. n < k) (sym v.count)
-    (node_there c.args.file.now c.args.files.now c.args.has_entry.now c.args.order.now c.requires.paired
+    (node_there c.args.file.now c.args.files.now c.args.marks.now c.args.order.now c.requires.paired
     c.requires.order c.requires.sound c.loop-node.table v.files v.marks i n c.loop-node-test.true refl) in
     record {
       files = c.in_ok-add.ensures.file.0 ∙ v.files;
@@ -58,7 +58,7 @@ pub returns-clause-sight : goal.returns-clause-sight
 returns-clause-sight c =
     let v = c.loop-node.invariant in
     let ended = c.loop-node-test.false in
-    sight_is c.args.file.now c.args.files.now c.args.has_entry.now c.args.order.now c.requires.paired
+    sight_is c.args.file.now c.args.files.now c.args.marks.now c.args.order.now c.requires.paired
     c.requires.order c.requires.sound c.loop-node.table v.files v.marks
     (λ m h. let within = h.1 in v.known m (h.0, omega (arith, within, ended), h.2))
 
@@ -66,7 +66,7 @@ pub returns-clause-names : goal.returns-clause-names
 returns-clause-names c = λ n fs run.
     let v = c.loop-node.invariant in
     let ended = c.loop-node-test.false in
-    (heads_are c.args.file.now c.args.files.now c.args.has_entry.now c.args.order.now c.requires.paired
+    (heads_are c.args.file.now c.args.files.now c.args.marks.now c.args.order.now c.requires.paired
     c.requires.order c.requires.sound c.loop-node.table v.files v.marks
     (λ m h. let within = h.1 in v.known m (h.0, omega (arith, within, ended), h.2)) n fs run).0
 
@@ -74,6 +74,6 @@ pub returns-clause-conditions : goal.returns-clause-conditions
 returns-clause-conditions c = λ n fs run.
     let v = c.loop-node.invariant in
     let ended = c.loop-node-test.false in
-    (heads_are c.args.file.now c.args.files.now c.args.has_entry.now c.args.order.now c.requires.paired
+    (heads_are c.args.file.now c.args.files.now c.args.marks.now c.args.order.now c.requires.paired
     c.requires.order c.requires.sound c.loop-node.table v.files v.marks
     (λ m h. let within = h.1 in v.known m (h.0, omega (arith, within, ended), h.2)) n fs run).1

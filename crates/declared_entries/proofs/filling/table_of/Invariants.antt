@@ -7,7 +7,7 @@ use Rattle.declared_entries.proofs.filling.table_of.Given as goal
 abbrev pub invariant-loop-node : goal.invariant-loop-node
 invariant-loop-node l = record {
   files : l.table.0 ≡ (l.file, l.files);
-  marks : l.table.1.0 ≡ l.has_entry;
+  marks : l.table.1.0 ≡ l.marks;
   count : length l.table.1.1 ≡ length l.file.entries.items;
   known : (m : ℕ) → IsAmong l.order l.node-index m → is_known l.table m ≡ true;
 }

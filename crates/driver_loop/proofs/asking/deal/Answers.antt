@@ -8,19 +8,19 @@ use Rattle.driver_loop.proofs.asking.deal.Goals.{then-is_none+in-Ok+in_ok-job+in
 
 pub loop-k-init : goal.loop-k-init
 loop-k-init g c =
-    (refl, (c.requires.seats, c.requires.ready, refl), c.requires.tied, [], hands_none, ran_none _)
+    (refl, (c.requires.seats, c.requires.ready, refl, refl), c.requires.tied, [], hands_none, ran_none _)
 
 pub loop-k-preserved : goal.loop-k-preserved
 loop-k-preserved g c =
     let At : g.row.G.Denot → g.row.C.Denot → List (Option OpenJob) → Moment
     = λ b w o. moment (g.G.Dealer.steps b) (g.C.Crew.received w) (g.C.Crew.sent w) o in
-    let Ready : g.row.C.Denot → Type 0
-    = λ w. (g.C.Crew.seats w ≡ length c.args.opens.now) × g.C.Crew.is_ready w
-    × (g.C.Crew.fixed w ≡ g.C.Crew.fixed c.args.crew.now) in
+    let Ready : g.row.G.Denot → g.row.C.Denot → Type 0
+    = λ b w. (g.C.Crew.seats w ≡ length c.args.opens.now) × g.C.Crew.is_ready w
+    × (g.C.Crew.fixed w ≡ g.C.Crew.fixed c.args.crew.now) × (g.G.Dealer.fixed b ≡ g.G.Dealer.fixed c.args.board.now) in
     let m0 = At c.args.board.now c.args.crew.now c.args.opens.now in
     let m = At c.loop-k.board c.loop-k.crew c.loop-k.opens in
     let So : g.row.G.Denot → g.row.C.Denot → List (Option OpenJob) → Type 0
-    = λ b w o. Dealt m0 (At b w o) (Ready w) in
+    = λ b w o. Dealt m0 (At b w o) (Ready b w) in
     let low : c.loop-k.k < length c.loop-k.opens = search rules in
     elim c.if-is_none.branch [
       | then-is_none+in-Ok+in_ok-job+in-Begun w ↦ (
@@ -28,11 +28,15 @@ loop-k-preserved g c =
           let h = w.hand.ensures in
           subst (λ (y : g.row.G.Denot × g.row.C.Denot × List (Option OpenJob)). So y.0 y.1 y.2)
           (λ i. (sym w.board-is i, sym w.crew-is i, sym w.opens-is i))
-          (deal_hand m0 m (At w.next.new.self w.hand.new.crew w.hand.new.opens) (Ready c.loop-k.crew)
-          (Ready w.hand.new.crew) w.in-Begun.job c.loop-k.k _ c.loop-k.invariant low
+          (deal_hand m0 m (At w.next.new.self w.hand.new.crew w.hand.new.opens) (Ready c.loop-k.board c.loop-k.crew)
+          (Ready w.next.new.self w.hand.new.crew) w.in-Begun.job c.loop-k.k _ c.loop-k.invariant low
           (free_at c.loop-k.opens c.loop-k.k c.index-opens-k.result c.is_none.result low c.is_none.ensures
-          w.if-is_none.true) w.in-Ok.ensures.1 a h.opens
-          (h.seats ∙ c.loop-k.invariant.1.0, h.ready, h.fixed ∙ c.loop-k.invariant.1.2) h.sent h.received))
+          w.if-is_none.true) w.in-Ok.ensures.1 a h.opens (
+            h.seats ∙ c.loop-k.invariant.1.0,
+            h.ready,
+            h.fixed ∙ c.loop-k.invariant.1.2,
+            w.next.ensures.fixed ∙ c.loop-k.invariant.1.3,
+          ) h.sent h.received))
       | else-is_none w ↦ subst (λ (y : g.row.G.Denot × g.row.C.Denot × List (Option OpenJob)). So y.0 y.1 y.2)
           (λ i. (sym w.board-is i, sym w.crew-is i, sym w.opens-is i)) c.loop-k.invariant
     ]

@@ -12,6 +12,6 @@ back-requires g c = let at = c.requires.at.1 in (
 
 pub returns-clause-tied : goal.returns-clause-tied
 returns-clause-tied g c = let at =
-    c.requires.at.1 in rw c.back.ensures
+    c.requires.at.1 in rw c.back.ensures.steps
     (tied_end (g.G.Dealer.steps c.args.board.now) c.args.opens.now c.requires.tied c.args.k at.0
     (given_back c.args.task) c.requires.at.0 at.1 (λ t b. ap (λ n. cond (eqb n t) None b) (sym at.2)))

@@ -7,7 +7,7 @@ use Rattle.driver_loop.proofs.running.run.Goals as goal
 pub loop-init : goal.loop-init
 loop-init g c = (
   refl,
-  (c.requires.seats, c.requires.ready, refl),
+  (c.requires.seats, c.requires.ready, refl, refl),
   c.requires.tied,
   goes_first g.B.Book.tells (moment (g.G.Dealer.steps c.args.board.now) (g.C.Crew.received c.args.crew.now)
       (g.C.Crew.sent c.args.crew.now) c.args.opens.now)

@@ -7,7 +7,7 @@ use Rattle.driver_loop.proofs.running.run.Given as goal
 abbrev pub invariant-loop : goal.invariant-loop
 invariant-loop g l = (length l.opens ≡ length l.fn.opens)
     × ((g.C.Crew.seats l.crew ≡ length l.fn.opens) × g.C.Crew.is_ready l.crew
-    × (g.C.Crew.fixed l.crew ≡ g.C.Crew.fixed l.fn.crew))
+    × (g.C.Crew.fixed l.crew ≡ g.C.Crew.fixed l.fn.crew) × (g.G.Dealer.fixed l.board ≡ g.G.Dealer.fixed l.fn.board))
     × Tied (g.G.Dealer.steps l.board) l.opens
     × GoesOn g.B.Book.tells
     (moment (g.G.Dealer.steps l.fn.board) (g.C.Crew.received l.fn.crew) (g.C.Crew.sent l.fn.crew) l.fn.opens)

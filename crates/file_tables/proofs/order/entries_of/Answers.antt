@@ -3,7 +3,7 @@ use Rattle.bicep_symbols.specs.declared.entry.Entry.{Entry}
 use Rattle.bicep_circles.specs.Links.{links}
 use Rattle.bicep_circles.specs.Orders.{IsLinkOrder}
 use Rattle.bicep_checks.proofs.KindLemmas.{same_file}
-use Rattle.file_tables.proofs.MarkLemmas.{is_file}
+use Rattle.file_tables.proofs.MarkLemmas.{entries_are}
 use Rattle.file_tables.proofs.order.entries_of.Goals as goal
 
 pub state_table-requires : goal.state_table-requires
@@ -14,6 +14,6 @@ state_table-requires c =
 
 pub returns : goal.returns
 returns c =
-    is_file c.args.file.now c.as_slice.result.now c.as_slice-declarations.result.now c.as_slice.ensures.value
+    entries_are c.args.file.now c.as_slice.result.now c.as_slice-declarations.result.now c.as_slice.ensures.value
     c.as_slice-declarations.ensures.value c.marks_of.result
     (c.marks_of.ensures (map (λ (e : Entry). e.kind) c.as_slice.result.now) c.in_ok-table.ensures)

@@ -10,9 +10,9 @@ order_of-requires c =
     c.checked_files_have_no_circle.ensures h.files c.requires.0 h.resolved h.none h.number
     (file_view c.args.file.now) h.is
 
-pub entries_of-requires : goal.entries_of-requires
-entries_of-requires c =
+pub marked-requires : goal.marked-requires
+marked-requires c =
     subst (IsLinkOrder (links_of (file_view c.args.file.now))) (sym c.as_slice.ensures.value) c.in_ok-order.ensures
 
-pub returns-in-Ok : goal.returns-in-Ok
-returns-in-Ok c = record { order = c.in_ok-order.ensures; entries = c.in-Ok.ensures }
+pub returns-in-Ok-clause-order : goal.returns-in-Ok-clause-order
+returns-in-Ok-clause-order c = record { order = c.in_ok-order.ensures; entries = c.in-Ok.ensures.file }

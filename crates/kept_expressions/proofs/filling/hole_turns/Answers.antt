@@ -2,7 +2,7 @@ use Rattle.std.proofs.Common.{pos, refl}
 use Rattle.arm_expr.specs.Tree.{int}
 use Rattle.arm_expr.proofs.ViewLemmas.{tree_of-Int}
 use Rattle.measured_holes.specs.Holes.{item_hole, index_hole, holes}
-use Rattle.kept_expressions.proofs.FillingLemmas.{one_frame}
+use Rattle.emitted_expressions.proofs.FrameLemmas.{one_frame}
 use Rattle.kept_expressions.proofs.filling.hole_turns.Goals as goal
 
 pub returns : goal.returns

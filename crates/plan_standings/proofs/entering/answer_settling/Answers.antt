@@ -1,4 +1,4 @@
-use Rattle.std.proofs.Common.{refl, subst}
+use Rattle.std.proofs.Common.{false, refl, subst}
 use Rattle.scope_entries.specs.Entries.{line_cell, IsSettling}
 use Rattle.plan_standings.specs.Waits.{table_of}
 use Rattle.plan_standings.proofs.EnterLemmas.{settled_stands, scope_seen, state_lacking, line_lacking}
@@ -7,7 +7,7 @@ use Rattle.plan_standings.proofs.entering.answer_settling.Goals as goal
 
 pub returns-in-Settled-clause-look : goal.returns-in-Settled-clause-look
 returns-in-Settled-clause-look c = λ f u there next s.
-    let all = subst (IsSettling (table_of c.args.plan.now) c.args.later.now f) c.in-Settled.is s in (
+    let all = subst (IsSettling false (table_of c.args.plan.now) c.args.later.now f) c.in-Settled.is s in (
       settled_stands c.args.plan.now c.args.held.now c.args.numbers.now c.args.history.now.events c.args.later.now
           c.requires.point f there u next all c.seen_tasks_are_ready.ensures _ refl,
       λ e.
@@ -23,7 +23,7 @@ returns-in-State-clause-look c = λ f u there next s.
     (c.answer_lack.ensures.answered u _
     (state_lacking c.args.plan.now c.args.held.now c.args.numbers.now c.args.history.now.events c.args.later.now
     c.requires.point f there u next c.in-State.key
-    (subst (IsSettling (table_of c.args.plan.now) c.args.later.now f) c.in-State.is s)))
+    (subst (IsSettling false (table_of c.args.plan.now) c.args.later.now f) c.in-State.is s)))
 
 pub returns-in-Line-clause-look : goal.returns-in-Line-clause-look
 returns-in-Line-clause-look c = λ f u there next s.
@@ -33,13 +33,13 @@ returns-in-Line-clause-look c = λ f u there next s.
     (c.answer_lack-in-Line.ensures.answered u _
     (line_lacking c.args.plan.now c.args.held.now c.args.numbers.now c.args.history.now.events c.args.later.now
     c.requires.point f there u next c.in-Line.line
-    (subst (IsSettling (table_of c.args.plan.now) c.args.later.now f) c.in-Line.is s)))
+    (subst (IsSettling false (table_of c.args.plan.now) c.args.later.now f) c.in-Line.is s)))
 
 pub returns-in-Nothing-clause-look : goal.returns-in-Nothing-clause-look
 returns-in-Nothing-clause-look c = λ f u there next s. (
   nothing_stands c.args.plan.now c.args.held.now c.args.numbers.now c.args.history.now.events c.args.later.now
       c.requires.point f there u next c.in-Nothing.field-0
-      (subst (IsSettling (table_of c.args.plan.now) c.args.later.now f) c.in-Nothing.is s),
+      (subst (IsSettling false (table_of c.args.plan.now) c.args.later.now f) c.in-Nothing.is s).1,
   λ e. absurd e,
 )
 
@@ -47,6 +47,6 @@ pub returns-in-Circle-clause-look : goal.returns-in-Circle-clause-look
 returns-in-Circle-clause-look c = λ f u there next s. (
   circle_stands c.args.plan.now c.args.held.now c.args.numbers.now c.args.history.now.events c.args.later.now
       c.requires.point f there u next (line_cell (table_of c.args.plan.now) c.in-Circle.field-0)
-      (subst (IsSettling (table_of c.args.plan.now) c.args.later.now f) c.in-Circle.is s),
+      (subst (IsSettling false (table_of c.args.plan.now) c.args.later.now f) c.in-Circle.is s),
   λ e. absurd e,
 )

@@ -1,31 +1,24 @@
-use Rattle.std.proofs.Common.{sym, ◌∙◌}
-use Rattle.scope_entries.proofs.GoesLemmas.{goes_nowhere, kept_settled}
-use Rattle.scope_entries.proofs.TurnLemmas.{own_is_entry, entry_within}
+use Rattle.std.proofs.Common.{refl, sym, ◌∙◌}
+use Rattle.point_rows.specs.Rows.{entry_at}
+use Rattle.scope_entries.proofs.GoesLemmas.{goes_nowhere}
+use Rattle.scope_entries.proofs.TurnLemmas.{entry_within, kept_turns, is_vacant}
 use Rattle.scope_entries.proofs.keeping.tell_line.Goals as goal
 
-pub is_kept-requires : goal.is_kept-requires
-is_kept-requires c =
+pub kept-requires : goal.kept-requires
+kept-requires c =
     entry_within c.args.register.now.table c.args.later.now c.args.at c.requires.fit c.requires.own.listed
 
-pub returns-then-is_kept-clause-goes : goal.returns-then-is_kept-clause-goes
-returns-then-is_kept-clause-goes c = goes_nowhere c.args.register.now.table c.args.later.now
+pub returns-in-Some-clause-goes : goal.returns-in-Some-clause-goes
+returns-in-Some-clause-goes c = goes_nowhere c.args.register.now.table c.args.later.now
 
-pub returns-then-is_kept-clause-turned : goal.returns-then-is_kept-clause-turned
-returns-then-is_kept-clause-turned c =
-    let t = c.args.register.now.table in
-    kept_settled t c.args.at c.requires.complete.ready c.requires.own.listed
-    (own_is_entry t c.args.frame c.args.at c.requires.own) c.args.later.now c.requires.told
-    (sym c.is_kept.ensures ∙ c.if-is_kept.true)
+pub returns-in-Some-clause-turned : goal.returns-in-Some-clause-turned
+returns-in-Some-clause-turned c =
+    kept_turns c.args.register.now.table c.args.later.now c.args.frame c.args.at c.requires.complete.ready
+    c.requires.there c.requires.own c.requires.told c.args.on
+    (entry_at c.args.later.now.entries.items c.args.at) refl c.in-Some.turn
+    (sym c.kept.ensures ∙ c.in-Some.is)
 
-pub entry_told-requires-clause-entry : goal.entry_told-requires-clause-entry
-entry_told-requires-clause-entry c =
-    own_is_entry c.args.register.now.table c.args.frame c.args.at c.requires.own
-
-pub returns-in_err-answer-clause-goes : goal.returns-in_err-answer-clause-goes
-returns-in_err-answer-clause-goes c = goes_nowhere c.args.register.now.table c.args.later.now
-
-pub keep_answer-requires-clause-ready : goal.keep_answer-requires-clause-ready
-keep_answer-requires-clause-ready c = c.requires.complete.ready
-
-pub keep_answer-requires-clause-vacant : goal.keep_answer-requires-clause-vacant
-keep_answer-requires-clause-vacant c = sym c.is_kept.ensures ∙ c.if-is_kept.false
+pub tell_open-requires-clause-vacant : goal.tell_open-requires-clause-vacant
+tell_open-requires-clause-vacant c =
+    is_vacant c.args.on (entry_at c.args.later.now.entries.items c.args.at) c.args.at
+    (sym c.kept.ensures ∙ c.in-None.is)

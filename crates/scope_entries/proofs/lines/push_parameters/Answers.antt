@@ -5,6 +5,7 @@ use Rattle.deploy_cells.specs.Cells.{parameter}
 use Rattle.plan_cells.specs.Children.{Has, parameter_names}
 use Rattle.plan_table.specs.Found.{scope_at, IsLineOf}
 use Rattle.plan_sight.proofs.LookLemmas.{found_some, found_none}
+use Rattle.scope_entries.specs.Entries.{cells_at}
 use Rattle.scope_entries.proofs.LineLemmas.{lines_begin, lines_more, lines_end, names_here, names_gone, found_own}
 use Rattle.scope_entries.proofs.LineLemmas.{each_line, name_there}
 use Rattle.scope_entries.proofs.lines.push_parameters.Goals as goal
@@ -33,8 +34,8 @@ loop-given-preserved c =
           c.in_ok-push-in-Ok-Some.ensures.items c.loop-given.invariant.own
           (found_own t c.args.frame c.in-Ok-Some.at (parameter o.position (fold c.given-item.result.name)) refl line);
       left =
-          lines_more t (parameter o.position) (parameter_names o.template) _ _ c.loop-given.lines.items
-          c.push.new.self.items (fold c.given-item.result.name) c.in-Ok-Some.at
+          lines_more t (parameter o.position) (cells_at t c.args.lines.now.items) (parameter_names o.template) _ _
+          c.loop-given.lines.items c.push.new.self.items (fold c.given-item.result.name) c.in-Ok-Some.at
           (names_here (λ (p : Parameter). fold p.name) c.args.parameters.now c.loop-given.given-index
           c.given-item.result c.loop-given-test.true c.given-item.is)
           c.in_ok-push-in-Ok-Some.ensures.items line.is c.loop-given.invariant.left;
@@ -53,10 +54,11 @@ unreachable-requires c =
 pub returns-clause-own : goal.returns-clause-own
 returns-clause-own c = c.loop-given.invariant.own
 
-pub returns-clause-parameters : goal.returns-clause-parameters
-returns-clause-parameters c =
+pub returns-clause-cells : goal.returns-clause-cells
+returns-clause-cells c =
     let t = c.args.table.now in
     let o = scope_at t c.args.frame in
-    lines_end t (parameter o.position) (parameter_names o.template) _ c.loop-given.lines.items
+    lines_end t (parameter o.position) (cells_at t c.args.lines.now.items) (parameter_names o.template) _
+    c.loop-given.lines.items
     (names_gone (λ (p : Parameter). fold p.name) c.args.parameters.now c.loop-given.given-index
     c.loop-given-test.false) c.loop-given.invariant.left

@@ -5,14 +5,14 @@ use Rattle.deploy_cells.specs.Cells.{variable}
 use Rattle.plan_cells.specs.Children.{Has, variable_names}
 use Rattle.plan_table.specs.Found.{scope_at, IsLineOf}
 use Rattle.plan_sight.proofs.LookLemmas.{found_some, found_none}
+use Rattle.scope_entries.specs.Entries.{cells_at}
 use Rattle.scope_entries.proofs.LineLemmas.{lines_begin, lines_more, lines_end, names_here, names_gone, found_own}
-use Rattle.scope_entries.proofs.LineLemmas.{each_line, name_there, cells_kept}
+use Rattle.scope_entries.proofs.LineLemmas.{each_line, name_there}
 use Rattle.scope_entries.proofs.lines.push_variables.Goals as goal
 
 pub loop-given-init : goal.loop-given-init
 loop-given-init c = record {
   own = c.requires.lines;
-  kept = λ e h. h;
   left =
       lines_begin c.args.table.now (variable (scope_at c.args.table.now c.args.frame).position)
       (variable_names (scope_at c.args.table.now c.args.frame).template) _ c.args.lines.now.items c.requires.variables;
@@ -32,12 +32,9 @@ loop-given-preserved c =
           each_line t c.args.frame c.loop-given.lines.items c.push.new.self.items c.in-Ok-Some.at
           c.in_ok-push-in-Ok-Some.ensures.items c.loop-given.invariant.own
           (found_own t c.args.frame c.in-Ok-Some.at (variable o.position (fold c.given-item.result.name)) refl line);
-      kept =
-          λ e h. cells_kept c.args.table.now c.loop-given.lines.items c.push.new.self.items c.in-Ok-Some.at e
-          c.in_ok-push-in-Ok-Some.ensures.items (c.loop-given.invariant.kept e h);
       left =
-          lines_more t (variable o.position) (variable_names o.template) _ _ c.loop-given.lines.items
-          c.push.new.self.items (fold c.given-item.result.name) c.in-Ok-Some.at
+          lines_more t (variable o.position) (cells_at t c.args.lines.now.items) (variable_names o.template) _ _
+          c.loop-given.lines.items c.push.new.self.items (fold c.given-item.result.name) c.in-Ok-Some.at
           (names_here (λ (v : Variable). fold v.name) c.args.variables.now c.loop-given.given-index
           c.given-item.result c.loop-given-test.true c.given-item.is)
           c.in_ok-push-in-Ok-Some.ensures.items line.is c.loop-given.invariant.left;
@@ -56,13 +53,11 @@ unreachable-requires c =
 pub returns-clause-own : goal.returns-clause-own
 returns-clause-own c = c.loop-given.invariant.own
 
-pub returns-clause-kept : goal.returns-clause-kept
-returns-clause-kept c = c.loop-given.invariant.kept
-
-pub returns-clause-variables : goal.returns-clause-variables
-returns-clause-variables c =
+pub returns-clause-cells : goal.returns-clause-cells
+returns-clause-cells c =
     let t = c.args.table.now in
     let o = scope_at t c.args.frame in
-    lines_end t (variable o.position) (variable_names o.template) _ c.loop-given.lines.items
+    lines_end t (variable o.position) (cells_at t c.args.lines.now.items) (variable_names o.template) _
+    c.loop-given.lines.items
     (names_gone (λ (v : Variable). fold v.name) c.args.variables.now c.loop-given.given-index
     c.loop-given-test.false) c.loop-given.invariant.left

@@ -1,8 +1,8 @@
 use Rattle.std.proofs.Common.{map, drop}
 use Rattle.arm_value.specs.Look.{fold}
 use Rattle.template_parts.specs.declared.variable.Variable.{Variable}
-use Rattle.deploy_cells.specs.Cells.{Cell, variable}
-use Rattle.plan_cells.specs.Children.{Has, variable_names}
+use Rattle.deploy_cells.specs.Cells.{variable}
+use Rattle.plan_cells.specs.Children.{variable_names}
 use Rattle.plan_table.specs.Found.{scope_at}
 use Rattle.scope_entries.specs.Entries.{AreOwnLines, cells_at}
 use Rattle.scope_entries.proofs.LineLemmas.{LinesLeft}
@@ -11,8 +11,7 @@ use Rattle.scope_entries.proofs.lines.push_variables.Given as goal
 abbrev pub invariant-loop-given : goal.invariant-loop-given
 invariant-loop-given l = record {
   own : AreOwnLines l.table l.frame l.lines.items;
-  kept : (c : Cell) → Has c (cells_at l.table l.fn.lines.items) → Has c (cells_at l.table l.lines.items);
   left : LinesLeft l.table (variable (scope_at l.table l.frame).position)
-      (variable_names (scope_at l.table l.frame).template) l.lines.items
+      (cells_at l.table l.fn.lines.items) (variable_names (scope_at l.table l.frame).template) l.lines.items
       (map (λ (v : Variable). fold v.name) (drop l.given-index l.variables));
 }

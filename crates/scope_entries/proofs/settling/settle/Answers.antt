@@ -1,4 +1,5 @@
-use Rattle.std.proofs.Common.{inr}
+use Rattle.std.proofs.Common.{inr, sym, subst}
+use Rattle.plan_cells.specs.Children.{Has}
 use Rattle.scope_entries.proofs.GoesLemmas.{goes_nowhere}
 use Rattle.scope_entries.proofs.settling.settle.Goals as goal
 
@@ -12,4 +13,4 @@ pub settle_lines-requires-clause-own : goal.settle_lines-requires-clause-own
 settle_lines-requires-clause-own c = c.in_ok-lines.ensures.own
 
 pub settle_lines-requires-clause-covered : goal.settle_lines-requires-clause-covered
-settle_lines-requires-clause-covered c = λ e h. inr (c.in_ok-lines.ensures.all e h)
+settle_lines-requires-clause-covered c = λ e h. inr (subst (Has e) (sym c.in_ok-lines.ensures.cells) h)

@@ -32,7 +32,7 @@ returns-then-len-clause-settling c =
     let m = c.tell_each.new.later in
     let left = c.in-Left.left.items in
     let pending = c.rounds.pending.items in
-    let round = round_of t c.args.frame m c.as_slice.result.now pending c.in_ok-left.field-0 c.in-Left.left
+    let round = round_of c.args.on t c.args.frame m c.as_slice.result.now pending c.in_ok-left.field-0 c.in-Left.left
     c.as_slice.ensures.value c.in-Left.is c.in_ok-left.ensures.round in
     let same : length left ≡ length pending =
     omega (
@@ -44,22 +44,22 @@ returns-then-len-clause-settling c =
       c.rounds.pending.ok.0,
     ) in
     let some : 0 < length pending = omega (arith, c.rounds-test.true, c.len.ensures, c.rounds.pending.ok.0) in
-    circle_at t c.args.frame m pending left round c.requires.complete.ready c.requires.there
-    (covered_left t c.args.frame m pending left round c.rounds.later c.tell_each.ensures.goes
+    circle_at c.args.on t c.args.frame m pending left round c.requires.complete.ready c.requires.there
+    (covered_left c.args.on t c.args.frame m pending left round c.rounds.later c.tell_each.ensures.goes
     c.rounds.invariant.covered) same some c.index.result.now c.index.ensures
 
 pub rounds-preserved : goal.rounds-preserved
 rounds-preserved c =
     let t = c.args.register.now.table in
     let m = c.tell_each.new.later in
-    let round = round_of t c.args.frame m c.as_slice.result.now c.rounds.pending.items c.in_ok-left.field-0
+    let round = round_of c.args.on t c.args.frame m c.as_slice.result.now c.rounds.pending.items c.in_ok-left.field-0
     c.in-Left.left c.as_slice.ensures.value c.in-Left.is c.in_ok-left.ensures.round in
     record {
       goes =
           goes_on t c.args.later.now c.rounds.later m c.rounds.invariant.goes c.tell_each.ensures.goes;
       own = round.own;
       covered =
-          covered_left t c.args.frame m c.rounds.pending.items c.in-Left.left.items round c.rounds.later
+          covered_left c.args.on t c.args.frame m c.rounds.pending.items c.in-Left.left.items round c.rounds.later
           c.tell_each.ensures.goes c.rounds.invariant.covered;
     }
 

@@ -6,7 +6,7 @@ abbrev pub invariant-rounds : goal.invariant-rounds
 invariant-rounds l = record {
   goes : Goes l.register.table l.fn.later l.later;
   own : AreOwnLines l.register.table l.frame l.pending.items;
-  covered : AreCovered l.register.table l.later l.frame l.pending.items;
+  covered : AreCovered l.on l.register.table l.later l.frame l.pending.items;
 }
 
 abbrev pub decreases-rounds : goal.decreases-rounds

@@ -9,8 +9,8 @@ use Rattle.scope_entries.proofs.settling.tell_each.Goals as goal
 
 pub lines-init : goal.lines-init
 lines-init c =
-    round_begins c.args.register.now.table c.args.frame c.args.later.now c.args.pending.now c.new-left.result.items
-    c.new-left.ensures.items
+    round_begins c.args.on c.args.register.now.table c.args.frame c.args.later.now c.args.pending.now
+    c.new-left.result.items c.new-left.ensures.items
 
 pub tell_line-requires-clause-fit : goal.tell_line-requires-clause-fit
 tell_line-requires-clause-fit c = c.lines.invariant.goes.fit c.requires.fit
@@ -27,16 +27,16 @@ lines-preserved c =
     let t = c.args.register.now.table in
     elim c.match-branch-2.branch [
       | in-Kept w ↦
-          subst (λ (v : Vec ℕ Global). IsSoFar t c.args.frame c.args.later.now c.tell_line.new.later c.args.pending.now
-          (c.lines.at-index + 1) v.items) (sym w.left-is)
-          (round_kept t c.args.frame c.args.later.now c.args.pending.now c.lines.later c.tell_line.new.later
+          subst (λ (v : Vec ℕ Global). IsSoFar c.args.on t c.args.frame c.args.later.now c.tell_line.new.later
+          c.args.pending.now (c.lines.at-index + 1) v.items) (sym w.left-is)
+          (round_kept c.args.on t c.args.frame c.args.later.now c.args.pending.now c.lines.later c.tell_line.new.later
           c.lines.at-index c.lines.left.items c.lines-test.true c.lines.invariant c.tell_line.ensures.goes
-          (subst (IsTurn t c.lines.later c.tell_line.new.later c.args.frame
+          (subst (IsTurn c.args.on t c.lines.later c.tell_line.new.later c.args.frame
           (get_or c.args.pending.now c.lines.at-index 0)) w.in-Kept.is c.in_ok-tell_line.ensures.turned))
       | in-Waiting+in_ok-push-in-Waiting w ↦
-          let turned = subst (IsTurn t c.lines.later c.tell_line.new.later c.args.frame
+          let turned = subst (IsTurn c.args.on t c.lines.later c.tell_line.new.later c.args.frame
           (get_or c.args.pending.now c.lines.at-index 0)) w.in-Waiting.is c.in_ok-tell_line.ensures.turned in
-          round_left t c.args.frame c.args.later.now c.args.pending.now c.lines.later c.tell_line.new.later
+          round_left c.args.on t c.args.frame c.args.later.now c.args.pending.now c.lines.later c.tell_line.new.later
           c.lines.at-index c.lines.left.items c.match-branch-2.left.items c.lines-test.true c.lines.invariant
           c.tell_line.ensures.goes turned.0 turned.1
           (own_at t c.args.frame c.args.pending.now c.lines.at-index c.lines-test.true c.requires.own)
@@ -48,7 +48,7 @@ returns-clause-goes c = c.lines.invariant.goes
 
 pub returns-clause-round : goal.returns-clause-round
 returns-clause-round c =
-    round_ends c.args.register.now.table c.args.frame c.args.later.now c.args.pending.now c.lines.later
+    round_ends c.args.on c.args.register.now.table c.args.frame c.args.later.now c.args.pending.now c.lines.later
     c.lines.at-index c.lines.left.items c.lines-test.false c.lines.invariant
 
 pub returns-in-Stopped-clause-goes : goal.returns-in-Stopped-clause-goes

@@ -44,7 +44,7 @@ returns-clause-drove g c =
     ends_as (Made g.P.Provider.may g.P.Provider.tells g.P.Provider.calls g.P.Provider.faults) _ _ _ _ _ _
     (vec_items st.result) (vec_items c.args.seats) _ (sym st.result.ok.0 ∙ st.ensures.len ∙ many)
     (λ k e t low. (st.ensures.each k t passes e (subst (λ m. k < m) (sym many) low)).first) d _
-    c.drive_stations.ensures
+    c.drive_stations.ensures.drove
 
 pub returns-clause-free : goal.returns-clause-free
 returns-clause-free g c =
@@ -56,4 +56,4 @@ returns-clause-free g c =
     no_jobs (Made g.P.Provider.may g.P.Provider.tells g.P.Provider.calls g.P.Provider.faults) _ _ _ _ _ _
     (vec_items st.result) (vec_items c.args.seats) _ (sym st.result.ok.0 ∙ st.ensures.len ∙ many)
     (λ k e t low. (st.ensures.each k t passes e (subst (λ m. k < m) (sym many) low)).first) _
-    c.drive_stations.ensures
+    c.drive_stations.ensures.drove

@@ -4,8 +4,8 @@ use Rattle.seat_calls.specs.Dones.{Made}
 use Rattle.worker_crew.specs.Driven.{HasFinished}
 use Rattle.worker_crew.proofs.driving.drive_stations.Goals as goal
 
-pub returns : goal.returns
-returns g c =
+pub returns-clause-drove : goal.returns-clause-drove
+returns-clause-drove g c =
     let r = c.drive_booked-board_back.result in
     let name = c.drive_booked-board_back.ensures.name in
     let new = c.drive_booked-board_back.new.book in

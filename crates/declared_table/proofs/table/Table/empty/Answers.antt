@@ -10,7 +10,7 @@ use Rattle.declared_table.proofs.table.Table.empty.Goals as goal
 
 pub invariant_of-result : goal.invariant_of-result
 invariant_of-result c =
-    let file = file_of c.args.file.now c.args.has_entry.now in
+    let file = file_of c.args.file.now c.args.marks.now in
     let b = whole file (files_of c.args.files.now) in
     record {
       paired = c.requires.paired;

@@ -10,7 +10,7 @@ invariant_of-self c =
     let i = c.self.inside in
     let last = c.len-place.ensures in
     let own = i.entries.ok.0 in
-    table_pushed i.file.now i.files.now i.has_entry.now i.types.items i.places.items i.entries.items c.self.invariant
+    table_pushed i.file.now i.files.now i.marks.now i.types.items i.places.items i.entries.items c.self.invariant
     c.args.number c.args.entry
     (entry_inside c.args.self.now _ c.args.number c.args.entry (sym c.self.view_is) c.requires.entry)
     c.len-place.result _ _ (omega (arith, last, own)) refl c.in-Ok.ensures.items

@@ -10,7 +10,7 @@ returns-in-Some c =
     let n = c.args.number in
     let own = c.in-Some.own.now in
     subst (λ (s : Shape). typed_of own ≡ type_of (file_in s) n) c.self.view_is
-    (type_there (file_of c.self.inside.file.now c.self.inside.has_entry.now) c.self.inside.types.items
+    (type_there (file_of c.self.inside.file.now c.self.inside.marks.now) c.self.inside.types.items
     c.deref.result.now n own c.self.invariant.types c.deref.ensures.value c.in-Some.ensures.lookup.0
     c.in-Some.ensures.lookup.1)
 
@@ -18,6 +18,6 @@ pub returns-in-None : goal.returns-in-None
 returns-in-None c =
     let n = c.args.number in
     subst (λ (s : Shape). type_of (file_in s) n ≡ typed [] []) c.self.view_is
-    (type_absent (file_of c.self.inside.file.now c.self.inside.has_entry.now) c.self.inside.types.items
+    (type_absent (file_of c.self.inside.file.now c.self.inside.marks.now) c.self.inside.types.items
     c.deref.result.now n c.self.invariant.paired c.self.invariant.types c.deref.ensures.value
     c.in-None.ensures.lookup.0)

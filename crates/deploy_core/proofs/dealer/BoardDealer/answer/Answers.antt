@@ -9,8 +9,8 @@ answer-requires g c =
     may_end_by (g.S.Standings.planned c.args.self.now.0) c.args.self.now.1.events c.history.ensures.legal c.args.task
     c.args.answer c.requires
 
-pub returns : goal.returns
-returns g c =
+pub returns-clause-steps : goal.returns-clause-steps
+returns-clause-steps g c =
     ap (λ b. steps_of (g.S.Standings.planned b.0) b.1.events) c.answer.ensures
     ∙ steps_more (g.S.Standings.planned c.args.self.now.0) c.args.self.now.1.events
     (event.answer c.args.task c.args.answer)

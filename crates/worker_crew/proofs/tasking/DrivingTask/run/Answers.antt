@@ -46,4 +46,5 @@ returns-clause-gives g c =
             c.run-ended.new.book) c.run-ended.result)
             c.as_mut_slice.ensures.value c.run-ended.ensures.drove,
       ),
+      c.run-ended.ensures.stays,
     )

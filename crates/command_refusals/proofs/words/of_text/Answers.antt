@@ -1,0 +1,8 @@
+use Rattle.command_reports.specs.Faults.{refusal_report}
+use Rattle.command_refusals.proofs.ReportLemmas.{report_so}
+use Rattle.command_refusals.proofs.words.of_text.Goals as goal
+
+pub returns : goal.returns
+returns c =
+    report_so c.refusal_report.result (refusal_report c.args.code.now) _ _ c.as_str.ensures.bytes
+    c.refusal_report.ensures

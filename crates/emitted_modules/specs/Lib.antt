@@ -1,0 +1,9 @@
+pub mod Arguments
+pub mod Modules
+pub mod Laws
+pub use Rattle.emitted_resources.specs.Files
+pub use Rattle.emitted_resources.specs.Filled
+pub use Rattle.emitted_resources.specs.Limits
+pub use Rattle.emitted_resources.specs.Resources
+pub use Rattle.emitted_resources.specs.Seen
+pub use Rattle.emitted_resources.specs.Values

@@ -1,0 +1,3 @@
+pub mod Templates
+pub mod Parts
+pub mod Laws

@@ -1,0 +1,77 @@
+//! The template of a file.
+ghost use Rattle.std.specs.Prelude.{◌≡◌, IfOk};
+ghost use Rattle.file_resources.specs.Built.{templates_of};
+ghost use Rattle.file_resources.specs.Fits.{IsReady, AreMentioned, AllMayBeBuilt};
+ghost use Rattle.emitted_templates.specs.Templates as spec;
+ghost use Rattle.emitted_templates.specs.Templates.{CanBeListed, IsMadeOf, IsTemplateOf};
+
+use crate::lists::{Listed, lists};
+use arm_value::{OutOfMemory, Text};
+use emitted_parts::lacks;
+use file_resources::{Table, resources};
+use std::alloc::Global;
+use std::collections::BTreeSet;
+use template_parts::{Form, Parameter};
+use template_tree::{Resources, Template};
+
+const SCHEMA: &str =
+    "https://schema.management.azure.com/schemas/2019-04-01/deploymentTemplate.json#";
+
+// The schema of a template, and the version of its content.
+fn texts(alloc: Global) -> Result<(Text, Text), OutOfMemory>
+    ensures { IfOk result (λ t. (t.0 ≡ spec.schema) × (t.1 ≡ spec.content_version)) }
+{
+    let schema = Text::of(alloc, SCHEMA)?;
+    match Text::of(alloc, "1.0.0.0") {
+        Ok(version) => Ok((schema, version)),
+        Err(_) => lacks(schema),
+    }
+}
+
+// The template of these lists and resources.
+fn made(alloc: Global, lists: Listed, resources: Resources) -> Result<Template, OutOfMemory>
+    ensures { IfOk result (IsMadeOf lists resources) }
+{
+    match texts(alloc) {
+        Ok((schema, content_version)) => Ok(Template {
+            form: Form::One,
+            schema,
+            content_version,
+            parameters: lists.parameters,
+            variables: lists.variables,
+            outputs: lists.outputs,
+            resources,
+        }),
+        Err(_) => lacks((lists, resources)),
+    }
+}
+
+/// The template of a file in the first form, with a table of all its declarations. `rules` has at the number of each
+/// symbol that is a parameter its name, its type, the values that are allowed, its bounds and its metadata. `mentioned`
+/// is what `dependencies` of `bicep_dependencies` returns. `templates` has for each symbol the template of the file of
+/// its module, where it is that of a module. What declarations become is within the limits of templates.
+///
+/// # Errors
+///
+/// `OutOfMemory`, also where a name, a condition, a count or an id is beyond the limits of expressions.
+pub fn template(
+    alloc: Global,
+    table: &Table,
+    rules: &[Option<Parameter>],
+    mentioned: &[BTreeSet<usize>],
+    templates: Vec<Option<Template>>,
+) -> Result<Template, OutOfMemory>
+    requires ready { IsReady table.now }
+    requires listed { CanBeListed table.now rules.now }
+    requires mentioned { AreMentioned table.now mentioned.now }
+    requires built { AllMayBeBuilt table.now (templates_of templates.items) }
+    ensures { IfOk result (IsTemplateOf table.now rules.now (templates_of templates.items)) }
+{
+    match resources(alloc, table, mentioned, templates) {
+        Ok(resources) => match lists(alloc, table, rules) {
+            Ok(lists) => made(alloc, lists, resources),
+            Err(_) => lacks(resources),
+        },
+        Err(error) => Err(error),
+    }
+}

@@ -1,0 +1,6 @@
+mod PartLemmas
+mod SoughtLemmas
+mod FirstLemmas
+mod VariableLemmas
+pub mod LimitLemmas
+mod ParameterLemmas

@@ -1,0 +1,6 @@
+mod NameLemmas
+mod MadeLemmas
+mod PartLemmas
+mod ListLemmas
+pub mod ListedLemmas
+pub mod NestedLemmas

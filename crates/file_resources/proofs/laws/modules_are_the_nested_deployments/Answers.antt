@@ -1,0 +1,5 @@
+use Rattle.file_resources.proofs.NestedLemmas.{modules_are}
+use Rattle.file_resources.proofs.laws.modules_are_the_nested_deployments.Goals as goal
+
+pub returns : goal.returns
+returns c = λ s us h rs built. modules_are s us h rs built

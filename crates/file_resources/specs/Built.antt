@@ -1,0 +1,102 @@
+-- The resources of the template of a file in the first form.
+use Rattle.std.specs.Prelude.{◌≡◌, ◌++◌, ℕ, true, false, List, [], ◌∷◌, Option, Some, None, option_to_list, map}
+use Rattle.std.specs.Prelude.{option_map, slice_index_or, Result, Ok, Err}
+use Rattle.std.specs.declared.alloc.AllocError.{AllocError}
+use Rattle.template_parts.specs.declared.declaration.Declaration.{Declaration}
+use Rattle.template_parts.specs.declared.mode.Form.TheVariants.{One}
+use Rattle.template_tree.specs.Tree.{TemplateTree, ResourceTree, resource, Trees, no_resources}
+use Rattle.template_tree.specs.Tree as template
+use Rattle.template_tree.specs.View.{template_tree}
+use Rattle.template_tree.specs.declared.resource.Resource.{Resource}
+use Rattle.template_tree.specs.declared.resource.Template.{Template}
+use Rattle.deploy_cells.specs.Puts.{Kind}
+use Rattle.bicep_declared.specs.Declarations.{BodyTree, DeclaredTree}
+use Rattle.bicep_declared.specs.Declarations as d
+use Rattle.bicep_meaning.specs.Files.{declaration}
+use Rattle.bicep_meaning.specs.Instances.{resource_kind, module_kind}
+use Rattle.source_needs.specs.Dependencies.{dependencies}
+use Rattle.source_worlds.specs.Numbers.{is_put, name_of}
+use Rattle.emitted_modules.specs.Seen.{Shape, file_in, files_in, whole_in}
+use Rattle.emitted_modules.specs.Limits.{members_at}
+use Rattle.emitted_modules.specs.Resources.{IsHead, HasMembers}
+use Rattle.emitted_modules.specs.Modules.{Needed, IsDeployment}
+use Rattle.emitted_dependencies.specs.Elements.{elements}
+
+-- the templates of the modules of a file, by the numbers of their symbols
+abbrev pub Templates : Type 0
+Templates = List (Option TemplateTree)
+
+abbrev pub templates_of : List (Option Template) → Templates
+templates_of us = map (option_map template_tree) us
+
+abbrev pub template_of : Templates → ℕ → Option TemplateTree
+template_of us n = slice_index_or us n None
+
+-- what declares a resource, its body and its children
+abbrev pub declared_by : ResourceTree → Declaration
+declared_by (resource x b rs) = x
+
+abbrev pub body_in : ResourceTree → template.BodyTree
+body_in (resource x b rs) = b
+
+abbrev pub children : ResourceTree → Trees
+children (resource x b rs) = rs
+
+-- the same resource, which is there, or no memory
+abbrev pub IsThere : Result Resource AllocError → Result (Option Resource) AllocError → Type 0
+IsThere (Ok r) x = x ≡ Ok (Some r)
+IsThere (Err e) x = x ≡ Err e
+
+module _ (s : Shape) where
+  -- in the first form a resource has no symbolic name
+  abbrev pub needs_of : ℕ → Needed
+  needs_of n = record {
+    symbol = None;
+    depends_on = elements (files_in s) (file_in s) One (dependencies (file_in s) n);
+    batches = (file_in s).batches n;
+  }
+
+  -- what declares the resource or the module of a number
+  abbrev pub IsDeclaredBy : ℕ → BodyTree → Kind → Declaration → Type 0
+  IsDeclaredBy n b k x = IsHead (whole_in s) n b.each k (name_of (file_in s) n) (needs_of n) x
+
+  -- the resource of a number that has this body; nested resources are no children
+  pub record IsResourceOf (n : ℕ) (b : BodyTree) (r : ResourceTree) : Type 0 where
+    pub head : IsDeclaredBy n b (resource_kind (file_in s) n) (declared_by r)
+    pub body : HasMembers (members_at s n b) (body_in r)
+    pub childless : children r ≡ no_resources
+
+  -- the module of a number that has this body, with the template of its file
+  pub record IsModuleOf (n : ℕ) (b : BodyTree) (u : TemplateTree) (r : ResourceTree) : Type 0 where
+    pub head : IsDeclaredBy n b module_kind (declared_by r)
+    pub body : IsDeployment s n b u (body_in r)
+    pub childless : children r ≡ no_resources
+
+  abbrev pub IsModuleWith : ℕ → BodyTree → Option TemplateTree → ResourceTree → Type 0
+  IsModuleWith n b None r = ⊥
+  IsModuleWith n b (Some u) r = IsModuleOf n b u r
+
+  -- the resource of a number, by its declaration and by the template of its module
+  abbrev pub IsBuiltFor : ℕ → Option TemplateTree → Option DeclaredTree → ResourceTree → Type 0
+  IsBuiltFor n o (Some (d.a_resource at q existing b)) r = IsResourceOf n b r
+  IsBuiltFor n o (Some (d.a_module at b)) r = IsModuleWith n b o r
+  IsBuiltFor n o e r = ⊥
+
+  abbrev pub IsBuilt : ℕ → Option TemplateTree → ResourceTree → Type 0
+  IsBuilt n o r = IsBuiltFor n o (declaration (file_in s) n) r
+
+  -- one for each of these numbers, in their order
+  abbrev pub AreBuilt : Templates → List ℕ → List ResourceTree → Type 0
+  AreBuilt us [] [] = Unit {0}
+  AreBuilt us [] (r ∷ rs) = ⊥
+  AreBuilt us (n ∷ ns) [] = ⊥
+  AreBuilt us (n ∷ ns) (r ∷ rs) = IsBuilt n (template_of us n) r × AreBuilt us ns rs
+
+  -- what a declaration becomes: a resource where it is that of a resource that is put, or of a module, else nothing
+  abbrev pub IsPart : ℕ → Option TemplateTree → Option ResourceTree → Type 0
+  IsPart n o None = is_put (file_in s) n ≡ false
+  IsPart n o (Some r) = (is_put (file_in s) n ≡ true) × IsBuilt n o r
+
+  -- these resources, and then what the declaration of a number becomes
+  abbrev pub IsGrown : ℕ → Option TemplateTree → List ResourceTree → List ResourceTree → Type 0
+  IsGrown n o rs more = (x : Option ResourceTree) × (IsPart n o x × (more ≡ rs ++ option_to_list x))

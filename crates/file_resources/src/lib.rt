@@ -1,0 +1,14 @@
+//! The resources of the template that a Bicep file becomes, in the first form.
+//!
+//! A caller may rely on `resources`: it returns the resources of the template, one for each resource that is put and
+//! each module, in the order of the file, as `specs/Built` says, or finds no memory. `laws` says that resources within
+//! the limits of templates are those of the file (`emitted_files`).
+#![tactic(auto)]
+
+pub mod laws;
+mod listing;
+mod needs;
+mod parts;
+
+pub use emitted_modules::Table;
+pub use listing::resources;

@@ -1,0 +1,149 @@
+//! What one declaration becomes.
+ghost use Rattle.std.specs.Prelude.{◌≡◌, true, Some, None, Ok, IfOk, is_some, option_map};
+ghost use Rattle.template_tree.specs.View.{resource_tree, template_tree};
+ghost use Rattle.bicep_declared.specs.View.{declared_tree, body_tree};
+ghost use Rattle.bicep_meaning.specs.Files.{declaration, symbol_name};
+ghost use Rattle.emitted_modules.specs.Seen.{file_in};
+ghost use Rattle.emitted_modules.specs.Limits.{MembersFit, members_at};
+ghost use Rattle.file_resources.specs.Built.{IsResourceOf, IsModuleOf, IsModuleWith, IsThere, IsPart};
+ghost use Rattle.file_resources.specs.Fits.{IsReady, AreMentioned, ArgumentsFitAt, MayBeBuilt};
+
+use crate::needs::needs;
+use arm_value::{OutOfMemory, Text};
+use bicep_declared::{Declared, DeclaredBody};
+use emitted_modules::{Table, module, resource};
+use emitted_parts::{lacks, letting_go};
+use std::alloc::Global;
+use std::collections::BTreeSet;
+use template_tree::{Resource, Template};
+
+// The name of the symbol of a declaration.
+fn symbol_of<'a>(table: &'a Table, number: usize) -> &'a Text
+    requires ready { IsReady table.now }
+    requires declared { is_some (declaration (file_in table.now) number) ≡ true }
+    ensures { symbol_name (file_in table.now) number ≡ Some result.now }
+{
+    match table.name_of(number) {
+        Some(symbol) => symbol,
+        None => unreachable!(),
+    }
+}
+
+// The resource of a number.
+fn resource_of(
+    alloc: Global,
+    table: &Table,
+    mentioned: &[BTreeSet<usize>],
+    number: usize,
+    body: &DeclaredBody,
+) -> Result<Resource, OutOfMemory>
+    requires ready { IsReady table.now }
+    requires mentioned { AreMentioned table.now mentioned.now }
+    requires declared { is_some (declaration (file_in table.now) number) ≡ true }
+    requires fits { MembersFit (members_at table.now number (body_tree body.now)) }
+    ensures { IfOk result (λ r. IsResourceOf table.now number (body_tree body.now) (resource_tree r)) }
+{
+    let symbol = symbol_of(table, number);
+    match needs(alloc, table, mentioned, number) {
+        Ok(needs) => resource(alloc, table, number, symbol, body, needs),
+        Err(error) => Err(error),
+    }
+}
+
+// The module of a number, with the template of its file.
+fn module_of(
+    alloc: Global,
+    table: &Table,
+    mentioned: &[BTreeSet<usize>],
+    number: usize,
+    body: &DeclaredBody,
+    template: Template,
+) -> Result<Resource, OutOfMemory>
+    requires ready { IsReady table.now }
+    requires mentioned { AreMentioned table.now mentioned.now }
+    requires declared { is_some (declaration (file_in table.now) number) ≡ true }
+    requires fits { ArgumentsFitAt table.now number (body_tree body.now) }
+    ensures { IfOk result (λ r. IsModuleOf table.now number (body_tree body.now) (template_tree template)
+        (resource_tree r)) }
+{
+    let symbol = symbol_of(table, number);
+    match needs(alloc, table, mentioned, number) {
+        Ok(needs) => module(alloc, table, number, symbol, body, needs, template),
+        Err(_) => lacks(template),
+    }
+}
+
+// The module of a number, whose template is there.
+fn module_with(
+    alloc: Global,
+    table: &Table,
+    mentioned: &[BTreeSet<usize>],
+    number: usize,
+    body: &DeclaredBody,
+    template: Option<Template>,
+) -> Result<Resource, OutOfMemory>
+    requires ready { IsReady table.now }
+    requires mentioned { AreMentioned table.now mentioned.now }
+    requires declared { is_some (declaration (file_in table.now) number) ≡ true }
+    requires fits { ArgumentsFitAt table.now number (body_tree body.now) }
+    requires there { is_some template ≡ true }
+    ensures { IfOk result (λ r. IsModuleWith table.now number (body_tree body.now) (option_map template_tree template)
+        (resource_tree r)) }
+{
+    match template {
+        Some(template) => module_of(alloc, table, mentioned, number, body, template),
+        None => unreachable!(),
+    }
+}
+
+// A resource that is there, or no memory.
+fn there(resource: Result<Resource, OutOfMemory>) -> Result<Option<Resource>, OutOfMemory>
+    ensures { IsThere resource result }
+{
+    match resource {
+        Ok(resource) => Ok(Some(resource)),
+        Err(error) => Err(error),
+    }
+}
+
+// No resource.
+fn nothing(template: Option<Template>) -> Result<Option<Resource>, OutOfMemory>
+    ensures { result ≡ Ok None }
+{
+    letting_go(Ok(None), template)
+}
+
+/// The resource of a declaration, where it is that of a resource that is put, or of a module with the template of its
+/// file.
+pub(crate) fn part(
+    alloc: Global,
+    table: &Table,
+    mentioned: &[BTreeSet<usize>],
+    number: usize,
+    declared: &Declared,
+    template: Option<Template>,
+) -> Result<Option<Resource>, OutOfMemory>
+    requires ready { IsReady table.now }
+    requires mentioned { AreMentioned table.now mentioned.now }
+    requires declared { declaration (file_in table.now) number ≡ Some (declared_tree declared.now) }
+    requires built { MayBeBuilt table.now number (is_some template) }
+    ensures { IfOk result (λ o. IsPart table.now number (option_map template_tree template)
+        (option_map resource_tree o)) }
+{
+    match declared {
+        Declared::Resource(_, _, existing, body) => {
+            if *existing {
+                nothing(template)
+            } else {
+                let made = there(resource_of(alloc, table, mentioned, number, body));
+                letting_go(made, template)
+            }
+        }
+        Declared::Module(_, body) => {
+            there(module_with(alloc, table, mentioned, number, body, template))
+        }
+        Declared::Parameter(_, _) | Declared::ParameterWith(_, _, _) | Declared::Variable(_, _) => {
+            nothing(template)
+        }
+    }
+}

@@ -1,0 +1,4 @@
+pub mod NeedLemmas
+pub mod StandLemmas
+mod ListLemmas
+pub mod OpenLemmas

@@ -1,0 +1,5 @@
+mod DepthLemmas
+mod FileLemmas
+mod LoopLemmas
+mod NestLemmas
+mod RuleLemmas

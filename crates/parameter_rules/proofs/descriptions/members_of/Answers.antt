@@ -1,0 +1,11 @@
+use Rattle.std.proofs.Common.{map, sym}
+use Rattle.bicep_decorators.specs.declared.kind.DecoratorKind.TheVariants as k
+use Rattle.bicep_tree.specs.Tree as tree
+use Rattle.bicep_tree.specs.View as view
+use Rattle.parameter_rules.proofs.NestLemmas.{arguments_nest}
+use Rattle.parameter_rules.proofs.descriptions.members_of.Goals as goal
+
+pub first_members-requires : goal.first_members-requires
+first_members-requires c =
+    arguments_nest k.Metadata (tree.decorators (map view.decorator_of c.args.decorators.now))
+    (tree.trees (map view.tree_of c.in-Some.arguments.now)) (sym c.in-Some.ensures) c.requires

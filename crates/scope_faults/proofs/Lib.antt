@@ -1,0 +1,3 @@
+mod CircleLemmas
+mod EntryLemmas
+mod OutputLemmas

@@ -1,5 +1,6 @@
 -- How the words after a command are read: its file, and its options with their values, in any order, each at most once.
-use Rattle.std.specs.Prelude.{ℕ, ◌==◌, not, Bool, List, [], ◌∷◌, bytes_eq, codes, Option, Some, None, option_map, is_some}
+use Rattle.std.specs.Prelude.{ℕ, ◌==◌, not, Bool, List, [], ◌∷◌, bytes_eq, codes}
+use Rattle.std.specs.Prelude.{Option, Some, None, option_map, is_some}
 use Rattle.std.specs.Prelude.{if◌then◌else◌}
 use Rattle.std.specs.Borrow.{Bor}
 use Rattle.command_words.specs.Words.{Sign, Value, AnOption, WithValue, NoSign, word_of}

@@ -1,4 +1,5 @@
 pub mod Checked
 pub mod Emittable
+pub mod Laws
 pub mod Orders
 pub mod Tables

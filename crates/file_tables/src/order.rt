@@ -1,19 +1,8 @@
 //! The order in which the declarations of a file are emitted, and the marks of its symbols.
-ghost use Rattle.std.specs.Prelude.{◌≡◌, ◌≤◌, ℕ, false, List, map, slice_index_or, IfOk};
-ghost use Rattle.template_parts.specs.declared.looping.Batches.TheVariants.{Parallel};
-ghost use Rattle.bicep_names.specs.declared.kind.Kind.{Kind};
-ghost use Rattle.bicep_declared.specs.View.{declared_tree};
-ghost use Rattle.resolved_program.specs.Programs.{ResolvedFileTree};
-ghost use Rattle.resolved_program.specs.View.{file_view};
-ghost use Rattle.bicep_circles.specs.Orders.{IsLinkOrder};
-ghost use Rattle.bicep_mentions.specs.Agreement.{IsKnown};
-ghost use Rattle.bicep_mentions.specs.Entries as spec;
-ghost use Rattle.bicep_states.specs.View.{known};
-ghost use Rattle.bicep_checks.specs.Faults.{links_of};
-ghost use Rattle.sound_files.specs.Files.{IsFileOf};
-ghost use Rattle.declared_table.specs.Seen.{file_of, mark_of};
-ghost use Rattle.file_tables.specs.Checked.{IsCheckedFile};
-ghost use Rattle.file_tables.specs.Orders.{HasNoCircle, HasEntries, IsOrderFor, mark_at};
+ghost use Rattle.std.specs.Prelude.{◌≡◌, ◌≤◌, IfOk};
+ghost use Rattle.file_tables.specs.Orders.{HasNoCircle, HasOrder, IsOrder, IsOrderFor, mark_at};
+ghost use Rattle.file_tables.specs.Orders.{AreEntries, HaveEntries, AreJoined, MakeFile, HaveBatches};
+ghost use Rattle.file_tables.specs.Orders.{IsOfChecked, HasBatches};
 
 use arm_value::OutOfMemory;
 use bicep_circles::symbol_order;
@@ -37,8 +26,8 @@ pub struct FileOrder {
 
 // The symbols of a file in which none mention each other in a circle, each after those that its declaration mentions.
 fn order_of(alloc: Global, file: &ResolvedFile) -> Result<Vec<u32>, OutOfMemory>
-    requires { HasNoCircle (file_view file.now) }
-    ensures { IfOk result (λ v. IsLinkOrder (links_of (file_view file.now)) v.items) }
+    requires { HasNoCircle file.now }
+    ensures { IfOk result (IsOrder file.now) }
 {
     let sorted = symbol_order(
         alloc,
@@ -57,10 +46,7 @@ fn marks_of(
     table: &StateTable,
     declarations: &[Declared],
 ) -> Result<Vec<bool>, OutOfMemory>
-    ensures { (kinds : List Kind)
-        → IsKnown (known table.now) (spec.state_reads kinds (map declared_tree declarations.now))
-        → IfOk result (λ v. (n : ℕ) → slice_index_or v.items n false
-        ≡ spec.has_entry kinds (map declared_tree declarations.now) n) }
+    ensures { AreEntries table.now declarations.now result }
 {
     let mut marks = Vec::new(alloc);
     for number in 0..declarations.len() {
@@ -71,8 +57,8 @@ fn marks_of(
 
 // The same of a file whose symbols have that order.
 fn entries_of(alloc: Global, file: &ResolvedFile, order: &[u32]) -> Result<Vec<bool>, OutOfMemory>
-    requires { IsLinkOrder (links_of (file_view file.now)) order.now }
-    ensures { IfOk result (λ v. HasEntries (file_view file.now) v.items) }
+    requires { HasOrder file.now order.now }
+    ensures { IfOk result (HaveEntries file.now) }
 {
     let declarations = file.declared.declarations.as_slice();
     let table = state_table(alloc, file.entries.as_slice(), declarations, order)?;
@@ -99,7 +85,7 @@ fn mark_at(has_entry: &[bool], batches: &[Batches], number: usize) -> Mark
 
 // Marks of the variables that have an entry and of loops with these batches.
 fn joined(alloc: Global, has_entry: &[bool], batches: &[Batches]) -> Result<Vec<Mark>, OutOfMemory>
-    ensures { IfOk result (λ v. (n : ℕ) → mark_of v.items n ≡ mark_at has_entry.now batches.now n) }
+    ensures { IfOk result (AreJoined has_entry.now batches.now) }
 {
     let mut marks = Vec::new(alloc);
     for number in 0..greater(has_entry.len(), batches.len()) {
@@ -115,9 +101,9 @@ fn marked(
     order: &[u32],
     batches: &[Batches],
 ) -> Result<Vec<Mark>, OutOfMemory>
-    requires { IsLinkOrder (links_of (file_view file.now)) order.now }
-    ensures file { IfOk result (λ v. IsFileOf (file_view file.now) (file_of file.now v.items)) }
-    ensures batches { IfOk result (λ v. (n : ℕ) → (mark_of v.items n).batches ≡ slice_index_or batches.now n Parallel) }
+    requires { HasOrder file.now order.now }
+    ensures file { IfOk result (MakeFile file.now) }
+    ensures batches { IfOk result (HaveBatches batches.now) }
 {
     let has_entry = entries_of(alloc, file, order)?;
     joined(alloc, has_entry.as_slice(), batches)
@@ -135,10 +121,9 @@ pub fn file_order(
     file: &ResolvedFile,
     batches: &[Batches],
 ) -> Result<FileOrder, OutOfMemory>
-    requires { (rs : List ResolvedFileTree) × IsCheckedFile rs (file_view file.now) }
+    requires { IsOfChecked file.now }
     ensures order { IfOk result (IsOrderFor file.now) }
-    ensures batches { IfOk result (λ x. (n : ℕ) → (file_of file.now x.marks.items).batches n
-        ≡ slice_index_or batches.now n Parallel) }
+    ensures batches { IfOk result (HasBatches file.now batches.now) }
 {
     checked_files_have_no_circle();
     let order = order_of(alloc, file)?;

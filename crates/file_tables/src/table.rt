@@ -1,10 +1,7 @@
 //! The table of all declarations of a file.
-ghost use Rattle.std.specs.Prelude.{map, IfOk};
-ghost use Rattle.resolved_program.specs.View.{file_view};
-ghost use Rattle.declared_table.specs.Seen.{file_of, files_of};
-ghost use Rattle.file_tables.specs.Checked.{IsCheckedFile};
+ghost use Rattle.std.specs.Prelude.{IfOk};
 ghost use Rattle.file_tables.specs.Orders.{IsOrderFor};
-ghost use Rattle.file_tables.specs.Tables.{IsTableOf};
+ghost use Rattle.file_tables.specs.Tables.{IsOfProgram, IsMadeTable};
 
 use crate::laws::checked_files_are_emittable;
 use crate::order::FileOrder;
@@ -26,9 +23,9 @@ pub fn file_table<'a>(
     files: &'a [ResolvedFile],
     order: &'a FileOrder,
 ) -> Result<Table<'a>, OutOfMemory>
-    requires checked { IsCheckedFile (map file_view files.now) (file_view file.now) }
+    requires checked { IsOfProgram files.now file.now }
     requires order { IsOrderFor file.now order.now }
-    ensures { IfOk result (IsTableOf (file_of file.now order.now.marks.items) (files_of files.now)) }
+    ensures { IfOk result (IsMadeTable file.now files.now order.now) }
 {
     checked_files_are_emittable();
     orders_are_of_files();

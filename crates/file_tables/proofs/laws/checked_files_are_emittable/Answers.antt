@@ -22,5 +22,6 @@ returns c = λ rs r h f own fs outputs.
       all_wholes =
           subst (λ (d : DeclaredFileTree). FileHasAllWholes d) (sym own.declared)
           (c.numbers_of_values_are_whole.ensures h.folder h.files h.read rs h.resolved h.number r h.is);
+      parts = c.names_have_few_parts.ensures h.folder h.files h.read rs h.resolved h.number r h.is f own;
       outputs = c.outputs_are_words.ensures h.folder h.files h.read rs h.resolved fs outputs;
     }

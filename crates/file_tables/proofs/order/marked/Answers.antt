@@ -1,7 +1,5 @@
-use Rattle.std.proofs.Common.{ℕ, sym, subst}
-use Rattle.std.specs.Prelude.{◌≡◌, IfOk}
-use Rattle.file_tables.specs.Orders.{HasEntries, mark_at}
-use Rattle.declared_table.specs.Seen.{mark_of}
+use Rattle.std.proofs.Common.{sym, subst}
+use Rattle.file_tables.specs.Orders.{HasEntries}
 use Rattle.file_tables.proofs.MarkLemmas.{is_file, batches_are}
 use Rattle.resolved_program.specs.View.{file_view}
 use Rattle.file_tables.proofs.order.marked.Goals as goal

@@ -14,7 +14,7 @@ use Rattle.bicep_meaning.specs.Instances.{symbol_folded, variable_by, variable_n
 use Rattle.bicep_meaning.specs.Instances.{unless_existing}
 use Rattle.source_needs.specs.Dependencies.{kinds_of, dependencies}
 use Rattle.source_worlds.specs.Numbers.{is_put, is_resource, name_of, if_put, inserted, by_name, passing}
-use Rattle.source_worlds.specs.Numbers.{in_template, symbol_of}
+use Rattle.source_worlds.specs.Numbers.{in_template, symbol_of, place_in, number_of}
 
 -- a file with the values of parameters and the list of modules of another
 abbrev pub with_rest : SourceFile → SourceFile → SourceFile
@@ -81,13 +81,16 @@ module _ (f from : SourceFile) where
         λ i. passing (λ n. is_put_same n i) 0 (length f.declared.declarations)
     in_template_same Two = by_name_same (passing (is_resource f) 0 (length f.declared.declarations))
 
-    symbol_same : (z : Form) (m : ℕ) → symbol_of z f m ≡ symbol_of z g m
+    pub symbol_same : (z : Form) (m : ℕ) → symbol_of z f m ≡ symbol_of z g m
     symbol_same z m = λ i. option_and_then (λ n. if_put_same n i) (slice_get (in_template_same z i) m)
 
     -- the resource that is put, or the module, of a number of the template
     pub put_at : (z : Form) (m : ℕ) → option_and_then (λ n. put_of n f) (symbol_of z f m)
         ≡ option_and_then (λ n. put_of n g) (symbol_of z g m)
     put_at z m = λ i. option_and_then (λ n. puts_same n i) (symbol_same z m i)
+
+    pub number_same : (z : Form) (n : ℕ) → number_of z f n ≡ number_of z g n
+    number_same z n = λ i. option_and_then (λ m. place_in m (in_template_same z i)) (if_put_same n i)
 
     pub dependencies_same : (k : ℕ) → dependencies f k ≡ dependencies g k
     dependencies_same k = λ i.

@@ -67,10 +67,10 @@ module _ (s : Shape) where
 
   module _ (us : Templates) where
     -- an entry of the list for the resource of a number
-    abbrev IsAt : ℕ → Listed → Type 0
+    abbrev pub IsAt : ℕ → Listed → Type 0
     IsAt n x = (r : ResourceTree) × (IsBuilt s n (template_of us n) r × (x ≡ listed r))
 
-    at_place : (ns : List ℕ) (rs : List ResourceTree) → AreBuilt s us ns rs → (k m : ℕ)
+    pub at_place : (ns : List ℕ) (rs : List ResourceTree) → AreBuilt s us ns rs → (k m : ℕ)
         → AreBoth IsAt (slice_get ns m) (slice_get (listed_trees None k (trees rs)) m)
     at_place [] [] h k m = tt
     at_place [] (r ∷ rs) h k m = absurd h

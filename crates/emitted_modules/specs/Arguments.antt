@@ -8,7 +8,7 @@ use Rattle.bicep_emission.specs.Emitted.{Frame}
 use Rattle.emitted_expressions.specs.Sight.{Sight}
 use Rattle.emitted_resources.specs.Values.{IsContent}
 use Rattle.emitted_trees.specs.Templates.{TemplateValue}
-use Rattle.emitted_values.specs.Limits.{MayBeBuilt}
+use Rattle.emitted_resources.specs.Buildable.{MayBeBuilt}
 use Rattle.emitted_resources.specs.Extremes.{Extremes, nothing, joined, value_extremes}
 use Rattle.tree_building.specs.Sight as spec
 

@@ -1,6 +1,8 @@
 pub mod Arguments
 pub mod Modules
 pub mod Laws
+pub use Rattle.emitted_resources.specs.Buildable
+pub use Rattle.emitted_resources.specs.Extremes
 pub use Rattle.emitted_resources.specs.Files
 pub use Rattle.emitted_resources.specs.Filled
 pub use Rattle.emitted_resources.specs.Limits

@@ -4,7 +4,7 @@ ghost use Rattle.bicep_resolved.specs.View.{property_of, value_of, properties};
 ghost use Rattle.declaration_laws.specs.Sound.{IsSound};
 ghost use Rattle.emitted_expressions.specs.Sight.{frames_of};
 ghost use Rattle.emitted_resources.specs.Values.{IsContent};
-ghost use Rattle.emitted_values.specs.Limits.{MayBeBuilt};
+ghost use Rattle.emitted_resources.specs.Buildable.{MayBeBuilt};
 ghost use Rattle.emitted_resources.specs.Seen.{file_in};
 ghost use Rattle.emitted_resources.specs.Filled.{IsFilled, emission_sight};
 ghost use Rattle.emitted_modules.specs.Arguments.{argument_value, ArgumentsFit, IsArgumentOf, AreArguments, IsNext};
@@ -14,8 +14,7 @@ use arm_value::{ListOf, OutOfMemory, Text};
 use bicep_resolved::{Property, SourceValue};
 use emitted_expressions::Turn;
 use emitted_parts::{lacks, letting_go};
-use emitted_resources::Table;
-use emitted_values::content;
+use emitted_resources::{Table, content};
 use std::alloc::Global;
 use template_parts::{Argument, Content};
 

@@ -11,6 +11,6 @@ pub mod laws;
 mod measured;
 mod modules;
 
-pub use emitted_resources::{Needs, Table, resource};
+pub use emitted_resources::{Measure, Needs, Table, measured_head, measured_resource, resource};
 pub use measured::measured_arguments;
 pub use modules::module;

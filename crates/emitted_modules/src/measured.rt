@@ -15,8 +15,7 @@ use arm_value::{OutOfMemory, Text};
 use bicep_declared::DeclaredBody;
 use bicep_resolved::{Property, SourceValue};
 use emitted_parts::letting_go;
-use emitted_resources::{Measure, Span, Table, span_around};
-use emitted_values::measured_content;
+use emitted_resources::{Measure, Span, Table, measured_content, span_around};
 use std::alloc::Global;
 
 // What a value takes as an argument.

@@ -14,12 +14,12 @@ use Rattle.bicep_emission.specs.Emitted.{Frame}
 use Rattle.declaration_laws.specs.Sound.{IsSound}
 use Rattle.emitted_declarations.specs.Declared.{Emission}
 use Rattle.emitted_trees.specs.Written.{tree_json}
-use Rattle.emitted_files.specs.Files.{frames_around}
-use Rattle.emitted_files.specs.Values.{AreBoth, plain_or_expression}
-use Rattle.filled_tables.specs.Seen.{Shape, sight, file_in, whole_in, full_name_in, condition_in}
-use Rattle.filled_tables.specs.Filled.{IsFilled, emission_sight}
-use Rattle.filled_tables.proofs.SameLemmas.{members_same}
-use Rattle.filled_tables.proofs.FilledLemmas.{expressions_given}
+use Rattle.emitted_values.specs.Files.{frames_around}
+use Rattle.emitted_values.specs.Values.{AreBoth, plain_or_expression}
+use Rattle.emitted_values.specs.Seen.{Shape, sight, file_in, whole_in, full_name_in, condition_in}
+use Rattle.emitted_values.specs.Filled.{IsFilled, emission_sight}
+use Rattle.emitted_values.proofs.SameLemmas.{members_same}
+use Rattle.emitted_values.proofs.FilledLemmas.{expressions_given}
 use Rattle.emitted_bodies.specs.Bodies.{body_members}
 use Rattle.emitted_resources.specs.Heads.{whole_name, whole_condition, loop_count, IsConditionText, IsLoopOf}
 use Rattle.emitted_resources.specs.Limits.{members_at}

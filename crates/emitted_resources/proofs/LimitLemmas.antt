@@ -5,7 +5,7 @@ use Rattle.emitted_trees.specs.Templates as t
 use Rattle.measured_trees.specs.Extremes.{tree_extremes}
 use Rattle.measured_trees.specs.Limits.{IsBeyond}
 use Rattle.measured_trees.proofs.WithinLemmas.{tree_small}
-use Rattle.filled_tables.specs.Seen.{Shape, whole_in}
+use Rattle.emitted_values.specs.Seen.{Shape, whole_in}
 use Rattle.emitted_resources.specs.Limits.{head_extremes, resource_extremes, members_at, MembersFit}
 
 second : (a b n : ℕ) → max a b ≤ n → b ≤ n

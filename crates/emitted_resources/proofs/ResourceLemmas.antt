@@ -12,9 +12,9 @@ use Rattle.bicep_declared.specs.Declarations.{BodyTree}
 use Rattle.bicep_meaning.specs.Files.{symbol_name}
 use Rattle.bicep_meaning.specs.Instances.{resource_kind}
 use Rattle.emitted_trees.specs.Written.{IsWritable, IsWithin, MembersAreWithin}
-use Rattle.emitted_files.specs.Files.{IsResource, IsLoop, IsBody}
-use Rattle.emitted_files.specs.Values.{AreBoth, IsCondition, plain_or_expression}
-use Rattle.filled_tables.specs.Seen.{Shape, file_in, files_in, whole_in}
+use Rattle.emitted_values.specs.Files.{IsResource, IsLoop, IsBody}
+use Rattle.emitted_values.specs.Values.{AreBoth, IsCondition, plain_or_expression}
+use Rattle.emitted_values.specs.Seen.{Shape, file_in, files_in, whole_in}
 use Rattle.emitted_resources.specs.Heads.{whole_name, whole_condition, loop_count, IsConditionText, IsLoopOf}
 use Rattle.emitted_resources.specs.Limits.{CountIsWritable, ResourceIsWithin, members_at}
 use Rattle.emitted_resources.specs.Resources.{IsHead, HasMembers, resource_put}

@@ -12,8 +12,8 @@ use Rattle.bicep_resolved.specs.Source.{LoopTree}
 use Rattle.emitted_declarations.specs.Declared.{Emission}
 use Rattle.emitted_trees.specs.EmittedTrees.{count_of}
 use Rattle.emitted_trees.specs.Written.{expression_json}
-use Rattle.emitted_files.specs.Files.{frames_around}
-use Rattle.emitted_files.specs.Values.{AreBoth}
+use Rattle.emitted_values.specs.Files.{frames_around}
+use Rattle.emitted_values.specs.Values.{AreBoth}
 
 -- of a resource or a module, by its number and by the loop around it: its whole name, its condition, and how often its
 -- loop runs

@@ -1,10 +1,12 @@
 pub mod Heads
 pub mod Limits
+pub mod Laws
 pub mod Resources
-pub use Rattle.emitted_files.specs.Files
-pub use Rattle.emitted_files.specs.Values
-pub use Rattle.filled_tables.specs.Filled
-pub use Rattle.filled_tables.specs.Seen
+pub use Rattle.emitted_values.specs.Buildable
+pub use Rattle.emitted_values.specs.Files
+pub use Rattle.emitted_values.specs.Values
+pub use Rattle.emitted_values.specs.Filled
+pub use Rattle.emitted_values.specs.Seen
 pub use Rattle.measured_expressions.specs.Spans
 pub use Rattle.measured_trees.specs.Extremes
 pub use Rattle.measured_trees.specs.Measures

@@ -4,15 +4,15 @@ use Rattle.arm_expr.specs.Tree.{Tree}
 use Rattle.bicep_resolved.specs.Source.{LoopTree}
 use Rattle.bicep_declared.specs.Declarations.{BodyTree}
 use Rattle.emitted_declarations.specs.Declared.{Emission}
-use Rattle.emitted_files.specs.Files.{frames_around}
+use Rattle.emitted_values.specs.Files.{frames_around}
 use Rattle.emitted_trees.specs.Templates.{TemplateMembers}
 use Rattle.emitted_trees.specs.Templates as t
 use Rattle.emitted_trees.specs.Written.{IsWritable, MembersAreWithin}
 use Rattle.tree_building.specs.Each.{MembersAreSmall}
 use Rattle.measured_trees.specs.Extremes.{Extremes, nothing, joined, tree_extremes}
 use Rattle.tree_building.specs.Depth.{members_depth}
-use Rattle.filled_tables.specs.Seen.{Shape, whole_in}
-use Rattle.filled_tables.specs.Filled.{emission_sight}
+use Rattle.emitted_values.specs.Seen.{Shape, whole_in}
+use Rattle.emitted_values.specs.Filled.{emission_sight}
 use Rattle.emitted_bodies.specs.Bodies.{body_members}
 use Rattle.emitted_resources.specs.Heads.{whole_name, whole_condition, loop_count}
 

@@ -14,10 +14,10 @@ use arm_value::{Fields, OutOfMemory};
 use bicep_resolved::Property;
 use emitted_bodies::{built_body, measured_body};
 use emitted_expressions::{Declarations, Turn};
+use emitted_values::Expressions;
 use measured_expressions::{Sizes, Span};
 use measured_trees::Measure;
 use std::alloc::Global;
-use tree_texts::Expressions;
 
 /// The members that the fields of a resource become.
 pub(crate) fn members<K: Declarations>(

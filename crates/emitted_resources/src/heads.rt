@@ -4,10 +4,10 @@ ghost use Rattle.arm_value.specs.View.{json};
 ghost use Rattle.bicep_declared.specs.View.{body_tree};
 ghost use Rattle.deploy_cells.specs.Puts.{Kind};
 ghost use Rattle.emitted_expressions.specs.Sight.{frames_of};
-ghost use Rattle.emitted_files.specs.Values.{plain_or_expression};
+ghost use Rattle.emitted_values.specs.Values.{plain_or_expression};
 ghost use Rattle.emitted_trees.specs.Written.{tree_json};
-ghost use Rattle.filled_tables.specs.Seen.{whole_in, full_name_in, condition_in};
-ghost use Rattle.filled_tables.specs.Filled.{IsFilled};
+ghost use Rattle.emitted_values.specs.Seen.{whole_in, full_name_in, condition_in};
+ghost use Rattle.emitted_values.specs.Filled.{IsFilled};
 ghost use Rattle.emitted_resources.specs.Heads.{whole_name, whole_condition, IsConditionText};
 ghost use Rattle.emitted_resources.specs.Resources.{IsHead};
 
@@ -19,7 +19,7 @@ use arm_value::{OutOfMemory, Text, Value};
 use bicep_declared::DeclaredBody;
 use emitted_expressions::Turn;
 use emitted_parts::{lacks, letting_go};
-use filled_tables::Table;
+use emitted_values::Table;
 use std::alloc::Global;
 use template_parts::{Declaration, ResourceCopy};
 

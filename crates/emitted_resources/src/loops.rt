@@ -5,7 +5,7 @@ ghost use Rattle.arm_expr.specs.Tree.{Tree};
 ghost use Rattle.bicep_declared.specs.View.{body_tree};
 ghost use Rattle.emitted_parts.specs.Built.{IsText};
 ghost use Rattle.emitted_trees.specs.EmittedTrees.{count_of};
-ghost use Rattle.filled_tables.specs.Seen.{sight};
+ghost use Rattle.emitted_values.specs.Seen.{sight};
 ghost use Rattle.emitted_resources.specs.Heads.{IsLoopOf, IsCopy};
 
 use crate::turns::items_of;
@@ -13,10 +13,9 @@ use arm_value::{OutOfMemory, Text, Value};
 use bicep_declared::DeclaredBody;
 use emitted_parts::calls::call_one;
 use emitted_parts::lacks;
-use filled_tables::Table;
+use emitted_values::{Table, printed_text};
 use std::alloc::Global;
 use template_parts::{Batches, ResourceCopy};
-use tree_texts::printed_text;
 
 // How often a loop runs, as the text of an expression in brackets.
 fn count_text(alloc: Global, table: &Table, number: usize) -> Result<Text, OutOfMemory>

@@ -6,15 +6,15 @@ ghost use Rattle.emitted_trees.specs.Templates as t;
 ghost use Rattle.emitted_trees.specs.EmittedTrees.{count_of as count_tree};
 ghost use Rattle.measured_trees.specs.Extremes.{tree_extremes};
 ghost use Rattle.measured_trees.specs.Measures.{IsOf};
-ghost use Rattle.filled_tables.specs.Seen.{file_in, whole_in, sight};
-ghost use Rattle.filled_tables.specs.Filled.{IsFilled};
+ghost use Rattle.emitted_values.specs.Seen.{file_in, whole_in, sight};
+ghost use Rattle.emitted_values.specs.Filled.{IsFilled};
 ghost use Rattle.emitted_resources.specs.Limits.{count_extremes, head_extremes, resource_extremes, members_at};
 
 use crate::bodies::measured_members;
 use crate::turns::{items_extent, span_around};
 use arm_value::OutOfMemory;
 use bicep_declared::DeclaredBody;
-use filled_tables::Table;
+use emitted_values::Table;
 use measured_trees::spans::count_of;
 use measured_trees::{Measure, of_expression};
 use std::alloc::Global;

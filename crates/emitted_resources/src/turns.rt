@@ -3,12 +3,12 @@ ghost use Rattle.std.specs.Prelude.{◌∷◌, [], option_to_list};
 ghost use Rattle.bicep_declared.specs.View.{body_tree};
 ghost use Rattle.bicep_emission.specs.Emitted.{Frame};
 ghost use Rattle.emitted_expressions.specs.Sight.{IsFrame, AreFrames};
-ghost use Rattle.emitted_files.specs.Files.{frames_around};
+ghost use Rattle.emitted_values.specs.Files.{frames_around};
 ghost use Rattle.emitted_parts.specs.Built.{Is};
 ghost use Rattle.emitted_sizes.specs.Extent.{IsOf};
 ghost use Rattle.measured_expressions.specs.Spans.{AreSpans};
-ghost use Rattle.filled_tables.specs.Seen.{whole_in};
-ghost use Rattle.filled_tables.specs.Filled.{IsFilled};
+ghost use Rattle.emitted_values.specs.Seen.{whole_in};
+ghost use Rattle.emitted_values.specs.Filled.{IsFilled};
 
 use arm_expr::Expr;
 use arm_value::OutOfMemory;
@@ -16,11 +16,11 @@ use bicep_declared::DeclaredBody;
 use emitted_expressions::{Declarations, Turn};
 use emitted_parts::with;
 use emitted_sizes::Extent;
-use filled_tables::Table;
+use emitted_values::Table;
+use emitted_values::turns::{copy_index, run};
 use measured_expressions::{Sizes, Span};
 use measured_trees::spans::run_of;
 use std::alloc::Global;
-use tree_texts::turns::{copy_index, run};
 
 /// What a loop of resources or modules runs over.
 pub(crate) fn items_of<K: Declarations>(

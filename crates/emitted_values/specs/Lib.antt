@@ -1,2 +1,6 @@
 pub mod Kinds
-pub mod Limits
+pub mod Buildable
+pub use Rattle.emitted_files.specs.Files
+pub use Rattle.emitted_files.specs.Values
+pub use Rattle.filled_tables.specs.Filled
+pub use Rattle.filled_tables.specs.Seen

@@ -13,7 +13,7 @@ ghost use Rattle.measured_trees.specs.Extremes.{value_extremes};
 ghost use Rattle.measured_trees.specs.Measures.{Takes};
 ghost use Rattle.tree_building.specs.Built.{Matches};
 ghost use Rattle.tree_building.specs.Sight as spec;
-ghost use Rattle.emitted_values.specs.Limits.{MayBeBuilt};
+ghost use Rattle.emitted_values.specs.Buildable.{MayBeBuilt};
 
 use crate::laws::{tables_give_values, values_are_small};
 use crate::passes::{made_value, value_measure};

@@ -9,7 +9,7 @@ ghost use Rattle.filled_tables.specs.Filled.{IsFilled, emission_sight};
 ghost use Rattle.measured_trees.specs.Extremes.{tree_extremes};
 ghost use Rattle.measured_trees.specs.Measures.{IsOf};
 ghost use Rattle.tree_building.specs.Sight as spec;
-ghost use Rattle.emitted_values.specs.Limits.{TreeMayBeBuilt};
+ghost use Rattle.emitted_values.specs.Buildable.{TreeMayBeBuilt};
 
 use crate::laws::{tables_give_trees, trees_are_small};
 use crate::passes::{made_tree, tree_measure};

@@ -9,7 +9,7 @@ ghost use Rattle.filled_tables.specs.Filled.{IsFilled, emission_sight};
 ghost use Rattle.tree_building.specs.Depth.{depth, value_depth};
 ghost use Rattle.tree_building.specs.Each.{AreSmall, ValueIsSmall};
 ghost use Rattle.tree_building.specs.Sight.{tree, value};
-ghost use Rattle.emitted_values.specs.Limits.{MayBeBuilt, TreeMayBeBuilt};
+ghost use Rattle.emitted_values.specs.Buildable.{MayBeBuilt, TreeMayBeBuilt};
 
 use filled_tables::laws::{
     filled_tables_give_expressions, trees_become_the_same, values_become_the_same,

@@ -14,5 +14,9 @@ mod variables;
 
 pub use contents::{content, measured_content};
 pub use defaults::{default_value, measured_default};
+pub use filled_tables::Table;
+pub use measured_expressions::Span;
+pub use measured_trees::Measure;
 pub use outputs::{kind_of, output};
+pub use tree_texts::{Expressions, printed_text, turns};
 pub use variables::variable;

@@ -8,7 +8,7 @@ ghost use Rattle.emitted_files.specs.Files.{IsOutput};
 ghost use Rattle.filled_tables.specs.Filled.{IsFilled, emission_sight};
 ghost use Rattle.tree_building.specs.Sight as spec;
 ghost use Rattle.emitted_values.specs.Kinds as kinds;
-ghost use Rattle.emitted_values.specs.Limits.{MayBeBuilt};
+ghost use Rattle.emitted_values.specs.Buildable.{MayBeBuilt};
 
 use crate::contents::content;
 use arm_value::{OutOfMemory, Text};

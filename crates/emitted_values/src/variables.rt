@@ -6,7 +6,7 @@ ghost use Rattle.filled_tables.specs.Seen.{file_in, files_in};
 ghost use Rattle.emitted_files.specs.Files.{IsVariable};
 ghost use Rattle.filled_tables.specs.Filled.{IsFilled, emission_sight};
 ghost use Rattle.tree_building.specs.Sight as spec;
-ghost use Rattle.emitted_values.specs.Limits.{MayBeBuilt};
+ghost use Rattle.emitted_values.specs.Buildable.{MayBeBuilt};
 
 use crate::contents::content;
 use arm_value::{OutOfMemory, Text};

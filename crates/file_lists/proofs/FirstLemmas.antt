@@ -6,7 +6,7 @@ use Rattle.std.specs.Prelude.{option_and_then}
 use Rattle.std.specs.List.Sorted.{IsStrictlySortedBy}
 use Rattle.foundation.proofs.Options.{same_some}
 use Rattle.arm_value.specs.Look.{fold}
-use Rattle.emitted_files.specs.Values.{AreBoth}
+use Rattle.emitted_values.specs.Values.{AreBoth}
 use Rattle.named_parts.specs.Found.{found, HasOneMore}
 use Rattle.named_parts.specs.Order.{AreInOrder, inserted}
 use Rattle.named_parts.proofs.FoundLemmas.{one_inserted}

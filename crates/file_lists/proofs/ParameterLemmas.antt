@@ -11,8 +11,8 @@ use Rattle.template_parts.specs.declared.parameter.Parameter.{Parameter}
 use Rattle.bicep_resolved.specs.Source.{SourceTree}
 use Rattle.bicep_meaning.specs.Files.{symbol_kind, symbol_name}
 use Rattle.bicep_meaning.specs.Instances.{is_parameter, parameter_numbered, symbol_folded}
-use Rattle.emitted_files.specs.Values.{AreBoth}
-use Rattle.filled_tables.specs.Seen.{Shape, file_in}
+use Rattle.emitted_values.specs.Values.{AreBoth}
+use Rattle.emitted_values.specs.Seen.{Shape, file_in}
 use Rattle.named_parts.specs.Found.{found}
 use Rattle.file_lists.specs.Found.{AreListed, IsPart, IsNext, IsThere}
 use Rattle.file_lists.specs.Lists.{symbol_text, parameter_name, parameter_at, IsCompleted, rule_at, AreParameters}

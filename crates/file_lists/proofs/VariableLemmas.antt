@@ -11,8 +11,8 @@ use Rattle.template_parts.specs.declared.variable.Variable.{Variable}
 use Rattle.plan_cells.specs.Sites.{first_with}
 use Rattle.bicep_meaning.specs.Files.{symbol_name}
 use Rattle.bicep_meaning.specs.Instances.{variable_by}
-use Rattle.emitted_files.specs.Files.{IsVariable}
-use Rattle.filled_tables.specs.Seen.{Shape, file_in, files_in}
+use Rattle.emitted_values.specs.Files.{IsVariable}
+use Rattle.emitted_values.specs.Seen.{Shape, file_in, files_in}
 use Rattle.named_parts.specs.Found.{found, HasOneMore}
 use Rattle.named_parts.specs.Order.{AreInOrder, place_of, inserted}
 use Rattle.named_parts.proofs.FoundLemmas.{one_between}

@@ -3,7 +3,7 @@ use Rattle.std.specs.Prelude.{◌≡◌, ◌<◌, ◌≤◌, ℕ, List, Option, 
 use Rattle.std.specs.Prelude.{Result, Ok, Err}
 use Rattle.std.specs.declared.alloc.AllocError.{AllocError}
 use Rattle.arm_value.specs.Look.{fold}
-use Rattle.emitted_files.specs.Values.{AreBoth}
+use Rattle.emitted_values.specs.Values.{AreBoth}
 use Rattle.named_parts.specs.Found.{found}
 use Rattle.named_parts.specs.Order.{AreInOrder, inserted}
 

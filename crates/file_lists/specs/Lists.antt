@@ -15,11 +15,11 @@ use Rattle.bicep_resolved.specs.Source.{SourceTree, ValueTree}
 use Rattle.bicep_declared.specs.Declarations.{OutputTree}
 use Rattle.bicep_meaning.specs.Files.{declaration, symbol_name, symbol_kind}
 use Rattle.bicep_meaning.specs.Instances.{is_parameter, parameter_named, variable_by, variable_named, output_folded}
-use Rattle.emitted_files.specs.Values.{AreBoth, IsTree}
-use Rattle.emitted_files.specs.Files.{IsVariable, IsOutput, default_at}
-use Rattle.emitted_values.specs.Limits.{MayBeBuilt, TreeMayBeBuilt}
-use Rattle.filled_tables.specs.Seen.{Shape, file_in, files_in}
-use Rattle.filled_tables.specs.Filled.{emission_sight}
+use Rattle.emitted_values.specs.Values.{AreBoth, IsTree}
+use Rattle.emitted_values.specs.Files.{IsVariable, IsOutput, default_at}
+use Rattle.emitted_values.specs.Buildable.{MayBeBuilt, TreeMayBeBuilt}
+use Rattle.emitted_values.specs.Seen.{Shape, file_in, files_in}
+use Rattle.emitted_values.specs.Filled.{emission_sight}
 use Rattle.tree_building.specs.Sight.{tree, value}
 use Rattle.file_lists.specs.Found.{Differ, IsPart}
 

@@ -10,6 +10,7 @@ mod output_list;
 mod parameter_list;
 mod variable_list;
 
+pub use emitted_values::{measured_content, measured_default};
 pub use output_list::outputs;
 pub use parameter_list::parameters;
 pub use variable_list::variables;

@@ -3,11 +3,11 @@ ghost use Rattle.std.specs.Prelude.{◌≡◌, [], Some, None, IfOk, map, option
 ghost use Rattle.bicep_resolved.specs.View.{value_of};
 ghost use Rattle.bicep_declared.specs.View.{output_tree};
 ghost use Rattle.declaration_laws.specs.Sound.{IsSound};
-ghost use Rattle.emitted_files.specs.Files.{IsOutput};
-ghost use Rattle.filled_tables.specs.Seen.{file_in, files_in};
-ghost use Rattle.filled_tables.specs.Filled.{IsFilled, emission_sight};
+ghost use Rattle.emitted_values.specs.Files.{IsOutput};
+ghost use Rattle.emitted_values.specs.Seen.{file_in, files_in};
+ghost use Rattle.emitted_values.specs.Filled.{IsFilled, emission_sight};
 ghost use Rattle.tree_building.specs.Sight.{value};
-ghost use Rattle.emitted_values.specs.Limits.{MayBeBuilt};
+ghost use Rattle.emitted_values.specs.Buildable.{MayBeBuilt};
 ghost use Rattle.named_parts.specs.Order.{AreInOrder};
 ghost use Rattle.file_lists.specs.Found.{IsPart, IsNext};
 ghost use Rattle.file_lists.specs.Lists.{output_name, AreOutputs, OutputsFit, OutputsDiffer};
@@ -16,8 +16,7 @@ use crate::growing::{there, with_optional};
 use arm_value::{ListOf, OutOfMemory, Text};
 use bicep_declared::DeclaredOutput;
 use emitted_parts::lacks;
-use emitted_values::output;
-use filled_tables::Table;
+use emitted_values::{Table, output};
 use std::alloc::Global;
 use template_parts::Output;
 

@@ -3,6 +3,12 @@ pub mod Fits
 pub mod Modules
 pub mod Within
 pub mod Laws
+pub use Rattle.emitted_dependencies.specs.Elements
+pub use Rattle.emitted_modules.specs.Arguments
+pub use Rattle.emitted_modules.specs.Buildable
+pub use Rattle.emitted_modules.specs.Extremes
 pub use Rattle.emitted_modules.specs.Files
+pub use Rattle.emitted_modules.specs.Filled
+pub use Rattle.emitted_modules.specs.Limits
 pub use Rattle.emitted_modules.specs.Seen
 pub use Rattle.emitted_modules.specs.Values

@@ -10,5 +10,6 @@ mod listing;
 mod needs;
 mod parts;
 
-pub use emitted_modules::Table;
+pub use emitted_dependencies::measured_dependencies;
+pub use emitted_modules::{Measure, Table, measured_arguments, measured_head, measured_resource};
 pub use listing::resources;

@@ -1,9 +1,9 @@
 use Rattle.std.proofs.Common.{sym, subst}
 use Rattle.bicep_declared.specs.View.{body_tree}
 use Rattle.emitted_trees.specs.EmittedTrees.{count_of}
-use Rattle.emitted_files.specs.Values.{AreBoth}
-use Rattle.filled_tables.specs.Seen.{whole_in}
-use Rattle.filled_tables.proofs.FilledLemmas.{items_given}
+use Rattle.emitted_values.specs.Values.{AreBoth}
+use Rattle.emitted_values.specs.Seen.{whole_in}
+use Rattle.emitted_values.proofs.FilledLemmas.{items_given}
 use Rattle.emitted_resources.specs.Heads.{IsLoopOf}
 use Rattle.emitted_resources.specs.Resources.{IsHead}
 use Rattle.emitted_resources.proofs.HeadLemmas.{head_is}

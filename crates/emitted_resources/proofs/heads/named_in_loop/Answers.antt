@@ -2,7 +2,7 @@ use Rattle.std.proofs.Common.{ap, ◌∙◌, sym, subst}
 use Rattle.std.specs.Prelude.{IfOk}
 use Rattle.bicep_declared.specs.View.{body_tree}
 use Rattle.emitted_expressions.specs.Sight.{frames_of}
-use Rattle.filled_tables.specs.Seen.{whole_in}
+use Rattle.emitted_values.specs.Seen.{whole_in}
 use Rattle.emitted_resources.specs.Heads.{whole_name, whole_condition}
 use Rattle.emitted_resources.proofs.HeadLemmas.{AreNames, names_placed}
 use Rattle.emitted_resources.proofs.heads.named_in_loop.Goals as goal

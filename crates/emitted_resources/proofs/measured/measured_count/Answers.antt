@@ -2,7 +2,7 @@ use Rattle.std.proofs.Common.{option_map, sym, subst}
 use Rattle.bicep_resolved.specs.View.{loop_of}
 use Rattle.emitted_trees.specs.EmittedTrees.{count_of}
 use Rattle.measured_trees.specs.Measures.{IsOf}
-use Rattle.filled_tables.specs.Seen.{sight}
+use Rattle.emitted_values.specs.Seen.{sight}
 use Rattle.emitted_resources.specs.Limits.{count_extremes}
 use Rattle.emitted_resources.proofs.measured.measured_count.Goals as goal
 

@@ -2,9 +2,9 @@ use Rattle.std.proofs.Common.{ap, map, refl, subst}
 use Rattle.std.specs.Prelude.{IfOk, option_to_list}
 use Rattle.bicep_declared.specs.View.{body_tree}
 use Rattle.bicep_resolved.specs.View.{property_of, properties}
-use Rattle.emitted_files.specs.Files.{frames_around}
+use Rattle.emitted_values.specs.Files.{frames_around}
 use Rattle.emitted_trees.specs.Templates as t
-use Rattle.filled_tables.specs.Seen.{whole_in}
+use Rattle.emitted_values.specs.Seen.{whole_in}
 use Rattle.measured_expressions.specs.Spans.{AreSpans}
 use Rattle.measured_trees.specs.Extremes.{tree_extremes}
 use Rattle.measured_trees.specs.Measures.{IsOf}

@@ -1,12 +1,12 @@
 use Rattle.std.proofs.Common.{refl, subst}
 use Rattle.bicep_declared.specs.View.{body_tree}
-use Rattle.emitted_files.specs.Files.{frames_around}
+use Rattle.emitted_values.specs.Files.{frames_around}
 use Rattle.emitted_sizes.specs.Extent.{IsOf as IsExtent}
 use Rattle.emitted_trees.specs.EmittedTrees.{count_of}
 use Rattle.measured_trees.specs.Extremes.{joined}
 use Rattle.measured_trees.specs.Measures.{IsOf}
-use Rattle.filled_tables.specs.Seen.{whole_in}
-use Rattle.filled_tables.proofs.FilledLemmas.{items_given}
+use Rattle.emitted_values.specs.Seen.{whole_in}
+use Rattle.emitted_values.proofs.FilledLemmas.{items_given}
 use Rattle.emitted_resources.specs.Heads.{whole_name, whole_condition, loop_count}
 use Rattle.emitted_resources.specs.Limits.{expression_extremes, count_extremes}
 use Rattle.emitted_resources.proofs.HeadLemmas.{name_placed, condition_placed}

@@ -1,11 +1,11 @@
 use Rattle.std.proofs.Common.{option_map, Some, sym, subst}
 use Rattle.std.specs.Prelude.{option_to_list}
 use Rattle.bicep_resolved.specs.View.{loop_of}
-use Rattle.emitted_files.specs.Files.{frames_around}
+use Rattle.emitted_values.specs.Files.{frames_around}
 use Rattle.emitted_sizes.specs.Extent.{IsOf}
 use Rattle.measured_expressions.specs.Spans.{AreSpans}
-use Rattle.filled_tables.specs.Seen.{whole_in}
-use Rattle.filled_tables.proofs.FilledLemmas.{items_given}
+use Rattle.emitted_values.specs.Seen.{whole_in}
+use Rattle.emitted_values.proofs.FilledLemmas.{items_given}
 use Rattle.emitted_resources.proofs.turns.span_around.Goals as goal
 
 pub returns-in-Some : goal.returns-in-Some

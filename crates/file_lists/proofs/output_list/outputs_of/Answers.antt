@@ -1,8 +1,8 @@
 use Rattle.std.proofs.Common.{◌≡◌, Some, None, map, ap, sym, ◌∙◌, length, subst, arith}
 use Rattle.std.specs.Prelude.{option_map, slice_get}
 use Rattle.bicep_declared.specs.View.{output_tree}
-use Rattle.emitted_files.specs.Files.{IsOutput}
-use Rattle.filled_tables.specs.Seen.{file_in, files_in}
+use Rattle.emitted_values.specs.Files.{IsOutput}
+use Rattle.emitted_values.specs.Seen.{file_in, files_in}
 use Rattle.file_lists.specs.Found.{IsNext}
 use Rattle.file_lists.specs.Lists.{output_text, output_name, output_at}
 use Rattle.file_lists.proofs.FirstLemmas.{none_listed, next_listed, all_first}

@@ -1,5 +1,5 @@
-use Rattle.emitted_files.specs.Files.{IsOutput}
-use Rattle.filled_tables.specs.Seen.{file_in, files_in}
+use Rattle.emitted_values.specs.Files.{IsOutput}
+use Rattle.emitted_values.specs.Seen.{file_in, files_in}
 use Rattle.file_lists.specs.Found.{AreListed}
 use Rattle.file_lists.specs.Lists.{output_text, output_name, output_at}
 use Rattle.file_lists.proofs.output_list.outputs_of.Given as goal

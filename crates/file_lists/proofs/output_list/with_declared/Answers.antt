@@ -1,8 +1,8 @@
 use Rattle.std.proofs.Common.{Some}
 use Rattle.std.specs.Prelude.{option_map}
 use Rattle.bicep_declared.specs.View.{output_tree}
-use Rattle.emitted_files.specs.Files.{IsOutput}
-use Rattle.filled_tables.specs.Seen.{file_in, files_in}
+use Rattle.emitted_values.specs.Files.{IsOutput}
+use Rattle.emitted_values.specs.Seen.{file_in, files_in}
 use Rattle.file_lists.specs.Lists.{output_name}
 use Rattle.file_lists.proofs.PartLemmas.{next_part}
 use Rattle.file_lists.proofs.output_list.with_declared.Goals as goal

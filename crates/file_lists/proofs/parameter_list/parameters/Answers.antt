@@ -1,7 +1,7 @@
 use Rattle.std.proofs.Common.{ap, sym, ◌∙◌, subst, arith}
 use Rattle.std.specs.Prelude.{is_some}
 use Rattle.bicep_meaning.specs.Files.{symbol_name}
-use Rattle.filled_tables.specs.Seen.{file_in}
+use Rattle.emitted_values.specs.Seen.{file_in}
 use Rattle.file_lists.specs.Found.{IsNext}
 use Rattle.file_lists.specs.Lists.{symbol_text, parameter_name, parameter_at, IsCompleted, rule_at}
 use Rattle.file_lists.proofs.FirstLemmas.{none_listed, next_listed}

@@ -1,4 +1,4 @@
-use Rattle.filled_tables.specs.Seen.{file_in}
+use Rattle.emitted_values.specs.Seen.{file_in}
 use Rattle.file_lists.specs.Found.{AreListed}
 use Rattle.file_lists.specs.Lists.{symbol_text, parameter_name, parameter_at, IsCompleted, rule_at}
 use Rattle.file_lists.proofs.parameter_list.parameters.Given as goal

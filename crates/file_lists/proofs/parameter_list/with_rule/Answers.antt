@@ -1,5 +1,5 @@
 use Rattle.bicep_meaning.specs.Files.{symbol_name}
-use Rattle.filled_tables.specs.Seen.{file_in}
+use Rattle.emitted_values.specs.Seen.{file_in}
 use Rattle.file_lists.specs.Lists.{parameter_name, parameter_at, IsCompleted}
 use Rattle.file_lists.proofs.PartLemmas.{next_part}
 use Rattle.file_lists.proofs.parameter_list.with_rule.Goals as goal

@@ -2,8 +2,8 @@ use Rattle.std.proofs.Common.{sym, ap, ◌∙◌}
 use Rattle.std.specs.Prelude.{option_map}
 use Rattle.bicep_resolved.specs.View.{value_of}
 use Rattle.bicep_meaning.specs.Files.{symbol_name}
-use Rattle.emitted_files.specs.Files.{IsVariable}
-use Rattle.filled_tables.specs.Seen.{file_in, files_in}
+use Rattle.emitted_values.specs.Files.{IsVariable}
+use Rattle.emitted_values.specs.Seen.{file_in, files_in}
 use Rattle.file_lists.specs.Lists.{variable_name, entry_at}
 use Rattle.file_lists.proofs.PartLemmas.{part_there, no_name}
 use Rattle.file_lists.proofs.variable_list.entry.Goals as goal

@@ -4,8 +4,8 @@ use Rattle.bicep_resolved.specs.View.{value_of}
 use Rattle.bicep_declared.specs.View.{declared_tree}
 use Rattle.bicep_meaning.specs.Files.{symbol_name}
 use Rattle.bicep_meaning.specs.Instances.{variable_by}
-use Rattle.emitted_files.specs.Files.{IsVariable}
-use Rattle.filled_tables.specs.Seen.{file_in, files_in}
+use Rattle.emitted_values.specs.Files.{IsVariable}
+use Rattle.emitted_values.specs.Seen.{file_in, files_in}
 use Rattle.file_lists.specs.Lists.{variable_name, entry_at}
 use Rattle.file_lists.proofs.PartLemmas.{no_part}
 use Rattle.file_lists.proofs.variable_list.variable_of.Goals as goal

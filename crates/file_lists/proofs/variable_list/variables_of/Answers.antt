@@ -1,7 +1,7 @@
 use Rattle.std.proofs.Common.{◌++◌, ◌≡◌, arith}
 use Rattle.foundation.proofs.Options.{if_ok}
 use Rattle.bicep_declared.specs.View.{declared_tree}
-use Rattle.filled_tables.specs.Seen.{file_in}
+use Rattle.emitted_values.specs.Seen.{file_in}
 use Rattle.file_lists.specs.Lists.{AreVariables, AreDivided}
 use Rattle.file_lists.proofs.LimitLemmas.{item_is, same_size}
 use Rattle.file_lists.proofs.VariableLemmas.{none_so_far, next_so_far, all_variables, are_divided}

@@ -1,1 +1,2 @@
 mod TemplateLemmas
+pub use Rattle.file_lists.proofs.LimitLemmas

@@ -1,3 +1,15 @@
 pub mod Templates
 pub mod Parts
 pub mod Laws
+pub use Rattle.file_lists.specs.Lists
+pub use Rattle.file_resources.specs.Arguments
+pub use Rattle.file_resources.specs.Buildable
+pub use Rattle.file_resources.specs.Built
+pub use Rattle.file_resources.specs.Elements
+pub use Rattle.file_resources.specs.Extremes
+pub use Rattle.file_resources.specs.Files
+pub use Rattle.file_resources.specs.Filled
+pub use Rattle.file_resources.specs.Fits
+pub use Rattle.file_resources.specs.Limits
+pub use Rattle.file_resources.specs.Seen
+pub use Rattle.file_resources.specs.Within

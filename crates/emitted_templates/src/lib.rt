@@ -9,4 +9,8 @@ pub mod laws;
 mod lists;
 mod whole;
 
+pub use file_lists::{measured_content, measured_default};
+pub use file_resources::{
+    Measure, Table, measured_arguments, measured_dependencies, measured_head, measured_resource,
+};
 pub use whole::template;

@@ -19,7 +19,7 @@ use Rattle.emitted_resources.specs.declared.needs.Needs.{Needs}
 use Rattle.emitted_resources.proofs.ResourceLemmas.{name_within, condition_is, loop_is}
 use Rattle.emitted_modules.specs.Arguments.{arguments_in}
 use Rattle.emitted_modules.specs.Modules.{IsDeployment, module_put}
-use Rattle.emitted_modules.proofs.ArgumentLemmas.{found, argument_in_is}
+use Rattle.emitted_modules.proofs.ArgumentLemmas.{argument_in_is}
 
 module _ (s : Shape) (n at : ℕ) (b : BodyTree) (is : declaration (file_in s) n ≡ Some (a_module at b)) where
   argument_is : (x : List ℕ)
@@ -36,7 +36,7 @@ module _ (s : Shape) (n at : ℕ) (b : BodyTree) (is : declaration (file_in s) n
         (λ o. AreBoth (IsArgument (files_in s) (file_in s) (module_put n b)) o
         (argument_named (files_in s) (file_in s) x args))
         (sym (argument_is x))
-        (found (emission_sight s) (frames_around (whole_in s) n b.each) (arguments_in b.fields) args x h.1.0);
+        (h.1.0.values x);
   }
 
   pub module_is : (symbol : List ℕ) (needs : Needs) (u : template.TemplateTree) (d : Declaration)

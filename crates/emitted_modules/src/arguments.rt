@@ -8,6 +8,7 @@ ghost use Rattle.emitted_resources.specs.Buildable.{MayBeBuilt};
 ghost use Rattle.emitted_resources.specs.Seen.{file_in};
 ghost use Rattle.emitted_resources.specs.Filled.{IsFilled, emission_sight};
 ghost use Rattle.emitted_modules.specs.Arguments.{argument_value, ArgumentsFit, IsArgumentOf, AreArguments, IsNext};
+ghost use Rattle.emitted_modules.specs.Arguments as spec;
 
 use crate::fields::{name_in, value_in};
 use arm_value::{ListOf, OutOfMemory, Text};
@@ -15,6 +16,7 @@ use bicep_resolved::{Property, SourceValue};
 use emitted_expressions::Turn;
 use emitted_parts::{lacks, letting_go};
 use emitted_resources::{Table, content};
+use named_parts::with_part;
 use std::alloc::Global;
 use template_parts::{Argument, Content};
 
@@ -68,23 +70,47 @@ fn argument(
     }
 }
 
-// The arguments with one more.
+// Whether one of these arguments has the name, but for the case of ASCII letters.
+fn has_argument(arguments: &[Argument], name: &Text) -> bool
+    ensures { result ≡ spec.has_argument name.now arguments.now }
+{
+    for argument in arguments {
+        if argument.name.equals_ignore_case(name.as_str()) {
+            return true;
+        }
+    }
+    false
+}
+
+// The arguments with one more in its place, where none of them has its name.
+fn with_first(
+    arguments: ListOf<Argument>,
+    argument: Argument,
+) -> Result<ListOf<Argument>, OutOfMemory>
+    ensures { IfOk result (λ xs. xs ≡ spec.with_first argument arguments) }
+{
+    if has_argument(arguments.as_slice(), &argument.name) {
+        letting_go(Ok(arguments), argument)
+    } else {
+        with_part(arguments, argument)
+    }
+}
+
+// The arguments with one that was made.
 fn with_argument(
-    mut arguments: ListOf<Argument>,
+    arguments: ListOf<Argument>,
     argument: Result<Argument, OutOfMemory>,
 ) -> Result<ListOf<Argument>, OutOfMemory>
     ensures { IfOk result (IsNext arguments argument) }
 {
     match argument {
-        Ok(argument) => match arguments.push(argument) {
-            Ok(()) => Ok(arguments),
-            Err(_) => lacks(arguments),
-        },
+        Ok(argument) => with_first(arguments, argument),
         Err(_) => lacks(arguments),
     }
 }
 
-/// The arguments of these members of `params`, in their order, inside the loop around the module, where there is one.
+/// The arguments of these members of `params`, in byte order of their names, inside the loop around the module, where
+/// there is one. The first member of a name counts.
 pub(crate) fn arguments(
     alloc: Global,
     table: &Table,

@@ -5,8 +5,15 @@ use Rattle.bicep_resolved.specs.View.{property_of, properties}
 use Rattle.emitted_expressions.specs.Sight.{frames_of}
 use Rattle.emitted_resources.specs.Filled.{emission_sight}
 use Rattle.emitted_modules.specs.Arguments.{ArgumentsFit}
-use Rattle.emitted_modules.proofs.ArgumentLemmas.{AreBegun, one_more, all_done}
+use Rattle.emitted_modules.proofs.ArgumentLemmas.{AreBegun, none_begun, one_more, all_done}
 use Rattle.emitted_modules.proofs.arguments.arguments.Goals as goal
+
+pub loop-member-init : goal.loop-member-init
+loop-member-init c =
+    let members = properties (map property_of c.args.members.now) in (
+      none_begun (emission_sight c.args.table.now) (frames_of c.args.turns.now) members c.new-all.result c.new-all.ensures,
+      c.requires.fits,
+    )
 
 pub argument-requires-clause-fits : goal.argument-requires-clause-fits
 argument-requires-clause-fits c =

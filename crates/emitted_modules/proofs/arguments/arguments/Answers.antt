@@ -10,10 +10,9 @@ use Rattle.emitted_modules.proofs.arguments.arguments.Goals as goal
 
 pub loop-member-init : goal.loop-member-init
 loop-member-init c =
-    let members = properties (map property_of c.args.members.now) in (
-      none_begun (emission_sight c.args.table.now) (frames_of c.args.turns.now) members c.new-all.result c.new-all.ensures,
-      c.requires.fits,
-    )
+    let members = properties (map property_of c.args.members.now) in
+    let w = emission_sight c.args.table.now in
+    (none_begun w (frames_of c.args.turns.now) members c.new-all.result c.new-all.ensures, c.requires.fits)
 
 pub argument-requires-clause-fits : goal.argument-requires-clause-fits
 argument-requires-clause-fits c =

@@ -23,7 +23,7 @@ use Rattle.emitted_modules.proofs.ModuleLemmas.{module_is}
 use Rattle.emitted_dependencies.proofs.ElementLemmas.{elements_are}
 use Rattle.file_resources.specs.Built.{Templates, template_of, needs_of, declared_by, body_in, children}
 use Rattle.file_resources.specs.Built.{IsBuiltFor, IsBuilt, AreBuilt}
-use Rattle.file_resources.specs.Within.{IsWithinBy, IsWithin}
+use Rattle.file_resources.specs.Within.{DependenciesAreWithin, IsWithinBy, IsWithin}
 use Rattle.file_resources.proofs.NameLemmas.{named}
 
 -- ---- numbers that pass a test
@@ -128,7 +128,7 @@ module _ (s : Shape) where
 
     module _ (paired : IsPaired (file_in s)) (within : (n : ℕ) → IsWithin s n) where
       within_by : (n : ℕ) (e : Option DeclaredTree) → declaration (file_in s) n ≡ e → IsWithinBy s n e
-      within_by n e is = subst (IsWithinBy s n) is (within n).resource
+      within_by n e is = subst (IsWithinBy s n) is (within n)
 
       resource_at_number : (n : ℕ) (o : Option TemplateTree) (e : Option DeclaredTree) (r : ResourceTree)
           → declaration (file_in s) n ≡ e → is_some (put_by (file_in s) n e) ≡ true → IsBuiltFor s n o e r
@@ -141,17 +141,18 @@ module _ (s : Shape) where
       resource_at_number n o (Some (d.a_resource at q false b)) r is p h =
           resource_is s n b (name_of (file_in s) n) (needs_of s n) (declared_by r) (body_in r)
           (named (file_in s) paired n (d.a_resource at q false b) is) refl h.head h.body
-          (within_by n (Some (d.a_resource at q false b)) is)
+          (within_by n (Some (d.a_resource at q false b)) is).0
       resource_at_number n None (Some (d.a_module at b)) r is p h = absurd h
       resource_at_number n (Some u) (Some (d.a_module at b)) r is p h =
           module_is s n at b is (name_of (file_in s) n) (needs_of s n) u (declared_by r) (body_in r)
-          (named (file_in s) paired n (d.a_module at b) is) refl h.head h.body (within_by n (Some (d.a_module at b)) is)
+          (named (file_in s) paired n (d.a_module at b) is) refl h.head h.body
+          (within_by n (Some (d.a_module at b)) is).0
 
-      depends : (n : ℕ) (j : List Json) → j ≡ (needs_of s n).depends_on
+      depends : (n : ℕ) (j : List Json) → DependenciesAreWithin s n → j ≡ (needs_of s n).depends_on
           → AreElements (files_in s) (file_in s) One (dependencies (file_in s) n) j
-      depends n j e =
+      depends n j w e =
           subst (AreElements (files_in s) (file_in s) One (dependencies (file_in s) n)) (sym e)
-          (elements_are (files_in s) (file_in s) One (dependencies (file_in s) n) (within n).dependencies)
+          (elements_are (files_in s) (file_in s) One (dependencies (file_in s) n) w)
 
       dependent_at_number : (n : ℕ) (o : Option TemplateTree) (e : Option DeclaredTree) (r : ResourceTree)
           → declaration (file_in s) n ≡ e → is_some (put_by (file_in s) n e) ≡ true → IsBuiltFor s n o e r
@@ -162,10 +163,19 @@ module _ (s : Shape) where
       dependent_at_number n o (Some (d.variable at v)) r is p h = absurd h
       dependent_at_number n o (Some (d.a_resource at q true b)) r is p h = absurd cc
       dependent_at_number n o (Some (d.a_resource at q false b)) r is p h =
-          record { symbol = h.head.symbol; depends_on = depends n (declared_by r).depends_on h.head.depends_on }
+          record {
+            symbol = h.head.symbol;
+            depends_on =
+                depends n (declared_by r).depends_on (within_by n (Some (d.a_resource at q false b)) is).1
+                h.head.depends_on;
+          }
       dependent_at_number n None (Some (d.a_module at b)) r is p h = absurd h
       dependent_at_number n (Some u) (Some (d.a_module at b)) r is p h =
-          record { symbol = h.head.symbol; depends_on = depends n (declared_by r).depends_on h.head.depends_on }
+          record {
+            symbol = h.head.symbol;
+            depends_on =
+                depends n (declared_by r).depends_on (within_by n (Some (d.a_module at b)) is).1 h.head.depends_on;
+          }
 
       pub resources_are : (h : Header) (rs : List ResourceTree) → AreBuilt s us (in_template One (file_in s)) rs
           → (m : ℕ)

@@ -1,5 +1,5 @@
 -- When the resources of the template of a file can be read back.
-use Rattle.std.specs.Prelude.{ℕ, Option, Some}
+use Rattle.std.specs.Prelude.{ℕ, true, false, Option, Some}
 use Rattle.template_parts.specs.declared.mode.Form.TheVariants.{One}
 use Rattle.bicep_declared.specs.Declarations.{DeclaredTree}
 use Rattle.bicep_declared.specs.Declarations as d
@@ -9,13 +9,16 @@ use Rattle.emitted_modules.specs.Seen.{Shape, file_in, files_in, whole_in}
 use Rattle.emitted_modules.specs.Limits.{HeadIsWithin, ResourceIsWithin}
 use Rattle.emitted_dependencies.specs.Elements.{ElementsAreWithin}
 
--- each expression of the resource or the module of a number, by its declaration, is within the limits of templates
+-- each element of `dependsOn` is within the limits of templates
+abbrev pub DependenciesAreWithin : Shape → ℕ → Type 0
+DependenciesAreWithin s n = ElementsAreWithin (files_in s) (file_in s) One (dependencies (file_in s) n)
+
+-- so is each expression of the resource or the module of a number, by its declaration; an existing resource has none
 abbrev pub IsWithinBy : Shape → ℕ → Option DeclaredTree → Type 0
-IsWithinBy s n (Some (d.a_resource at q existing b)) = ResourceIsWithin s n b
-IsWithinBy s n (Some (d.a_module at b)) = HeadIsWithin (whole_in s) n b.each
+IsWithinBy s n (Some (d.a_resource at q false b)) = ResourceIsWithin s n b × DependenciesAreWithin s n
+IsWithinBy s n (Some (d.a_resource at q true b)) = Unit {0}
+IsWithinBy s n (Some (d.a_module at b)) = HeadIsWithin (whole_in s) n b.each × DependenciesAreWithin s n
 IsWithinBy s n o = Unit {0}
 
--- and so is each element of its `dependsOn`
-pub record IsWithin (s : Shape) (n : ℕ) : Type 0 where
-  pub resource : IsWithinBy s n (declaration (file_in s) n)
-  pub dependencies : ElementsAreWithin (files_in s) (file_in s) One (dependencies (file_in s) n)
+abbrev pub IsWithin : Shape → ℕ → Type 0
+IsWithin s n = IsWithinBy s n (declaration (file_in s) n)

@@ -27,7 +27,7 @@ use Rattle.point_states.specs.Task.{Task}
 use Rattle.point_states.specs.Task.TheVariants.{Enter, Put, Leave, Delete}
 use Rattle.point_states.specs.Plans.{deployment_of, task_in, IsTaskIn, IsPlanned}
 use Rattle.point_states.specs.Numbers.{puts_in, put_tags, AreApart, HaveOwnKeys}
-use Rattle.point_states.specs.Taken.{tag_in}
+use Rattle.point_states.specs.Lookups.{tag_in}
 use Rattle.point_states.proofs.TagLemmas.{plan_tags}
 use Rattle.deploy_histories.specs.Planned as histories
 use Rattle.deploy_histories.specs.Planned.{Planned}

@@ -13,8 +13,8 @@ use Rattle.plan_table.specs.Found.{scope_at}
 use Rattle.plan_table.specs.Listed.{listed_of}
 use Rattle.plan_table.specs.Opened.{Opened}
 use Rattle.plan_table.proofs.FrameLemmas.{frame_is, resource_read}
-use Rattle.plan_assembly.specs.declared.plan.Task.{Task}
-use Rattle.plan_assembly.specs.declared.plan.Task.TheVariants.{Put}
+use Rattle.history_plans.specs.Task.{Task}
+use Rattle.history_plans.specs.Task.TheVariants.{Put}
 use Rattle.plan_numbers.specs.Numbers.{IsPutResource, IsOfTable}
 
 same_listed : (x y : cells.Listed) → Some x ≡ Some y → x ≡ y

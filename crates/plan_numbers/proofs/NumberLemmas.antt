@@ -9,8 +9,8 @@ use Rattle.std.proofs.lemmas.List.{map-append, take_more, take-append-drop}
 use Rattle.key_tags.specs.KeyCodes.{key_code}
 use Rattle.tag_places.proofs.PlaceLemmas.{untagged}
 use Rattle.tag_places.specs.Places.{Tag, is_tag, first_place, Places, ArePlaces}
-use Rattle.plan_assembly.specs.declared.plan.Task.{Task}
-use Rattle.plan_assembly.specs.declared.plan.Task.TheVariants.{Enter, Put, Leave, Delete}
+use Rattle.history_plans.specs.Task.{Task}
+use Rattle.history_plans.specs.Task.TheVariants.{Enter, Put, Leave, Delete}
 use Rattle.reading.specs.World.{Each}
 use Rattle.plan_table.specs.declared.table.Table.{Table}
 use Rattle.plan_numbers.specs.declared.numbers.Numbers.{Numbers}

@@ -1,5 +1,6 @@
 pub mod Numbers
 pub mod Steps
-pub use Rattle.plan_assembly.specs.Plans
-pub use Rattle.plan_assembly.specs.declared.plan.Plan
-pub use Rattle.plan_assembly.specs.declared.plan.Task
+pub use Rattle.history_plans.specs.Plans
+pub use Rattle.history_plans.specs.Plan
+pub use Rattle.history_plans.specs.Task
+pub use Rattle.history_plans.specs.Planned

@@ -10,8 +10,8 @@ use Rattle.plan_table.specs.declared.table.Table.{Table}
 use Rattle.plan_table.specs.Lines.{IsNumber}
 use Rattle.plan_table.specs.Found.{scope_at}
 use Rattle.plan_tasks.specs.Start.{IsPutAt}
-use Rattle.plan_assembly.specs.declared.plan.Task.{Task}
-use Rattle.plan_assembly.specs.declared.plan.Task.TheVariants.{Enter, Put, Leave, Delete}
+use Rattle.history_plans.specs.Task.{Task}
+use Rattle.history_plans.specs.Task.TheVariants.{Enter, Put, Leave, Delete}
 pub use Rattle.plan_numbers.specs.declared.numbers.Numbers.{Numbers}
 
 abbrev pub key_tag : Option ResourceId → Option Tag

@@ -2,7 +2,7 @@
 use Rattle.std.specs.Prelude.{◌≡◌, ℕ, ◌≤◌, Bool, true, false, List, [], ◌∷◌, ◌++◌, map, Option, Some, None}
 use Rattle.arm_ids.specs.declared.id.ResourceId.{ResourceId}
 use Rattle.tag_places.specs.Places.{Tag, Places, ArePlaces}
-use Rattle.plan_assembly.specs.declared.plan.Task.{Task}
+use Rattle.history_plans.specs.Task.{Task}
 use Rattle.plan_numbers.specs.declared.numbers.Numbers.{Numbers}
 use Rattle.plan_numbers.specs.Numbers.{key_tag, put_tags, enter_tag, leave_tag, AreApart, HaveOwnKeys}
 

@@ -3,12 +3,12 @@ ghost use Rattle.std.specs.Prelude.{◌<◌, ◌≤◌, ℕ, List, Option, IfOk,
 ghost use Rattle.reading.specs.World.{Each};
 ghost use Rattle.tag_places.specs.Places.{Tag, ArePlaces};
 ghost use Rattle.plan_table.specs.Listed.{listed_of};
-ghost use Rattle.plan_assembly.specs.declared.plan.Task.TheVariants.{Put};
+ghost use Rattle.history_plans.specs.Task.TheVariants.{Put};
 ghost use Rattle.plan_numbers.specs.Numbers.{IsOfTable, HasPlace, IsPutResource};
 
 use crate::looking::scope_tag;
 use arm_value::OutOfMemory;
-use plan_assembly::plan::Task;
+use history_plans::Task;
 use plan_table::counting::MAX_INSTANCES_OF_TEMPLATE;
 use plan_table::listed::Listed;
 use plan_table::table::Table;

@@ -9,7 +9,7 @@ mod looking;
 mod numbering;
 mod numbers;
 
+pub use history_plans::{Plan, Task};
 pub use looking::{enter_of, leave_of, putter_of};
 pub use numbering::number_tasks;
 pub use numbers::Numbers;
-pub use plan_assembly::{Plan, Task};

@@ -4,7 +4,7 @@ ghost use Rattle.arm_ids.specs.declared.id.ResourceId.{ResourceId};
 ghost use Rattle.tag_places.specs.Places.{Tag, ArePlaces, first_place};
 ghost use Rattle.key_tags.specs.KeyCodes.{key_code};
 ghost use Rattle.plan_table.specs.declared.table.Table.{Table};
-ghost use Rattle.plan_assembly.specs.declared.plan.Task.{Task};
+ghost use Rattle.history_plans.specs.Task.{Task};
 ghost use Rattle.plan_numbers.specs.Numbers.{put_tags, enter_tag, leave_tag, AreNumbers};
 ghost use Rattle.plan_numbers.specs.Steps.{IsNumberOf};
 

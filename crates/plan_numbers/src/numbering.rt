@@ -3,7 +3,7 @@ ghost use Rattle.std.specs.Prelude.{◌≡◌, ◌≤◌, ◌++◌, ◌∷◌, [
 ghost use Rattle.std.specs.Prelude.{◌&&◌, map, length};
 ghost use Rattle.arm_ids.specs.declared.id.ResourceId.{ResourceId};
 ghost use Rattle.tag_places.specs.Places.{Tag, ArePlaces};
-ghost use Rattle.plan_assembly.specs.declared.plan.Task.{Task};
+ghost use Rattle.history_plans.specs.Task.{Task};
 ghost use Rattle.plan_numbers.specs.Numbers.{puts_in, enter_tag, leave_tag, HaveOwnKeys, AreOfScopes, AreNumbers};
 ghost use Rattle.plan_numbers.specs.Steps.{IsNumbered, AddsKey, AreListed};
 
@@ -12,8 +12,8 @@ use crate::looking::scope_tag;
 use crate::numbers::Numbers;
 use arm_ids::Key;
 use arm_value::OutOfMemory;
+use history_plans::{Plan, Task};
 use key_tags::key_tag;
-use plan_assembly::plan::{Plan, Task};
 use std::alloc::Global;
 use tag_places::{Places, add_place, first_place, no_places};
 use template_parts::run_out;

@@ -10,11 +10,11 @@ use Rattle.plan_table.specs.Whole.{scopes_of, rows_in}
 use Rattle.plan_table.specs.Lines.{line_at, cell_of}
 use Rattle.plan_sight.specs.declared.lack.Lack.TheVariants as lack
 use Rattle.plan_sight.proofs.LookLemmas.{cell_of_row}
-use Rattle.point_states.specs.Plan.{Plan}
-use Rattle.point_states.specs.Task.TheVariants.{Leave}
-use Rattle.plan_numbers.specs.declared.numbers.Numbers.{Numbers}
+use Rattle.task_aims.specs.Plan.{Plan}
+use Rattle.task_aims.specs.Task.TheVariants.{Leave}
+use Rattle.task_aims.specs.Numbered.{TaskNumbers as Numbers}
 use Rattle.deploy_histories.specs.Events.{Event, progress}
-use Rattle.history_plans.specs.Planned.{planned_by}
+use Rattle.task_aims.specs.Planned.{planned_by}
 use Rattle.point_rows.specs.declared.later.Later.{Later}
 use Rattle.point_rows.specs.Rows.{known_now, told_now}
 use Rattle.task_standings.specs.Standings.{StandsAs, IsNone}

@@ -29,9 +29,9 @@ use Rattle.history_laws.specs.Past.{StaysDone}
 use Rattle.history_replays.proofs.Later.{known_later}
 use Rattle.point_rows.specs.declared.later.Later.{Later}
 use Rattle.point_rows.specs.Rows.{known_now, told_now}
-use Rattle.scope_entries.specs.Entries.{plain_now, own_of}
-use Rattle.scope_entries.proofs.OwnLemmas.{OwnCell, own_cell}
-use Rattle.scope_entries.proofs.ThereNowLemmas.{line_there}
+use Rattle.scope_faults.specs.Entries.{plain_now, own_of}
+use Rattle.scope_faults.proofs.OwnLemmas.{OwnCell, own_cell}
+use Rattle.scope_faults.proofs.ThereNowLemmas.{line_there}
 use Rattle.task_standings.proofs.Agreement.{joined, AreOne, grows_left, grows_right, one_known}
 
 -- ---- the meaning of a parameter or a variable that is there is told

@@ -1,5 +1,5 @@
 -- What is told of parameters and variables that have to be there.
-use Rattle.std.proofs.Common.{◌≡◌, inl, inr, List, [], ◌∷◌, map, Option, Some, None, refl, ap, ◌∙◌}
+use Rattle.std.proofs.Common.{◌≡◌, inl, inr, List, [], ◌∷◌, map, Option, Some, None, refl, ap, ◌∙◌, sym}
 use Rattle.std.specs.Prelude.{option_map}
 use Rattle.arm_value.specs.Json.{Json}
 use Rattle.reading.specs.Reading.{done}
@@ -36,6 +36,18 @@ module _ (s : knowledge.Table) (r : Reads (Option Json)) where
 
   pub demanded_nothing : entry_told (told s r) ≡ absent → told s (demanded r) ≡ no_value
   demanded_nothing a = demanded_is ∙ by_told (told s r) a
+
+  waits_here : (z : Told Cell (Option Json)) (c : Cell) → and_then z gives ≡ waits c → z ≡ waits c
+  waits_here (value (Some j)) c e = absurd (cc)
+  waits_here (value None) c e = absurd (cc)
+  waits_here no_value c e = absurd (cc)
+  waits_here (waits d) c e = ap waits (awaits_one d c e)
+    where
+      awaits_one : (d c : Cell) → and_then (waits d) gives ≡ waits c → d ≡ c
+      awaits_one d c e = cc
+
+  pub demanded_awaits : (c : Cell) → told s (demanded r) ≡ waits c → told s r ≡ waits c
+  demanded_awaits c e = waits_here (told s r) c (sym demanded_is ∙ e)
 
 -- where each has a value, none is at fault
 module _ (d : Deployment) (s : knowledge.Table) where

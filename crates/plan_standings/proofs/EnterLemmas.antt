@@ -1,4 +1,4 @@
--- How the entry of a scope stands, by what its parameters and variables were told to be.
+-- The readiness of the entry of a scope, by what its parameters and variables were told to be.
 use Rattle.std.proofs.Common.{◌≡◌, ◌⊎◌, inl, inr, ℕ, suc, ◌<◌, ◌-◌, ◌^◌, Bool, true, false, not, List, [], ◌∷◌}
 use Rattle.std.proofs.Common.{length, Option, Some, None, refl, sym, ap, subst, ◌∙◌, true≢false, arith}
 use Rattle.std.proofs.lemmas.List.{length-map}
@@ -31,21 +31,21 @@ use Rattle.plan_sight.specs.Ready.{IsReady}
 use Rattle.plan_sight.specs.declared.lack.Lack.{Lack}
 use Rattle.plan_sight.specs.declared.lack.Lack.TheVariants as lack
 use Rattle.plan_sight.specs.Seen.{Lacks}
-use Rattle.point_states.specs.Plan.{Plan}
-use Rattle.point_states.specs.Task.TheVariants.{Enter}
-use Rattle.point_states.specs.Plans.{deployment_of}
-use Rattle.plan_numbers.specs.declared.numbers.Numbers.{Numbers}
+use Rattle.task_aims.specs.Plan.{Plan}
+use Rattle.task_aims.specs.Task.TheVariants.{Enter}
+use Rattle.task_aims.specs.Plans.{deployment_of}
+use Rattle.task_aims.specs.Numbered.{TaskNumbers as Numbers}
 use Rattle.deploy_histories.specs.Planned.{Planned}
 use Rattle.deploy_histories.specs.Events.{Event, Progress, progress, IsDone, is_waiting}
 use Rattle.deploy_histories.specs.Values.{task_values, body_of, demanded, entry_value}
 use Rattle.deploy_histories.specs.Readiness.{first_fault, needs_first, readiness, ready}
-use Rattle.history_plans.specs.Planned.{planned_by}
+use Rattle.task_aims.specs.Planned.{planned_by}
 use Rattle.point_values.specs.Seen.{IsSeen}
 use Rattle.point_rows.specs.declared.later.Later.{Later}
 use Rattle.point_rows.specs.Rows.{known_now}
-use Rattle.scope_entries.specs.Entries.{plain_now, own_of, IsSettled, IsCircle, WaitsForState, WaitsForLine, HasNothing}
-use Rattle.scope_entries.specs.Entries.{line_cell}
-use Rattle.scope_entries.proofs.OwnLemmas.{own_cell}
+use Rattle.scope_faults.specs.Entries.{plain_now, own_of, IsSettled, IsCircle, WaitsForState, WaitsForLine, HasNothing}
+use Rattle.scope_faults.specs.Entries.{line_cell}
+use Rattle.scope_faults.proofs.OwnLemmas.{own_cell}
 use Rattle.awaited_cells.specs.Awaited.{MaySee, MaySeeAround}
 use Rattle.awaited_cells.proofs.ValueLemmas.{entries_await}
 use Rattle.task_standings.specs.Standings.{IsStanding, IsScopeSeen, IsNone, Enters}
@@ -59,8 +59,8 @@ use Rattle.plan_standings.proofs.WaitLemmas.{in_sight}
 use Rattle.plan_standings.proofs.AnswerLemmas.{start_of_plan}
 use Rattle.plan_standings.proofs.StateLemmas.{kept_on, fewer_left}
 use Rattle.point_rows.proofs.GrowthLemmas.{stays, stays_after}
-use Rattle.scope_entries.specs.Entries.{AreTold, Goes}
-use Rattle.scope_entries.proofs.GoesLemmas.{told_with_states}
+use Rattle.scope_faults.specs.Entries.{AreTold, Goes}
+use Rattle.scope_faults.proofs.GoesLemmas.{told_with_states}
 use Rattle.plan_standings.specs.Entering.{HasMore, IsEntryLook}
 use Rattle.plan_standings.proofs.DemandLemmas.{demanded_waits, demanded_nothing, no_fault}
 use Rattle.plan_standings.proofs.CircleLemmas.{never}
@@ -123,7 +123,7 @@ module _ (g : Plan) (held : List HeldResource) (n : Numbers) (h : List Event) (l
   abbrev q : Position
   q = (scope_at t f).position
 
-  ready_table : IsReady t
+  pub ready_table : IsReady t
   ready_table = record {
     laid = at.under_way.is_planned.table.laid;
     sound = at.under_way.is_planned.table.filled.sound;
@@ -133,7 +133,7 @@ module _ (g : Plan) (held : List HeldResource) (n : Numbers) (h : List Event) (l
   is_task = planned_task (scopes_of t) g.tasks.items u (Enter f) next.is_task
 
   -- what holds of what the table deploys holds of what is deployed
-  abbrev whole : whole_of t ≡ d
+  abbrev pub whole : whole_of t ≡ d
   whole = at.under_way.is_planned.whole
 
   -- ---- the scope around
@@ -169,7 +169,7 @@ module _ (g : Plan) (held : List HeldResource) (n : Numbers) (h : List Event) (l
     own_scope : is_own d q ≡ true
     own_scope = sym own_is ∙ (own_cell t f ready_table there e is_cell).0
 
-    cell_listed : Has (entry_value d e) (task_values d (enter q))
+    pub cell_listed : Has (entry_value d e) (task_values d (enter q))
     cell_listed =
         has_map (entry_value d) e (entry_cells d q)
         (subst (λ (b : Deployment). Has e (entry_cells b q)) whole is_cell)
@@ -181,11 +181,12 @@ module _ (g : Plan) (held : List HeldResource) (n : Numbers) (h : List Event) (l
     around_by (s ∷ r) a c other o (inr m) =
         in_sight x p t l at.under_way.has_histories (start_of_plan g held n h l at) at.kept r (around_entered s r a) c m
 
-    sight_of : (c : Cell) → (Has c (own_of t f) → ⊥) → told k (plain d e) ≡ waits c → IsInSight d k c
-    sight_of c other w =
+    pub sight_of : (s : knowledge.Table) (c : Cell) → (Has c (own_of t f) → ⊥) → told s (plain d e) ≡ waits c
+        → IsInSight d k c
+    sight_of s c other w =
         around_by q refl c
         (λ i. other (subst (λ (b : Deployment). Has c (entry_cells b q)) (sym whole) i)) own_scope
-        (entries_await d k q e c (subst (λ (b : Deployment). Has e (entry_cells b q)) whole is_cell) w)
+        (entries_await d s q e c (subst (λ (b : Deployment). Has e (entry_cells b q)) whole is_cell) w)
 
     abbrev awaiting : Cell → Told Cell (Option Json)
     awaiting c = waits c
@@ -204,7 +205,7 @@ module _ (g : Plan) (held : List HeldResource) (n : Numbers) (h : List Event) (l
           is_value = cell_listed;
           lacks = subst (λ u. Lacks t z u) (sym demands) lacks;
           in_sight = λ b i.
-              subst (λ (a : Cell). IsInSight d k a) (same_awaited c b (sym demands ∙ i)) (sight_of c other awaited);
+              subst (λ (a : Cell). IsInSight d k a) (same_awaited c b (sym demands ∙ i)) (sight_of k c other awaited);
         }
 
   not_state : (i : ResourceId) → Has (state i) (own_of t f) → ⊥

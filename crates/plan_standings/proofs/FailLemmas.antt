@@ -1,4 +1,4 @@
--- Why a put cannot begin, by how it stands.
+-- Why a put cannot begin, by its readiness.
 use Rattle.std.proofs.Common.{◌≡◌, ◌⊎◌, inl, inr, ℕ, Bool, true, false, true≢false, List, [], ◌∷◌, Option, Some, None}
 use Rattle.std.proofs.Common.{refl, sym, ap, subst, ◌∙◌}
 use Rattle.std.specs.Prelude.{◌||◌, slice_get, Result, Ok, Err, IfOk}
@@ -27,9 +27,9 @@ use Rattle.plan_table.specs.Opened.{step_of}
 use Rattle.plan_table.specs.Whole.{whole_of, scopes_of}
 use Rattle.plan_table.specs.Found.{scope_at}
 use Rattle.plan_paths.specs.Texts.{a_path, instance_text}
-use Rattle.point_states.specs.Plan.{Plan}
-use Rattle.point_states.specs.Task.TheVariants.{Put}
-use Rattle.point_states.specs.Plans.{deployment_of}
+use Rattle.task_aims.specs.Plan.{Plan}
+use Rattle.task_aims.specs.Task.TheVariants.{Put}
+use Rattle.task_aims.specs.Plans.{deployment_of}
 use Rattle.deploy_histories.specs.Planned.{Planned}
 use Rattle.deploy_histories.specs.Events.{Event, begin, crash, Progress, progress, done_status, IsDone}
 use Rattle.deploy_histories.specs.Points.{IsTableOf}
@@ -37,7 +37,7 @@ use Rattle.deploy_histories.specs.Values.{TaskValue, a_body, body_reading, reads
 use Rattle.deploy_histories.specs.Readiness.{lacks, at_fault, readiness, needs_first, needs_now}
 use Rattle.deploy_histories.specs.Legal.{IsAct}
 use Rattle.deploy_histories.proofs.ReadinessLemmas.{says_fault, table_grows}
-use Rattle.history_plans.specs.Planned.{planned_by}
+use Rattle.task_aims.specs.Planned.{planned_by}
 use Rattle.point_values.specs.Seen.{IsSeen}
 use Rattle.point_rows.specs.declared.later.Later.{Later}
 use Rattle.point_rows.specs.Rows.{known_now}
@@ -58,11 +58,11 @@ use Rattle.plan_standings.specs.Tells.{tells}
 
 -- ---- what is read for a value that is none was given by tasks that are done
 
-one_of : (a b : Bool) → (a || b) ≡ true → (a ≡ true) ⊎ (b ≡ true)
+pub one_of : (a b : Bool) → (a || b) ≡ true → (a ≡ true) ⊎ (b ≡ true)
 one_of true b e = inl refl
 one_of false b e = inr e
 
-any_there : (f : Cell → Bool) (P : Cell → Type 0) (cs : List Cell) → list_any f cs ≡ true → Each P cs
+pub any_there : (f : Cell → Bool) (P : Cell → Type 0) (cs : List Cell) → list_any f cs ≡ true → Each P cs
     → (c : Cell) × ((f c ≡ true) × P c)
 any_there f P [] e h = absurd (true≢false (sym e))
 any_there f P (c ∷ cs) e h = elim (one_of (f c) (list_any f cs) e) [
@@ -74,7 +74,7 @@ not_there : (k : Known Json) → k ≡ missing → IsThere k → ⊥
 not_there k e h = subst IsThere e h
 
 module _ (x : Planned) (p : Progress) (s : known.Table) (seen : IsSeen x p s) where
-  given_done : (v : ℕ) (other : tasks.Task) → slice_get x.tasks v ≡ Some other → (c : Cell)
+  pub given_done : (v : ℕ) (other : tasks.Task) → slice_get x.tasks v ≡ Some other → (c : Cell)
       → is_given_by x.deployment (start_world x.known) other c ≡ true → IsThere (s c) → (b : Bool)
       → done_status (p.status v) ≡ b → b ≡ true
   given_done v other is c given there true e = refl

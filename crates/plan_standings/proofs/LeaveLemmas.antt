@@ -1,4 +1,4 @@
--- How the leave of a scope stands, by what its outputs were told to be.
+-- The readiness of the leave of a scope, by what its outputs were told to be.
 use Rattle.std.proofs.Common.{◌≡◌, true, false, ℕ, ◌<◌, List, [], ◌∷◌, map, length, Option, Some, None, refl, sym, ap}
 use Rattle.std.proofs.Common.{subst, ◌∙◌, arith}
 use Rattle.std.specs.Prelude.{slice_get}
@@ -26,23 +26,23 @@ use Rattle.plan_table.specs.Found.{scope_at}
 use Rattle.plan_sight.specs.declared.lack.Lack.{Lack}
 use Rattle.plan_sight.specs.declared.lack.Lack.TheVariants as lack
 use Rattle.plan_sight.specs.Seen.{Lacks}
-use Rattle.point_states.specs.Plan.{Plan}
-use Rattle.point_states.specs.Task.TheVariants.{Leave}
-use Rattle.point_states.specs.Plans.{deployment_of}
-use Rattle.plan_numbers.specs.declared.numbers.Numbers.{Numbers}
+use Rattle.task_aims.specs.Plan.{Plan}
+use Rattle.task_aims.specs.Task.TheVariants.{Leave}
+use Rattle.task_aims.specs.Plans.{deployment_of}
+use Rattle.task_aims.specs.Numbered.{TaskNumbers as Numbers}
 use Rattle.deploy_histories.specs.Planned.{Planned}
 use Rattle.deploy_histories.specs.Events.{Event, Progress, progress, IsDone, is_waiting}
 use Rattle.deploy_histories.specs.Values.{TaskValue, a_cell, task_values, outputs_of, body_of, where_offered}
 use Rattle.deploy_histories.specs.Values.{output_reading, leave_value}
 use Rattle.deploy_histories.specs.Readiness.{fault_or, first_fault, needs_first, readiness, ready}
-use Rattle.history_plans.specs.Planned.{planned_by}
+use Rattle.task_aims.specs.Planned.{planned_by}
 use Rattle.point_values.specs.Seen.{IsSeen}
 use Rattle.point_rows.specs.declared.later.Entry.{Entry}
 use Rattle.point_rows.specs.declared.later.Entry.TheVariants as entry
 use Rattle.point_rows.specs.declared.later.Later.{Later}
 use Rattle.point_rows.specs.Rows.{known_now, told_now}
-use Rattle.scope_outputs.specs.Outputs.{names_of, IsOffered, AreNoted, HasNothing, WaitsForState, WaitsForLine}
-use Rattle.scope_outputs.specs.declared.telling.Noted.{Noted}
+use Rattle.scope_faults.specs.Outputs.{names_of, IsOffered, AreNoted, HasNothing, WaitsForState, WaitsForLine}
+use Rattle.scope_faults.specs.Noted.{Noted}
 use Rattle.awaited_cells.proofs.ValueLemmas.{outputs_await}
 use Rattle.task_standings.specs.Standings.{IsStanding, IsNone}
 use Rattle.task_standings.specs.declared.standing.Standing.{Standing}
@@ -58,7 +58,7 @@ use Rattle.plan_standings.specs.Leaving.{IsLeaveLook}
 -- ---- what is told of an output
 
 module _ (d : Deployment) (k : knowledge.Table) (q : Position) (y : List ℕ) where
-  by_condition : (o : Option Json) → told k (plain d (offered q y)) ≡ value o
+  pub by_condition : (o : Option Json) → told k (plain d (offered q y)) ≡ value o
       → told k (output_reading d q y) ≡ told k (where_offered (is_true o) (plain d (output q y)))
   by_condition o e =
       told-continued Cell Json (Option Json) (Option Json) k (plain d (offered q y))
@@ -121,7 +121,7 @@ module _ (g : Plan) (held : List HeldResource) (n : Numbers) (h : List Event) (l
   abbrev q : Position
   q = (scope_at t f).position
 
-  abbrev whole : whole_of t ≡ d
+  abbrev pub whole : whole_of t ≡ d
   whole = at.under_way.is_planned.whole
 
   pub is_task : slice_get x.tasks u ≡ Some (leave q)
@@ -133,15 +133,15 @@ module _ (g : Plan) (held : List HeldResource) (n : Numbers) (h : List Event) (l
       (at.under_way.is_planned.table.laid.kept f
       (let m = length-map t.frames.items opened_of in omega (arith, m, there))).template
 
-  values_are : task_values d (leave q) ≡ map (leave_value d q) (names_of t f)
+  pub values_are : task_values d (leave q) ≡ map (leave_value d q) (names_of t f)
   values_are = ap (outputs_of (leave_value d q)) template_is
 
-  is_value : (y : List ℕ) → Has y (names_of t f) → Has (leave_value d q y) (task_values d (leave q))
+  pub is_value : (y : List ℕ) → Has y (names_of t f) → Has (leave_value d q y) (task_values d (leave q))
   is_value y i =
       subst (λ (vs : List TaskValue). Has (leave_value d q y) vs) (sym values_are)
       (has_map (leave_value d q) y (names_of t f) i)
 
-  entered : IsEntered x p q
+  pub entered : IsEntered x p q
   entered =
       start_entered x t g.tasks.items g.keys.items refl at.under_way.numbers.of_scopes p u (leave q) is_task
       next.needs_done f there (entered_itself d q)

@@ -17,28 +17,27 @@ use Rattle.plan_table.specs.Opened.{opened_of}
 use Rattle.plan_table.specs.Whole.{whole_of, scopes_of}
 use Rattle.plan_table.specs.Found.{scope_at}
 use Rattle.plan_sight.specs.Ready.{IsReady}
-use Rattle.plan_telling.proofs.SymbolLemmas.{each_found}
-use Rattle.point_states.specs.Plan.{Plan}
-use Rattle.point_states.specs.Task.TheVariants.{Leave}
-use Rattle.point_states.specs.Plans.{deployment_of, task_in, IsPlanned}
-use Rattle.point_states.specs.Numbers.{IsOfTable}
+use Rattle.scope_faults.proofs.SymbolLemmas.{each_found}
+use Rattle.task_aims.specs.Plan.{Plan}
+use Rattle.task_aims.specs.Task.TheVariants.{Leave}
+use Rattle.task_aims.specs.Plans.{deployment_of, task_in, IsPlanned}
+use Rattle.task_aims.specs.Numbers.{IsOfTable}
 use Rattle.deploy_histories.specs.Planned as histories
 use Rattle.deploy_histories.specs.Planned.{Planned}
 use Rattle.deploy_histories.specs.Events.{Event, Progress, progress, at_opening, IsDone}
 use Rattle.deploy_histories.specs.Legal.{IsLegal}
-use Rattle.history_plans.specs.Planned.{planned_by}
+use Rattle.task_aims.specs.Planned.{planned_by}
 use Rattle.point_values.specs.Seen.{IsSeen}
-use Rattle.point_rows.specs.declared.later.Entry.TheVariants as entry
 use Rattle.point_rows.specs.declared.later.Later.{Later}
 use Rattle.point_rows.specs.Rows.{known_now, IsFit}
 use Rattle.point_knowledge.specs.Steps.{IsBlank}
-use Rattle.scope_entries.specs.Entries.{line_cell, IsToldEntry, AreTold}
-use Rattle.scope_outputs.specs.Outputs.{names_of, AreNoted, IsKept, Leaves}
-use Rattle.scope_outputs.proofs.KeepLemmas.{noted_within}
+use Rattle.scope_faults.specs.Entries.{line_cell, IsToldEntry, AreTold}
+use Rattle.scope_faults.specs.Outputs.{names_of, AreNoted, IsKept, Leaves}
+use Rattle.scope_faults.proofs.KeepLemmas.{noted_within}
 use Rattle.task_standings.specs.Standings.{AreScopesSeen, IsScopeSeen}
 use Rattle.plan_standings.specs.Waits.{table_of, IsAtPoint}
 use Rattle.plan_standings.proofs.NumberedLemmas.{planned_task}
-use Rattle.plan_standings.specs.declared.noting.Outputs.{Outputs}
+use Rattle.plan_standings.specs.declared.leaving.Outputs.{Outputs}
 use Rattle.plan_standings.specs.declared.standings.PlanStandings.{PlanStandings}
 use Rattle.plan_standings.specs.Kept.{planned_of, known_of, IsSound, IsNoted}
 

@@ -10,3 +10,8 @@ pub mod LeaveLemmas
 pub mod LeftLemmas
 pub mod StandLemmas
 pub mod FailLemmas
+mod EndLemmas
+mod NeedLemmas
+mod EnterFailLemmas
+mod LeaveFailLemmas
+mod FailStepLemmas

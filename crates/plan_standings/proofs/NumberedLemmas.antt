@@ -19,11 +19,11 @@ use Rattle.plan_table.proofs.FrameLemmas.{open_frame}
 use Rattle.plan_table.specs.Whole.{scopes_of, IsLaid}
 use Rattle.plan_table.specs.Opened.{Opened}
 use Rattle.plan_table.specs.Found.{scope_at}
-use Rattle.point_states.specs.Task as plan
-use Rattle.point_states.specs.Task.TheVariants.{Enter, Put, Leave, Delete}
-use Rattle.point_states.specs.Plans.{task_in}
-use Rattle.point_states.specs.Numbers.{enter_tag, leave_tag, AreOfScopes}
-use Rattle.point_states.proofs.NumberLemmas.{first_has}
+use Rattle.task_aims.specs.Task as plan
+use Rattle.task_aims.specs.Task.TheVariants.{Enter, Put, Leave, Delete}
+use Rattle.task_aims.specs.Plans.{task_in}
+use Rattle.task_aims.specs.Numbers.{enter_tag, leave_tag, AreOfScopes}
+use Rattle.task_aims.proofs.NumberLemmas.{first_has}
 use Rattle.tag_places.specs.Places.{first_place}
 use Rattle.deploy_histories.specs.Planned.{Planned}
 use Rattle.deploy_histories.specs.Events.{Progress}
@@ -127,6 +127,11 @@ module _ (x : Planned) where
         → slice_get x.tasks v ≡ Some (leave (scope_at t f).position)
     leave_task f v e =
         ap (λ (ts : List Task). slice_get ts v) (sym tasks) ∙ planned_task (scopes_of t) us v (Leave f) e
+
+    -- each scope has a task that leaves it
+    pub leave_there : (f : ℕ) → f < length t.frames.items
+        → (v : ℕ) × (slice_get x.tasks v ≡ Some (leave (scope_at t f).position))
+    leave_there f h = let n = scopes.left f h in (n.0, leave_task f n.0 (leave_at us f n.0 n.1))
 
 -- ---- the leave of the scope of a line
 

@@ -1,4 +1,4 @@
--- What is told of the body of a put, and how the put stands by it.
+-- What is told of the body of a put, and the readiness of the put.
 use Rattle.std.proofs.Common.{◌≡◌, inl, ℕ, List, Option, Some, None, refl, sym, ap, subst, ◌∙◌, true}
 use Rattle.std.specs.Prelude.{slice_get, Result, Ok, Err, IfOk}
 use Rattle.std.specs.declared.alloc.AllocError.{AllocError}
@@ -25,22 +25,22 @@ use Rattle.plan_sight.specs.declared.lack.Lack.{Lack}
 use Rattle.plan_sight.specs.declared.lack.Lack.TheVariants as lack
 use Rattle.plan_sight.specs.Ready.{IsReady}
 use Rattle.plan_sight.specs.Seen.{Lacks}
-use Rattle.plan_telling.specs.Symbols.{IsComplete}
-use Rattle.point_states.specs.Plan.{Plan}
-use Rattle.point_states.specs.Task.TheVariants.{Put}
-use Rattle.point_states.specs.Plans.{deployment_of, IsPlanned}
-use Rattle.plan_numbers.specs.declared.numbers.Numbers.{Numbers}
-use Rattle.point_states.specs.Numbers.{IsOfTable}
+use Rattle.scope_faults.specs.Symbols.{IsComplete}
+use Rattle.task_aims.specs.Plan.{Plan}
+use Rattle.task_aims.specs.Task.TheVariants.{Put}
+use Rattle.task_aims.specs.Plans.{deployment_of, IsPlanned}
+use Rattle.task_aims.specs.Numbered.{TaskNumbers as Numbers}
+use Rattle.task_aims.specs.Numbers.{IsOfTable}
 use Rattle.deploy_histories.specs.Planned.{Planned}
 use Rattle.deploy_histories.specs.Events.{Event, Progress, progress, IsDone, is_waiting}
 use Rattle.deploy_histories.specs.Values.{TaskValue, a_body, task_values, body_reading, body_of, value_or_null}
 use Rattle.deploy_histories.specs.Readiness.{first_fault, fault_or, needs_first, readiness, ready}
-use Rattle.history_plans.specs.Planned.{planned_by}
+use Rattle.task_aims.specs.Planned.{planned_by}
 use Rattle.point_values.specs.Seen.{IsSeen}
 use Rattle.point_rows.specs.declared.later.Later.{Later}
 use Rattle.point_rows.specs.Rows.{known_now, told_now}
 use Rattle.point_rows.proofs.ToldNowLemmas.{told_pure, goes}
-use Rattle.point_sights.proofs.BodyLemmas.{members_read, body_is}
+use Rattle.scope_faults.proofs.BodyLemmas.{members_read, body_is}
 use Rattle.awaited_cells.proofs.ValueLemmas.{bodies_await}
 use Rattle.body_shapes.proofs.ShapeLemmas.{fits}
 use Rattle.task_standings.specs.Standings.{StandsAs, IsStanding}
@@ -98,7 +98,7 @@ module _ (t : Table) (l : Later) where
         (subst (λ z. Lacks {A = Json} t z (told_now t l (there_if (bodies (whole_of t) (scope_at t f).position
         (step r i))))) q h)
 
--- ---- how the put stands
+-- ---- the readiness of the put
 
 module _ (g : Plan) (held : List HeldResource) (n : Numbers) (h : List Event) (l : Later)
     (at : IsAtPoint g held n h l) (f : ℕ) (i : Instance)

@@ -1,4 +1,4 @@
--- How a task of a plan stands, by its number.
+-- The readiness of a task of a plan, by its number.
 use Rattle.std.proofs.Common.{◌≡◌, ℕ, ◌<◌, true, List, length, map, get_or, Option, Some, None, Ok, Err, Result, refl}
 use Rattle.std.proofs.Common.{sym, ap, subst, ◌∙◌}
 use Rattle.std.specs.Prelude.{slice_get, option_map, IfOk}
@@ -14,24 +14,24 @@ use Rattle.plan_cells.specs.Known as knowledge
 use Rattle.plan_cells.specs.Tasks as tasks
 use Rattle.plan_cells.specs.Tasks.{enter, leave, delete}
 use Rattle.plan_table.specs.Whole.{scopes_of}
-use Rattle.point_states.specs.Plan.{Plan}
-use Rattle.point_states.specs.Task.{Task}
-use Rattle.point_states.specs.Task.TheVariants.{Leave, Delete}
-use Rattle.point_states.specs.Plans.{task_in}
-use Rattle.point_states.specs.Numbers.{IsOfTable}
-use Rattle.point_states.proofs.NumberLemmas.{got}
-use Rattle.point_states.proofs.CheckLemmas.{each_at}
-use Rattle.plan_numbers.specs.declared.numbers.Numbers.{Numbers}
+use Rattle.task_aims.specs.Plan.{Plan}
+use Rattle.task_aims.specs.Task.{Task}
+use Rattle.task_aims.specs.Task.TheVariants.{Leave, Delete}
+use Rattle.task_aims.specs.Plans.{task_in}
+use Rattle.task_aims.specs.Numbers.{IsOfTable}
+use Rattle.task_aims.proofs.NumberLemmas.{got}
+use Rattle.task_aims.proofs.CheckLemmas.{each_at}
+use Rattle.task_aims.specs.Numbered.{TaskNumbers as Numbers}
 use Rattle.deploy_histories.specs.Planned.{Planned}
 use Rattle.deploy_histories.specs.Events.{Event, Progress, progress, IsDone, is_waiting}
 use Rattle.deploy_histories.specs.Values.{task_values, body_of}
 use Rattle.deploy_histories.specs.Readiness.{first_fault, needs_first, readiness, ready}
-use Rattle.history_plans.specs.Planned.{planned_by}
+use Rattle.task_aims.specs.Planned.{planned_by}
 use Rattle.point_values.specs.Seen.{IsSeen}
 use Rattle.point_rows.specs.declared.later.Later.{Later}
 use Rattle.point_rows.specs.Rows.{known_now}
-use Rattle.scope_entries.specs.Entries.{AreTold}
-use Rattle.scope_entries.proofs.GoesLemmas.{told_with_states}
+use Rattle.scope_faults.specs.Entries.{AreTold}
+use Rattle.scope_faults.proofs.GoesLemmas.{told_with_states}
 use Rattle.task_standings.specs.declared.standing.Standing.{Standing}
 use Rattle.task_standings.specs.declared.standing.Standing.TheVariants.{Ready, Waits, Stuck}
 use Rattle.task_standings.specs.Standings.{AreStartNeedsDone, IsStanding, Enters, Leaves, IsScopeSeen}
@@ -44,7 +44,7 @@ use Rattle.plan_standings.specs.Entering.{HasMore}
 use Rattle.plan_standings.specs.declared.leaving.Leaving.{Leaving}
 use Rattle.plan_standings.specs.declared.leaving.Leaving.TheVariants.{Told, Stands}
 use Rattle.plan_standings.specs.Leaving.{IsLeaving}
-use Rattle.plan_standings.specs.declared.noting.Outputs.{Outputs}
+use Rattle.plan_standings.specs.declared.leaving.Outputs.{Outputs}
 use Rattle.plan_standings.specs.Kept.{IsNoted, IsNotedBy}
 
 -- states that became known change nothing else

@@ -10,21 +10,21 @@ use Rattle.plan_cells.specs.Known as known
 use Rattle.plan_cells.specs.Children.{Has}
 use Rattle.plan_cells.specs.Tasks.{Task}
 use Rattle.plan_table.specs.declared.table.Table.{Table}
-use Rattle.point_states.specs.Plan.{Plan}
-use Rattle.point_states.specs.Plans.{deployment_of}
-use Rattle.plan_numbers.specs.declared.numbers.Numbers.{Numbers}
+use Rattle.task_aims.specs.Plan.{Plan}
+use Rattle.task_aims.specs.Plans.{deployment_of}
+use Rattle.task_aims.specs.Numbered.{TaskNumbers as Numbers}
 use Rattle.deploy_histories.specs.Planned.{Planned}
 use Rattle.deploy_histories.specs.Events.{Event, Progress, progress}
 use Rattle.deploy_histories.specs.Values.{TaskValue, task_values}
-use Rattle.history_plans.specs.Planned.{planned_by}
+use Rattle.task_aims.specs.Planned.{planned_by}
 use Rattle.point_values.specs.Seen.{IsSeen}
 use Rattle.point_rows.specs.declared.later.Later.{Later}
 use Rattle.point_rows.specs.Rows.{known_now, told_now, AreIndexed, IsFit, HasSame}
 use Rattle.point_rows.proofs.GrowthLemmas.{stays, stays_after, state_grows, same_known, same_grows}
 use Rattle.point_knowledge.proofs.StepLemmas.{state_seen}
-use Rattle.point_states.specs.Taken.{IsAsked, IsTaken}
-use Rattle.point_states.specs.declared.taking.Taken.{Taken}
-use Rattle.point_states.specs.declared.taking.Taken.TheVariants.{Known, Undone}
+use Rattle.task_aims.specs.Lookups.{IsAsked, IsTaken}
+use Rattle.task_aims.specs.Taken.{Taken}
+use Rattle.task_aims.specs.Taken.TheVariants.{Known, Undone}
 use Rattle.task_standings.specs.Standings.{StandsAs}
 use Rattle.task_standings.specs.declared.standing.Standing.TheVariants.{Waits}
 use Rattle.task_standings.proofs.Lasting.{scopes_stay}

@@ -149,6 +149,19 @@ module _ (x : Planned) (p : Progress) (t : Table) (l : Later) (planned : IsPlann
       (status_found (rows_in t) j begun.table.filled.sound.distinct
       (let n = length_rows (scopes_of t) t.lines.items in omega (arith, n, h)))
 
+  -- the cell of the line is given by the task that leaves its scope, which is not done
+  pub line_giver : (j : ℕ) → j < length t.lines.items
+      → known_now t l (cell_at (line_at t.lines.items j).spot) ≡ missing
+      → IsInSight x.deployment (known_now t l) (cell_at (line_at t.lines.items j).spot) → (v : ℕ)
+      → slice_get x.tasks v ≡ Some (leave (scope_at t (line_frame t j)).position)
+      → (done_status (p.status v) ≡ false)
+      × (is_given_by x.deployment (start_world x.known) (leave (scope_at t (line_frame t j)).position)
+      (cell_at (line_at t.lines.items j).spot) ≡ true)
+  line_giver j h m sight v has =
+      let s = (line_at t.lines.items j).spot in
+      let o = is_listed s (status_in (state_at t j)) (status_at j h) sight m in
+      (undone (done_status (p.status v)) (not_left s o sight m v has), given s o)
+
   -- a value of the task waits for the cell of the line, which the task gives that leaves its scope
   pub line_stands : (u : ℕ) (task : Task) (a : TaskValue) → Has a (task_values x.deployment task) → (j : ℕ)
       → j < length t.lines.items
@@ -158,14 +171,10 @@ module _ (x : Planned) (p : Progress) (t : Table) (l : Later) (planned : IsPlann
       → StandsAs x p (known_now t l) u task (Waits v)
   line_stands u task a is_value j h e sight v has =
       let s = (line_at t.lines.items j).spot in
-      let m = is_missing (known_now t l) a (cell_at s) e in
-      let o = is_listed s (status_in (state_at t j)) (status_at j h) sight m in (
-        undone (done_status (p.status v)) (not_left s o sight m v has),
+      let r = line_giver j h (is_missing (known_now t l) a (cell_at s) e) sight v has in (
+        r.0,
         (
           leave (scope_at t (line_frame t j)).position,
-          (
-            has,
-            record { awaiting = a; is_value = is_value; cell = cell_at s; is_awaited = e; is_given = given s o },
-          ),
+          (has, record { awaiting = a; is_value = is_value; cell = cell_at s; is_awaited = e; is_given = r.1 }),
         ),
       )

@@ -7,11 +7,11 @@ use Rattle.plan_cells.specs.Children.{Has}
 use Rattle.plan_cells.specs.Tasks.{Task}
 use Rattle.plan_sight.specs.declared.lack.Lack.{Lack}
 use Rattle.plan_sight.specs.Seen.{Lacks}
-use Rattle.point_states.specs.Plan.{Plan}
-use Rattle.point_states.specs.Plans.{deployment_of}
+use Rattle.task_aims.specs.Plan.{Plan}
+use Rattle.task_aims.specs.Plans.{deployment_of}
 use Rattle.deploy_histories.specs.Events.{Event, progress}
 use Rattle.deploy_histories.specs.Values.{TaskValue, task_values}
-use Rattle.history_plans.specs.Planned.{planned_by}
+use Rattle.task_aims.specs.Planned.{planned_by}
 use Rattle.point_rows.specs.declared.later.Later.{Later}
 use Rattle.point_rows.specs.Rows.{known_now, told_now}
 use Rattle.task_standings.specs.declared.standing.Standing.{Standing}
@@ -38,7 +38,7 @@ abbrev pub IsOneMore : {A : Type 0} → Later → Later → Option A → Type 0
 IsOneMore l m None = length m.states.items ≡ suc (length l.states.items)
 IsOneMore l m (Some s) = Unit {0}
 
--- how the task stands, which is not ready
+-- the readiness of the task, which is not ready
 abbrev pub IsAnswer : Plan → List HeldResource → List Event → Later → Later → ℕ → Task → Option Standing → Type 0
 IsAnswer g held h l m u task None = Unit {0}
 IsAnswer g held h l m u task (Some s) =

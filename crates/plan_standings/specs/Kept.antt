@@ -5,26 +5,26 @@ use Rattle.arm_value.specs.Json.{null}
 use Rattle.arm_value.specs.View.{json}
 use Rattle.arm_ids.specs.Held.{HeldResource}
 use Rattle.plan_cells.specs.Known as known
-use Rattle.point_states.specs.Plan.{Plan}
-use Rattle.point_states.specs.Task.TheVariants.{Leave}
-use Rattle.point_states.specs.Plans.{IsPlanned}
-use Rattle.point_states.specs.Numbers.{AreNumbers}
+use Rattle.task_aims.specs.Plan.{Plan}
+use Rattle.task_aims.specs.Task.TheVariants.{Leave}
+use Rattle.task_aims.specs.Plans.{IsPlanned}
+use Rattle.task_aims.specs.Numbers.{AreNumbers}
 use Rattle.deploy_histories.specs.Planned as histories
 use Rattle.deploy_histories.specs.Planned.{Planned}
 use Rattle.deploy_histories.specs.Events.{at_opening}
-use Rattle.history_plans.specs.Planned.{planned_by}
+use Rattle.task_aims.specs.Planned.{planned_by}
 use Rattle.point_values.specs.Seen.{IsSeen}
 use Rattle.point_rows.specs.declared.later.Later.{Later}
 use Rattle.point_rows.specs.Rows.{known_now, IsFit}
 use Rattle.point_knowledge.specs.Steps.{IsBlank}
-use Rattle.scope_entries.specs.Entries.{AreTold}
-use Rattle.scope_outputs.specs.Outputs.{names_of, AreNoted}
+use Rattle.scope_faults.specs.Entries.{AreTold}
+use Rattle.scope_faults.specs.Outputs.{names_of, AreNoted}
 use Rattle.task_standings.specs.declared.standing.Standing.{Standing}
 use Rattle.task_standings.specs.declared.standing.Standing.TheVariants.{Ready, Waits, Stuck}
 use Rattle.plan_standings.specs.Waits.{table_of}
 use Rattle.plan_standings.specs.declared.leaving.Leaving.{Leaving}
 use Rattle.plan_standings.specs.declared.leaving.Leaving.TheVariants.{Told, Stands}
-use Rattle.plan_standings.specs.declared.noting.Outputs.{Outputs}
+use Rattle.plan_standings.specs.declared.leaving.Outputs.{Outputs}
 use Rattle.plan_standings.specs.declared.standings.PlanStandings.{PlanStandings}
 use Rattle.plan_standings.specs.declared.standings.Parts.{Parts}
 
@@ -56,7 +56,7 @@ pub record IsNoted (g : Plan) (l : Later) (o : Option Outputs) (u : ℕ) : Type 
 abbrev pub HasNoted : PlanStandings → ℕ → Type 0
 HasNoted s u = IsNoted s.plan.now s.later s.noted u
 
--- how a task stands that leaves a scope: its outputs are noted where each is told
+-- the readiness of a task that leaves a scope: its outputs are noted where each is told
 abbrev pub IsReadyWith : Option Outputs → Outputs → Standing → Type 0
 IsReadyWith o n (Ready v) = (o ≡ Some n) × (json v ≡ null)
 IsReadyWith o n (Waits v) = ⊥

@@ -1,15 +1,15 @@
--- How the leave of a scope stands at a point of a deployment.
+-- The readiness of the leave of a scope at a point of a deployment.
 use Rattle.std.specs.Prelude.{◌≡◌, ℕ, List, Option, Some, None}
 use Rattle.arm_value.specs.Json.{null}
 use Rattle.arm_value.specs.View.{json}
 use Rattle.arm_value.specs.declared.value.Value.{Value}
 use Rattle.arm_ids.specs.Held.{HeldResource}
-use Rattle.point_states.specs.Plan.{Plan}
+use Rattle.task_aims.specs.Plan.{Plan}
 use Rattle.deploy_histories.specs.Events.{Event, progress}
-use Rattle.history_plans.specs.Planned.{planned_by}
+use Rattle.task_aims.specs.Planned.{planned_by}
 use Rattle.point_rows.specs.declared.later.Later.{Later}
 use Rattle.point_rows.specs.Rows.{known_now}
-use Rattle.scope_outputs.specs.Outputs.{names_of, AreNoted}
+use Rattle.scope_faults.specs.Outputs.{names_of, AreNoted}
 use Rattle.task_standings.specs.declared.standing.Standing.TheVariants.{Ready}
 use Rattle.task_standings.specs.Standings.{IsStanding}
 use Rattle.plan_standings.specs.Waits.{table_of}
@@ -17,7 +17,8 @@ use Rattle.plan_standings.specs.Answers.{IsUnready}
 use Rattle.plan_standings.specs.declared.leaving.Leaving.{Leaving}
 use Rattle.plan_standings.specs.declared.leaving.Leaving.TheVariants.{Told, Stands}
 
--- the outputs of the scope are told, and the task of the number is ready with null; or it is not ready, and stands so
+-- the outputs of the scope are told, and the task of the number is ready with null; or it is not ready, and this is
+-- returned
 abbrev pub IsLeaving : Plan → List HeldResource → List Event → Later → ℕ → ℕ → Leaving → Type 0
 IsLeaving g held h m f u (Told ns) =
     AreNoted (table_of g) m f (names_of (table_of g) f) ns.items

@@ -6,3 +6,4 @@ pub mod Leaving
 pub mod Kept
 pub mod Tells
 pub mod Ended
+pub mod Needing

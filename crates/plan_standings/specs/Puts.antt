@@ -1,4 +1,4 @@
--- How a put stands at a point of a deployment.
+-- The readiness of a put at a point of a deployment.
 use Rattle.std.specs.Prelude.{◌≡◌, ℕ, List, Option, Some, None}
 use Rattle.arm_ids.specs.Held.{HeldResource}
 use Rattle.reading.specs.Knowledge.{no_value}
@@ -8,16 +8,16 @@ use Rattle.plan_table.specs.declared.frame.Instance.{Instance}
 use Rattle.plan_table.specs.Opened.{step_of}
 use Rattle.plan_table.specs.Whole.{whole_of}
 use Rattle.plan_table.specs.Found.{scope_at}
-use Rattle.point_states.specs.Plan.{Plan}
+use Rattle.task_aims.specs.Plan.{Plan}
 use Rattle.deploy_histories.specs.Events.{Event, progress}
-use Rattle.history_plans.specs.Planned.{planned_by}
+use Rattle.task_aims.specs.Planned.{planned_by}
 use Rattle.point_rows.specs.declared.later.Later.{Later}
 use Rattle.point_rows.specs.Rows.{known_now, told_now}
 use Rattle.task_standings.specs.declared.standing.Standing.{Standing}
 use Rattle.task_standings.specs.Standings.{IsStanding}
 use Rattle.plan_standings.specs.Waits.{table_of}
 
--- how the task stands, if that is returned
+-- the readiness of the task, if that is returned
 abbrev pub IsLookAt : Plan → List HeldResource → List Event → Later → Later → ℕ → Option Standing → Type 0
 IsLookAt g held h l m u None = Unit {0}
 IsLookAt g held h l m u (Some s) =

@@ -4,10 +4,10 @@ use Rattle.template_parts.specs.declared.fault.BindFault.{BindFault}
 use Rattle.plan_cells.specs.Tasks.{Task, enter, leave, put, delete}
 use Rattle.plan_paths.specs.Texts.{a_path, instance_text}
 use Rattle.plan_paths.specs.CellPaths.{cell_path}
-use Rattle.plan_faults.specs.Rules.{broken}
 use Rattle.deploy_histories.specs.Planned.{Planned}
 use Rattle.deploy_histories.specs.Values.{Part, a_body, a_cell}
 use Rattle.deploy_histories.specs.Readiness.{Fault, lacks, breaks}
+use Rattle.scope_faults.specs.Faults.{broken_by}
 use Rattle.task_standings.specs.declared.standing.TaskFault.{TaskFault}
 use Rattle.task_standings.specs.declared.standing.TaskFault.TheVariants.{NoValue, Unsuited}
 use Rattle.task_standings.specs.Failures.{Tells}
@@ -28,7 +28,7 @@ part_path x task (a_cell c) = cell_path x.deployment.template c
 abbrev pub SaysFault : Planned → Task → Fault → TaskFault → Type 0
 SaysFault x task (lacks a) said = said ≡ NoValue (part_path x task a)
 SaysFault x task (breaks c j) said =
-    (b : BindFault) × ((broken x.deployment c j ≡ Some b) × (said ≡ Unsuited (cell_path x.deployment.template c) b))
+    (b : BindFault) × ((broken_by x.deployment c j ≡ Some b) × (said ≡ Unsuited (cell_path x.deployment.template c) b))
 
 -- of the task of the number
 abbrev pub tells : Tells

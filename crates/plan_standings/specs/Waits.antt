@@ -14,16 +14,16 @@ use Rattle.plan_table.specs.declared.line.Spot.TheVariants.{Name, Deployments}
 use Rattle.plan_table.specs.Lines.{frame_of, line_at}
 use Rattle.plan_table.specs.Whole.{whole_of}
 use Rattle.plan_tasks.specs.Start.{start_of, IsStartTable}
-use Rattle.point_states.specs.Plan.{Plan}
-use Rattle.point_states.specs.Task.{Task}
-use Rattle.point_states.specs.Plans.{IsPlanned}
-use Rattle.plan_numbers.specs.declared.numbers.Numbers.{Numbers}
-use Rattle.point_states.specs.Numbers.{AreNumbers}
+use Rattle.task_aims.specs.Plan.{Plan}
+use Rattle.task_aims.specs.Task.{Task}
+use Rattle.task_aims.specs.Plans.{IsPlanned}
+use Rattle.task_aims.specs.Numbered.{TaskNumbers as Numbers}
+use Rattle.task_aims.specs.Numbers.{AreNumbers}
 use Rattle.deploy_histories.specs.Planned as histories
 use Rattle.deploy_histories.specs.Planned.{Planned}
 use Rattle.deploy_histories.specs.Events.{Event, Progress, progress, is_waiting, IsDone}
 use Rattle.deploy_histories.specs.Legal.{IsLegal}
-use Rattle.history_plans.specs.Planned.{planned_by}
+use Rattle.task_aims.specs.Planned.{planned_by}
 use Rattle.point_values.specs.Seen.{IsSeen}
 use Rattle.point_rows.specs.declared.later.Later.{Later}
 use Rattle.point_rows.specs.Rows.{known_now, IsFit}

@@ -1,21 +1,23 @@
 // What is known of a plan at a point of its deployment.
-ghost use Rattle.std.specs.Prelude.{◌≡◌, ◌<◌, ℕ, length, slice_get, option_map, IfOk, MatchOption, Some};
+ghost use Rattle.std.specs.Prelude.{◌≡◌, ◌<◌, length, slice_get, option_map, IfOk, MatchOption, None, Some};
 ghost use Rattle.reading.specs.Knowledge.{Grows};
-ghost use Rattle.point_states.specs.Plans.{IsPlanned};
-ghost use Rattle.point_states.specs.Numbers.{AreOfScopes};
+ghost use Rattle.task_aims.specs.Plans.{IsPlanned};
+ghost use Rattle.task_aims.specs.Numbers.{AreOfScopes};
 ghost use Rattle.deploy_histories.specs.Planned as histories;
 ghost use Rattle.deploy_histories.specs.Events.{is_waiting, progress, IsDone};
-ghost use Rattle.deploy_histories.specs.Legal.{IsLegal};
-ghost use Rattle.history_plans.specs.Planned.{planned_by};
+ghost use Rattle.deploy_histories.specs.Legal.{IsLegal, NothingMay};
+ghost use Rattle.task_aims.specs.Planned.{planned_by};
 ghost use Rattle.point_values.specs.Seen.{IsSeen};
 ghost use Rattle.task_standings.specs.Standings.{kind_of, AreStartNeedsDone, IsStanding, Enters, Leaves, IsScopeSeen};
 ghost use Rattle.task_standings.specs.Standings.{AreScopesSeen};
+ghost use Rattle.task_standings.specs.Failures.{IsFailing};
 ghost use Rattle.plan_standings.specs.Waits.{table_of};
+ghost use Rattle.plan_standings.specs.Tells.{tells};
 ghost use Rattle.plan_standings.specs.Kept.{planned_of, known_of, IsSound, HasNoted, IsNew, AreFirst};
 
-use crate::kinds::{count_of, kind_at};
-use crate::noting::{Outputs, keep_noted};
-use crate::standing::task_standing;
+use crate::failing::task_failing;
+use crate::leaving::{Outputs, keep_noted};
+use crate::readiness::{count_of, kind_at, task_standing};
 use arm_ids::Held;
 use arm_value::OutOfMemory;
 use board_history::History;
@@ -23,12 +25,12 @@ use history_starts::laws::leaves_once;
 use point_knowledge::laws::opening_is_seen;
 use point_rows::keeping::nothing;
 use point_rows::later::Later;
-use point_states::{Numbers, Plan, number_tasks};
 use std::alloc::Global;
-use task_standings::{Kind, Standing};
+use task_aims::{Numbers, Plan, number_tasks};
+use task_standings::{Failing, Kind, Standing};
 use template_parts::run_out;
 
-/// What is known of a plan at a point of its deployment over what is held, by which its tasks stand.
+/// What is known of a plan at a point of its deployment over what is held.
 #[derive(Drop)]
 pub struct PlanStandings<'p, 'a> {
     pub(crate) plan: &'p Plan<'a>,
@@ -104,8 +106,8 @@ impl<'p, 'a> PlanStandings<'p, 'a> {
         kind_at(self.plan.tasks.as_slice(), task)
     }
 
-    /// How the task stands after this history. It may look at the states that are stored in it. What is known of the
-    /// scopes that were entered and left stays known.
+    /// The readiness of the task after this history. It may look at the states that are stored in it. What is known of
+    /// the scopes that were entered and left stays known.
     pub fn task_standing(
         &mut self,
         alloc: Global,
@@ -137,6 +139,42 @@ impl<'p, 'a> PlanStandings<'p, 'a> {
             history,
             &mut self.later,
             &mut self.noted,
+            task,
+        )
+    }
+
+    /// Why the task cannot begin after this history, in which no answer has refused and by which nothing more may come.
+    /// It may look at the states that are stored in it. What is known of the scopes that were entered and left stays
+    /// known.
+    pub fn task_failing(
+        &mut self,
+        alloc: Global,
+        history: &History,
+        task: u32,
+    ) -> Result<Failing, OutOfMemory>
+        requires sound { IsSound self.old }
+        requires within { task < length (planned_of self.old).tasks }
+        requires legal { IsLegal (planned_of self.old) history.now.events }
+        requires waits { (progress history.now.events).status task ≡ is_waiting }
+        requires unrefused { (progress history.now.events).refusal ≡ None }
+        requires over { NothingMay (planned_of self.old) (progress history.now.events) }
+        requires needs { AreStartNeedsDone (planned_of self.old) (progress history.now.events) task }
+        requires seen { IsSeen (planned_of self.old) (progress history.now.events) (known_of self.old) }
+        requires scopes { AreScopesSeen (planned_of self.old) (progress history.now.events) (known_of self.old) }
+        ensures sound { IsSound self.new }
+        ensures planned { planned_of self.new ≡ planned_of self.old }
+        ensures seen { IsSeen (planned_of self.old) (progress history.now.events) (known_of self.new) }
+        ensures grows { Grows (known_of self.old) (known_of self.new) }
+        ensures failing { IfOk result
+            (IsFailing tells (planned_of self.old) (progress history.now.events) task) }
+    {
+        task_failing(
+            alloc,
+            self.plan,
+            &self.numbers,
+            self.held,
+            history,
+            &mut self.later,
             task,
         )
     }

@@ -6,3 +6,6 @@
 
 pub mod parameters;
 pub mod values;
+
+pub use plan_values::declared;
+pub use point_sights::{body, register};

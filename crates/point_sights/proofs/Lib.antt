@@ -1,2 +1,3 @@
 mod TellNowLemmas
 pub mod BodyLemmas
+pub use Rattle.plan_telling.proofs.SymbolLemmas

@@ -23,7 +23,7 @@ use Rattle.plan_numbers.specs.Numbers.{key_tag, put_tags}
 use Rattle.deploy_histories.specs.Planned.{Planned, IsPlanned}
 use Rattle.history_laws.proofs.Puts.{deletes_alone}
 use Rattle.history_starts.proofs.Start.{the_list}
-use Rattle.point_states.specs.Taken.{tag_in}
+use Rattle.point_states.specs.Lookups.{tag_in}
 
 same_list : {A : Type 0} (a b : A) → Some a ≡ Some b → a ≡ b
 same_list a b e = cc

@@ -46,7 +46,7 @@ use Rattle.history_starts.proofs.Start.{HasList, the_list}
 use Rattle.point_rows.specs.declared.later.StateAt.{StateAt}
 use Rattle.point_knowledge.specs.Steps.{IsStateThen}
 use Rattle.point_rows.specs.declared.later.Later.{Later}
-use Rattle.point_states.specs.Taken.{tag_in, Keeps, IsStored, IsAsked, IsTaken}
+use Rattle.point_states.specs.Lookups.{tag_in, Keeps, IsStored, IsAsked, IsTaken}
 use Rattle.point_states.specs.declared.taking.Taken.{Taken}
 use Rattle.point_states.specs.declared.taking.Taken.TheVariants.{Known, Undone}
 use Rattle.point_states.proofs.TagLemmas.{plan_tags}

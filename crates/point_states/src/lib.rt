@@ -1,6 +1,6 @@
 //! The states that values wait for, at a point of a deployment.
 //!
-//! `take_state` looks a state up in the history where a task puts it, else in what is held, and keeps it. `specs/Taken`
+//! `take_state` looks a state up in the history where a task puts it, else in what is held, and keeps it. `specs/Lookups`
 //! has the definitions.
 #![tactic(auto)]
 

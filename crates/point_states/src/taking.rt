@@ -8,7 +8,7 @@ ghost use Rattle.plan_numbers.specs.Task.{Task};
 ghost use Rattle.deploy_histories.specs.Planned.{Planned};
 ghost use Rattle.deploy_histories.specs.Events.{progress, state_in};
 ghost use Rattle.point_rows.specs.Rows.{AreIndexed, HasSame};
-ghost use Rattle.point_states.specs.Taken.{Keeps, IsStored, IsAsked, IsTaken};
+ghost use Rattle.point_states.specs.Lookups.{Keeps, IsStored, IsAsked, IsTaken};
 
 use arm_ids::{Held, Key};
 use arm_value::{OutOfMemory, Value};

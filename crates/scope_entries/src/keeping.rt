@@ -2,7 +2,7 @@
 ghost use Rattle.std.specs.Prelude.{◌≡◌, ◌<◌, length, true, false, IfOk};
 ghost use Rattle.plan_table.specs.Lines.{line_at};
 ghost use Rattle.plan_sight.specs.Ready.{IsReady};
-ghost use Rattle.plan_telling.specs.Symbols.{IsComplete};
+ghost use Rattle.point_cells.specs.Symbols.{IsComplete};
 ghost use Rattle.point_rows.specs.declared.later.Entry.TheVariants.{Away, Missing};
 ghost use Rattle.point_rows.specs.Rows.{entry_at, IsFit};
 ghost use Rattle.point_knowledge.specs.Steps.{AddsEntry, AddsValue};
@@ -16,7 +16,7 @@ use arm_value::{OutOfMemory, Value};
 use plan_filling::sheet::Answer;
 use plan_table::line::Spot;
 use plan_table::table::Table;
-use plan_telling::register::Register;
+use point_cells::register::Register;
 use point_rows::later::{Entry, Later};
 use std::alloc::Global;
 

@@ -9,4 +9,4 @@ pub mod keeping;
 pub mod lines;
 pub mod settling;
 
-pub use point_cells::values;
+pub use point_cells::{body, declared, register, values};

@@ -1,6 +1,6 @@
 // The parameters and variables of a scope are told until each has a value, or one of them waits or has none.
 ghost use Rattle.std.specs.Prelude.{◌≡◌, ◌<◌, length, IfOk};
-ghost use Rattle.plan_telling.specs.Symbols.{IsComplete};
+ghost use Rattle.point_cells.specs.Symbols.{IsComplete};
 ghost use Rattle.point_rows.specs.Rows.{IsFit};
 ghost use Rattle.scope_entries.specs.Entries.{AreTold, Goes, AreOwnLines, AreCovered, IsSettling, IsRoundOf};
 
@@ -9,7 +9,7 @@ use crate::lines::lines_of;
 use arm_env::stop::let_go;
 use arm_ids::Key;
 use arm_value::OutOfMemory;
-use plan_telling::register::Register;
+use point_cells::register::Register;
 use point_rows::later::Later;
 use std::alloc::Global;
 

@@ -31,11 +31,11 @@ use Rattle.point_rows.specs.Rows.{entry_at, state_row, settled, line_rows, known
 use Rattle.point_rows.proofs.RowsNowLemmas.{indexed_on}
 use Rattle.point_rows.proofs.GrowthLemmas.{stays}
 use Rattle.point_knowledge.proofs.StepLemmas.{after_rows, lines_more}
-use Rattle.scope_entries.specs.Entries.{line_cell, own_of, cells_at, IsOwnLine, AreOwnLines, AreLinesOf}
-use Rattle.scope_entries.specs.Entries.{AreTold, IsToldEntry, IsAnswerNow}
-use Rattle.scope_entries.proofs.GoesLemmas.{entry_set, length_set, settled_stays, settled_there, absent_there, known_at}
-use Rattle.scope_entries.proofs.GoesLemmas.{told_entry_on}
-use Rattle.scope_entries.proofs.OwnLemmas.{own_entry, own_line}
+use Rattle.scope_outputs.specs.Entries.{line_cell, own_of, cells_at, IsOwnLine, AreOwnLines, AreLinesOf}
+use Rattle.scope_outputs.specs.Entries.{AreTold, IsToldEntry, IsAnswerNow}
+use Rattle.scope_outputs.proofs.GoesLemmas.{entry_set, length_set, settled_stays, settled_there, absent_there, known_at}
+use Rattle.scope_outputs.proofs.GoesLemmas.{told_entry_on}
+use Rattle.scope_outputs.proofs.OwnLemmas.{own_entry, own_line}
 use Rattle.scope_faults.specs.Circles.{is_open, open_of, set_all, AreOpenLines, IsVacated, NeverWaits, IsLineLack}
 use Rattle.scope_faults.specs.Circles.{AreLineLacks, IsLackOf, IsCircleLack}
 

@@ -32,8 +32,8 @@ use Rattle.plan_paths.proofs.NamedLemmas.{parameter_is}
 use Rattle.plan_faults.specs.Rules.{fault_of, parameter_fault}
 use Rattle.point_rows.specs.declared.later.Entry.TheVariants as entry
 use Rattle.point_rows.specs.declared.later.Later.{Later}
-use Rattle.scope_entries.specs.Entries.{line_cell, plain_now, cells_at, IsAnswerNow, IsToldEntry, IsOwnLine, AreLinesOf}
-use Rattle.scope_entries.proofs.AnswerNowLemmas.{meets}
+use Rattle.scope_outputs.specs.Entries.{line_cell, plain_now, cells_at, IsAnswerNow, IsToldEntry, IsOwnLine, AreLinesOf}
+use Rattle.scope_outputs.proofs.AnswerNowLemmas.{meets}
 use Rattle.scope_faults.specs.Faults.{raw_told, broken_by, IsBroken, HasValue, HasNone, IsValued, IsFirst, IsFirstLine}
 use Rattle.scope_faults.specs.Faults.{IsEntryFault, SaysCell}
 use Rattle.scope_faults.proofs.CircleLemmas.{each_has, has_at}

@@ -32,14 +32,14 @@ use Rattle.plan_table.specs.declared.table.Table.{Table}
 use Rattle.plan_table.specs.Lines.{name_at}
 use Rattle.plan_table.specs.Whole.{whole_of}
 use Rattle.plan_table.specs.Found.{scope_at}
-use Rattle.plan_values.proofs.ValueLemmas.{output_within}
+use Rattle.scope_outputs.proofs.ValueLemmas.{output_within}
 use Rattle.point_rows.specs.declared.later.Entry.{Entry}
 use Rattle.point_rows.specs.declared.later.Entry.TheVariants as entry
 use Rattle.point_rows.specs.declared.later.Later.{Later}
 use Rattle.point_rows.specs.Rows.{told_now}
-use Rattle.scope_entries.specs.RawNow.{raw_now}
-use Rattle.scope_entries.specs.Entries.{plain_now}
-use Rattle.scope_entries.proofs.OwnLemmas.{name_has}
+use Rattle.scope_outputs.specs.RawNow.{raw_now}
+use Rattle.scope_outputs.specs.Entries.{plain_now}
+use Rattle.scope_outputs.proofs.OwnLemmas.{name_has}
 use Rattle.scope_outputs.specs.Outputs.{position_of, names_of, reading_of, IsOffered}
 use Rattle.scope_outputs.proofs.TellLemmas.{value_is, condition_lacks, offered_value_told, offered_away_told}
 use Rattle.scope_faults.specs.declared.outputs.OutputLook.TheVariants as look

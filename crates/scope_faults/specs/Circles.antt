@@ -16,7 +16,7 @@ use Rattle.point_rows.specs.declared.later.Entry.{Entry}
 use Rattle.point_rows.specs.declared.later.Entry.TheVariants as entry
 use Rattle.point_rows.specs.declared.later.Later.{Later}
 use Rattle.point_rows.specs.Rows.{entry_at, known_now}
-use Rattle.scope_entries.specs.Entries.{line_cell, plain_now, own_of, cells_at, IsOwnLine, AreOwnLines}
+use Rattle.scope_outputs.specs.Entries.{line_cell, plain_now, own_of, cells_at, IsOwnLine, AreOwnLines}
 
 abbrev pub is_open : Entry → Bool
 is_open entry.Missing = true

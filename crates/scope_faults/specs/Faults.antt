@@ -21,7 +21,7 @@ use Rattle.plan_paths.specs.CellPaths.{cell_path}
 use Rattle.plan_faults.specs.Rules.{broken, wrong_unless}
 use Rattle.point_rows.specs.declared.later.Later.{Later}
 use Rattle.point_rows.specs.Rows.{told_now}
-use Rattle.scope_entries.specs.Entries.{plain_now, own_of, line_cell}
+use Rattle.scope_outputs.specs.Entries.{plain_now, own_of, line_cell}
 use Rattle.scope_outputs.specs.Outputs.{position_of, names_of, reading_of}
 use Rattle.task_standings.specs.declared.standing.TaskFault.{TaskFault}
 use Rattle.task_standings.specs.declared.standing.TaskFault.TheVariants.{NoValue, Unsuited}

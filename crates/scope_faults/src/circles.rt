@@ -4,11 +4,11 @@ ghost use Rattle.reading.specs.World.{Each};
 ghost use Rattle.deploy_cells.specs.Cells.{Cell};
 ghost use Rattle.plan_table.specs.declared.table.Table as tables;
 ghost use Rattle.plan_sight.specs.Ready.{IsReady};
-ghost use Rattle.plan_telling.specs.Symbols.{IsComplete};
+ghost use Rattle.scope_outputs.specs.Symbols.{IsComplete};
 ghost use Rattle.point_rows.specs.declared.later.Later as laters;
 ghost use Rattle.point_rows.specs.declared.later.Entry.TheVariants.{Away, Missing};
 ghost use Rattle.point_rows.specs.Rows.{entry_at, IsFit};
-ghost use Rattle.scope_entries.specs.Entries.{AreTold, AreOwnLines, IsAnswerNow};
+ghost use Rattle.scope_outputs.specs.Entries.{AreTold, AreOwnLines, IsAnswerNow};
 ghost use Rattle.scope_faults.specs.Circles.{is_open, open_of, set_all, IsLineLack, AreLineLacks, AreOpenLines};
 ghost use Rattle.scope_faults.specs.Circles.{IsCircleLack};
 
@@ -17,10 +17,10 @@ use arm_value::OutOfMemory;
 use plan_filling::sheet::Answer;
 use plan_sight::lack::Lack;
 use plan_table::table::Table;
-use plan_telling::register::Register;
 use point_rows::later::{Entry, Later};
-use scope_entries::answer::entry_told;
-use scope_entries::lines::lines_of;
+use scope_outputs::answer::entry_told;
+use scope_outputs::lines::lines_of;
+use scope_outputs::register::Register;
 use std::alloc::Global;
 
 // Whether the line has no entry.

@@ -10,3 +10,5 @@ pub mod entries;
 pub mod outputs;
 mod paths;
 mod values;
+
+pub use scope_outputs::{body, keeping, offering, settling, telling};

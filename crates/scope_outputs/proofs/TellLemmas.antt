@@ -31,7 +31,7 @@ use Rattle.plan_sight.specs.Ready.{IsReady}
 use Rattle.plan_sight.specs.Seen.{Stops}
 use Rattle.plan_sight.proofs.LookLemmas.{scopes_there}
 use Rattle.plan_sight.proofs.RuleLemmas.{found_own, own_names}
-use Rattle.plan_values.proofs.RawLemmas.{raw_offered, raw_output}
+use Rattle.scope_entries.proofs.RawLemmas.{raw_offered, raw_output}
 use Rattle.deploy_histories.specs.Values.{where_offered}
 use Rattle.point_rows.specs.declared.later.Entry.TheVariants as entry
 use Rattle.point_rows.specs.declared.later.Later.{Later}

@@ -8,3 +8,5 @@
 pub mod keeping;
 pub mod offering;
 pub mod telling;
+
+pub use scope_entries::{answer, body, declared, lines, register, settling, values};

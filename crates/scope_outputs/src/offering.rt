@@ -7,7 +7,7 @@ ghost use Rattle.plan_table.specs.declared.table.Table.{Table};
 ghost use Rattle.plan_table.specs.Found.{IsLineOf};
 ghost use Rattle.plan_table.specs.Lines.{name_at};
 ghost use Rattle.plan_sight.specs.Seen.{Stops};
-ghost use Rattle.plan_telling.specs.Symbols.{IsComplete};
+ghost use Rattle.scope_entries.specs.Symbols.{IsComplete};
 ghost use Rattle.point_rows.specs.declared.later.Later.{Later};
 ghost use Rattle.point_rows.specs.Rows.{told_now, IsFit};
 ghost use Rattle.scope_outputs.specs.Outputs.{names_of, position_of, reading_of, IsNoteOf, IsOffering};
@@ -17,9 +17,9 @@ use arm_env::stop::let_go;
 use arm_ids::Key;
 use arm_value::OutOfMemory;
 use plan_sight::lack::Lack;
-use plan_telling::register::Register;
-use plan_values::declared::output_at;
 use point_rows::later::Later;
+use scope_entries::declared::output_at;
+use scope_entries::register::Register;
 use std::alloc::{AllocError, Global};
 
 /// Whether the outputs of a scope are told, or what one of them lacks.

@@ -32,14 +32,14 @@ use Rattle.plan_tasks.specs.Start.{start_of, IsStartTable, IsInstance}
 use Rattle.plan_tasks.proofs.TableLemmas.{line_known, line_is}
 use Rattle.plan_tasks.proofs.BodyLemmas.{listed_is}
 use Rattle.plan_needs.proofs.InstanceLemmas.{title, listed_there, name_there}
-use Rattle.history_plans.specs.Plan.{Plan}
-use Rattle.history_plans.specs.Task.{Task}
-use Rattle.history_plans.specs.Plans.{task_in, IsTaskIn, IsPlanned}
+use Rattle.point_states.specs.Plan.{Plan}
+use Rattle.point_states.specs.Task.{Task}
+use Rattle.point_states.specs.Plans.{task_in, IsTaskIn, IsPlanned}
 use Rattle.plan_telling.proofs.SymbolLemmas.{each_found}
 use Rattle.plan_paths.specs.Texts.{a_position, scope_text}
 use Rattle.deploy_histories.specs.Planned.{Planned}
 use Rattle.deploy_histories.specs.Outcome.{Target, target, target_of, put_target, delete_target}
-use Rattle.history_plans.specs.Planned.{planned_by}
+use Rattle.point_states.specs.Planned.{planned_by}
 use Rattle.task_standings.specs.Standings.{scope_of}
 use Rattle.task_standings.specs.declared.standing.Aim.{Aim}
 use Rattle.task_aims.specs.Aims.{target_by, named_target, IsAimOf, said_by, target_at, place_text}

@@ -20,8 +20,8 @@ use Rattle.plan_table.specs.Listed.{listed_of}
 use Rattle.plan_table.specs.Whole.{whole_of}
 use Rattle.plan_table.specs.Found.{scope_at}
 use Rattle.plan_tasks.specs.Start.{start_of}
-use Rattle.history_plans.specs.Plan.{Plan}
-use Rattle.history_plans.specs.Plans.{work_in}
+use Rattle.point_states.specs.Plan.{Plan}
+use Rattle.point_states.specs.Plans.{work_in}
 use Rattle.plan_paths.specs.Texts.{a_position, scope_text}
 use Rattle.deploy_histories.specs.Outcome.{Target, put_target}
 use Rattle.task_standings.specs.declared.standing.Aim.{Aim}

@@ -1,1 +1,9 @@
 pub mod Aims
+pub use Rattle.point_states.specs.Lookups
+pub use Rattle.point_states.specs.Numbered
+pub use Rattle.point_states.specs.Numbers
+pub use Rattle.point_states.specs.Plan
+pub use Rattle.point_states.specs.Planned
+pub use Rattle.point_states.specs.Plans
+pub use Rattle.point_states.specs.Task
+pub use Rattle.point_states.specs.declared.taking.Taken

@@ -9,3 +9,4 @@ mod places;
 
 pub use aims::aim_of;
 pub use places::place_of;
+pub use point_states::{Numbers, Plan, Taken, Task, leave_of, number_tasks, take_state};

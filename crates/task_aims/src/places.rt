@@ -2,12 +2,12 @@
 ghost use Rattle.std.specs.Prelude.{◌≡◌, ℕ, List, IfOk, Some};
 ghost use Rattle.reading.specs.World.{Each};
 ghost use Rattle.plan_table.specs.Whole.{IsLaid};
-ghost use Rattle.history_plans.specs.Plans.{IsTaskIn};
+ghost use Rattle.point_states.specs.Plans.{IsTaskIn};
 ghost use Rattle.task_aims.specs.Aims.{place_text};
 
 use arm_value::{OutOfMemory, Text};
-use history_plans::{Plan, Task};
 use plan_positions::scope_position;
+use point_states::{Plan, Task};
 use std::alloc::Global;
 
 /// The position of the scope that the task of a number enters or leaves; that of the root is empty.

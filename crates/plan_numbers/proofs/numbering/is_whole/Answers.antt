@@ -1,7 +1,7 @@
 use Rattle.std.proofs.Common.{List, ◌≤◌, sym, subst, map, length, ◌∙◌}
 use Rattle.std.specs.Prelude.{Decides}
 use Rattle.reading.specs.World.{Each}
-use Rattle.plan_assembly.specs.declared.plan.Task.{Task}
+use Rattle.history_plans.specs.Task.{Task}
 use Rattle.plan_numbers.specs.Numbers.{enter_tag, leave_tag, IsOfTable, AreOfScopes}
 use Rattle.plan_numbers.proofs.NumberLemmas.{whole}
 use Rattle.plan_numbers.proofs.numbering.is_whole.Goals as goal

@@ -1,6 +1,6 @@
 use Rattle.std.proofs.Common.{Bool, Some, refl, sym, subst, ◌∙◌}
 use Rattle.std.proofs.lemmas.Bool.{ltb-true, ltb-false}
-use Rattle.plan_assembly.specs.declared.plan.Task.TheVariants.{Enter, Leave, Delete}
+use Rattle.history_plans.specs.Task.TheVariants.{Enter, Leave, Delete}
 use Rattle.plan_numbers.specs.Numbers.{put_tags}
 use Rattle.plan_numbers.specs.Steps.{AddsKey}
 use Rattle.plan_numbers.proofs.NumberLemmas.{got, tags_length, put_numbered, put_refused, put_without_key}

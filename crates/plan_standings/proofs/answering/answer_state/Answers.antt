@@ -1,4 +1,4 @@
-use Rattle.history_plans.specs.Planned.{planned_by}
+use Rattle.task_aims.specs.Planned.{planned_by}
 use Rattle.plan_standings.specs.Waits.{table_of}
 use Rattle.plan_standings.proofs.StateLemmas.{asked, taken_states, known_more, undone_stands}
 use Rattle.plan_standings.proofs.answering.answer_state.Goals as goal

@@ -1,6 +1,6 @@
 use Rattle.std.proofs.Common.{subst}
 use Rattle.deploy_histories.specs.Events.{progress}
-use Rattle.history_plans.specs.Planned.{planned_by}
+use Rattle.task_aims.specs.Planned.{planned_by}
 use Rattle.point_rows.specs.Rows.{known_now}
 use Rattle.task_standings.specs.Standings.{IsStanding}
 use Rattle.plan_standings.specs.Waits.{table_of}

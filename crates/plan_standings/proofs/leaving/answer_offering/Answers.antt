@@ -1,5 +1,5 @@
-use Rattle.std.proofs.Common.{refl, subst}
-use Rattle.scope_outputs.specs.Outputs.{IsOffering}
+use Rattle.std.proofs.Common.{subst}
+use Rattle.scope_faults.specs.Outputs.{IsOffering}
 use Rattle.plan_standings.specs.Waits.{table_of}
 use Rattle.plan_standings.proofs.LeaveLemmas.{told_stands, nothing_stands, state_lacking, line_lacking}
 use Rattle.plan_standings.proofs.leaving.answer_offering.Goals as goal

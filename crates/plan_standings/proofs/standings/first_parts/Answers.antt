@@ -1,6 +1,6 @@
 use Rattle.std.proofs.Common.{subst}
 use Rattle.std.specs.Prelude.{MatchOption}
-use Rattle.point_states.specs.Numbers.{AreOfScopes, AreNumbers}
+use Rattle.task_aims.specs.Numbers.{AreOfScopes, AreNumbers}
 use Rattle.plan_standings.specs.Waits.{table_of}
 use Rattle.plan_standings.proofs.standings.first_parts.Goals as goal
 

@@ -1,5 +1,5 @@
 use Rattle.std.proofs.Common.{subst}
-use Rattle.scope_entries.specs.Entries.{IsAnswerNow}
+use Rattle.scope_outputs.specs.Entries.{IsAnswerNow}
 use Rattle.scope_faults.proofs.CircleLemmas.{value_lacks, empty_lacks}
 use Rattle.scope_faults.proofs.circles.line_lack.Goals as goal
 

@@ -1,5 +1,5 @@
 use Rattle.std.proofs.Common.{Some, get_or, subst}
-use Rattle.scope_entries.specs.Entries.{line_cell}
+use Rattle.scope_outputs.specs.Entries.{line_cell}
 use Rattle.scope_faults.specs.Circles.{IsLineLack}
 use Rattle.scope_faults.proofs.CircleLemmas.{none_begins, none_more, none_ends, one_waits}
 use Rattle.scope_faults.proofs.circles.lines_lack.Goals as goal

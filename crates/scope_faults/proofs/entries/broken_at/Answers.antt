@@ -1,4 +1,4 @@
-use Rattle.scope_entries.specs.Entries.{line_cell}
+use Rattle.scope_outputs.specs.Entries.{line_cell}
 use Rattle.scope_faults.proofs.EntryLemmas.{lacks_none}
 use Rattle.scope_faults.proofs.entries.broken_at.Goals as goal
 

@@ -1,5 +1,5 @@
 use Rattle.plan_table.specs.Lines.{line_at}
-use Rattle.scope_entries.proofs.OwnLemmas.{own_entry}
+use Rattle.scope_outputs.proofs.OwnLemmas.{own_entry}
 use Rattle.scope_faults.proofs.EntryLemmas.{found_own, found_none}
 use Rattle.scope_faults.proofs.entries.first_fault.Goals as goal
 

@@ -1,4 +1,4 @@
-use Rattle.scope_entries.specs.Entries.{IsOwnLine}
+use Rattle.scope_outputs.specs.Entries.{IsOwnLine}
 use Rattle.scope_faults.proofs.CircleLemmas.{each_at}
 use Rattle.scope_faults.proofs.EntryLemmas.{valued_begins, valued_more, all_valued, first_line}
 use Rattle.scope_faults.proofs.entries.first_without.Goals as goal

@@ -1,6 +1,6 @@
 use Rattle.plan_table.specs.Lines.{line_at}
-use Rattle.scope_entries.specs.Entries.{line_cell}
-use Rattle.scope_entries.proofs.OwnLemmas.{own_entry}
+use Rattle.scope_outputs.specs.Entries.{line_cell}
+use Rattle.scope_outputs.proofs.OwnLemmas.{own_entry}
 use Rattle.scope_faults.proofs.entries.has_value.Goals as goal
 
 pub entry_told-requires-clause-entry : goal.entry_told-requires-clause-entry

@@ -1,5 +1,5 @@
 use Rattle.std.proofs.Common.{subst}
-use Rattle.scope_entries.specs.Entries.{IsAnswerNow}
+use Rattle.scope_outputs.specs.Entries.{IsAnswerNow}
 use Rattle.scope_faults.proofs.EntryLemmas.{answered_value, absent_none, waits_none}
 use Rattle.scope_faults.proofs.entries.is_value.Goals as goal
 

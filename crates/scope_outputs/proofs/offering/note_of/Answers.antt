@@ -5,7 +5,7 @@ use Rattle.plan_cells.specs.Resources.{header_in}
 use Rattle.plan_table.specs.Found.{scope_at}
 use Rattle.plan_table.proofs.FrameLemmas.{name_read}
 use Rattle.plan_sight.proofs.LookLemmas.{found_none}
-use Rattle.plan_values.proofs.ValueLemmas.{output_within}
+use Rattle.scope_entries.proofs.ValueLemmas.{output_within}
 use Rattle.scope_outputs.specs.Outputs.{names_of}
 use Rattle.scope_outputs.proofs.OfferLemmas.{name_has}
 use Rattle.scope_outputs.proofs.offering.note_of.Goals as goal

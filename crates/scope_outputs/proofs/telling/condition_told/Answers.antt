@@ -4,7 +4,7 @@ use Rattle.plan_cells.specs.Resources.{header_in}
 use Rattle.plan_table.specs.declared.line.Spot.TheVariants as spot
 use Rattle.plan_table.specs.Whole.{whole_of}
 use Rattle.plan_table.specs.Found.{scope_at}
-use Rattle.plan_values.proofs.ValueLemmas.{spot_there, output_within}
+use Rattle.scope_entries.proofs.ValueLemmas.{spot_there, output_within}
 use Rattle.scope_outputs.specs.Outputs.{position_of}
 use Rattle.scope_outputs.proofs.TellLemmas.{condition_is, condition_breaks, offered_raw, output_in}
 use Rattle.scope_outputs.proofs.telling.condition_told.Goals as goal

@@ -3,7 +3,7 @@ use Rattle.arm_value.specs.View.{json}
 use Rattle.plan_cells.specs.Meaning.{output_value}
 use Rattle.plan_table.specs.declared.line.Spot.TheVariants as spot
 use Rattle.plan_table.specs.Whole.{whole_of}
-use Rattle.plan_values.proofs.ValueLemmas.{spot_there, output_within}
+use Rattle.scope_entries.proofs.ValueLemmas.{spot_there, output_within}
 use Rattle.scope_outputs.specs.Outputs.{position_of}
 use Rattle.scope_outputs.proofs.TellLemmas.{value_is, value_breaks, output_raw}
 use Rattle.scope_outputs.proofs.telling.value_told.Goals as goal

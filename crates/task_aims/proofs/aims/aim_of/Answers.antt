@@ -1,14 +1,14 @@
 use Rattle.std.proofs.Common.{◌<◌, ℕ, refl, sym, subst}
 use Rattle.arm_ids.specs.Id.{folded_text}
 use Rattle.arm_ids.specs.Held.{find}
-use Rattle.history_plans.specs.Task.TheVariants.{Enter, Put, Leave, Delete}
+use Rattle.point_states.specs.Task.TheVariants.{Enter, Put, Leave, Delete}
 use Rattle.deploy_histories.specs.Legal.{IsAct}
 use Rattle.deploy_histories.specs.Outcome.{delete_target}
 use Rattle.task_aims.specs.Aims.{target_at}
 use Rattle.planned_tasks.proofs.PutLemmas.{deletion_found}
 use Rattle.task_aims.proofs.AimLemmas.{is_within, in_plan_here, here_in, same_here, aims_so}
 use Rattle.task_aims.proofs.AimLemmas.{target_there, target_of_put}
-use Rattle.history_plans.specs.Planned.{planned_by}
+use Rattle.point_states.specs.Planned.{planned_by}
 use Rattle.task_aims.proofs.aims.aim_of.Goals as goal
 
 pub index-requires : goal.index-requires

@@ -3,7 +3,7 @@ use Rattle.std.proofs.lemmas.Option.{none-some}
 use Rattle.plan_table.specs.Found.{scope_at}
 use Rattle.plan_table.specs.Whole.{whole_of}
 use Rattle.plan_paths.specs.Texts.{a_position, scope_text}
-use Rattle.history_plans.specs.Task.TheVariants.{Enter, Put, Leave, Delete}
+use Rattle.point_states.specs.Task.TheVariants.{Enter, Put, Leave, Delete}
 use Rattle.task_aims.proofs.AimLemmas.{placed_within, placed_here, places_so, here_in}
 use Rattle.task_aims.proofs.places.place_of.Goals as goal
 

@@ -1,6 +1,6 @@
 use Rattle.std.proofs.Common.{refl, subst}
 use Rattle.std.specs.Prelude.{MatchOption}
-use Rattle.point_states.specs.Numbers.{AreOfScopes}
+use Rattle.task_aims.specs.Numbers.{AreOfScopes}
 use Rattle.plan_standings.specs.Waits.{table_of}
 use Rattle.plan_standings.specs.Kept.{AreFirst}
 use Rattle.plan_standings.proofs.LeftLemmas.{blank_told, blank_seen}

@@ -1,8 +1,8 @@
 use Rattle.std.proofs.Common.{◌≡◌, List, Some, subst}
 use Rattle.std.specs.Prelude.{slice_get, option_map}
 use Rattle.plan_table.specs.Whole.{scopes_of}
-use Rattle.point_states.specs.Task.{Task}
-use Rattle.point_states.specs.Plans.{task_in}
+use Rattle.task_aims.specs.Task.{Task}
+use Rattle.task_aims.specs.Plans.{task_in}
 use Rattle.task_standings.specs.Standings.{kind_of}
 use Rattle.plan_standings.specs.Waits.{table_of}
 use Rattle.plan_standings.proofs.StandLemmas.{kind_here}

@@ -1,5 +1,5 @@
 -- How a drive ends, over the seats of its caller.
-use Rattle.std.proofs.Common.{◌≡◌, ◌<◌, ℕ, Bool, true, false, List, [], ◌∷◌, ◌++◌, refl, sym, ap, ◌∙◌, subst, length}
+use Rattle.std.proofs.Common.{◌≡◌, ◌<◌, ◌≤◌, ℕ, Bool, true, false, List, [], ◌∷◌, ◌++◌, refl, sym, ap, ◌∙◌, subst, length}
 use Rattle.std.proofs.Common.{get_or}
 use Rattle.std.proofs.Common.{Option, None, Some, Err, append-nil}
 use Rattle.std.specs.Prelude.{IfSome}
@@ -54,6 +54,7 @@ driven_as tells s s' p p' n m A B fault same turns d = record {
     called = turns k (of k (dones_of d.course)) low w.called;
     begun = w.begun;
   };
+  others = λ k high. d.others k (subst (λ x. x ≤ k) (sym same) high);
 }
 
 module _ {P : Type 0} (made : P → P → List Done → Type 0) (end : Type 0) (tells : Bool) (s s' : List DealerStep)
@@ -109,6 +110,7 @@ driven_none tells s p n Calls none calls = record {
     begun = begins_hands k [] ∙ each_none (hand_by k) ∙ sym jobs_none
         ∙ ap jobs_of (sym (of_none k) ∙ ap (of k) (sym (each_none done_by)));
   };
+  others = λ k high. ap (of k) (each_none done_by) ∙ of_none k;
 }
 
 -- the seats are unchanged, since memory ran out before

@@ -133,6 +133,7 @@ module _ (end : Type 0) (tells : Bool) (m : Moment) (s : List DealerStep) (recei
               called = subst (λ y. Calls k y) (put ∙ ap (of k) got) d.2;
               begun = begins_hands k x.course ∙ st.1;
             };
+        others = λ k high. ap (of k) (sym got) ∙ others k high;
       }
 
   pub not_strayed : Strayed m (moment s received q o) → ⊥

@@ -1,5 +1,5 @@
 -- What a drive has done.
-use Rattle.std.specs.Prelude.{◌≡◌, ◌<◌, ℕ, Bool, true, false, List, ◌++◌, length, Option, None, Some, Result, Ok, Err}
+use Rattle.std.specs.Prelude.{◌≡◌, ◌<◌, ◌≤◌, ℕ, Bool, true, false, List, [], ◌++◌, length, Option, None, Some, Result, Ok, Err}
 use Rattle.std.specs.Prelude.{slice_index_or}
 use Rattle.arm_edges.specs.Faults.{Rose}
 use Rattle.crew_workers.specs.declared.post.Station.{Station}
@@ -57,6 +57,8 @@ pub record Driven (tells : Bool) (s s' : List DealerStep) (p p' : Pages) (seats 
   pub none : NoneBegun s'
   -- what each seat has seen
   pub worked : (k : ℕ) → k < seats → HasWorked (Calls k) course k
+  -- no result is of another seat
+  pub others : (k : ℕ) → seats ≤ k → of k (dones_of course) ≡ []
 
 -- why the book has refused a note: it had no room for it, its disk failed in this call, or it was broken before
 abbrev pub IsCause : Pages → Pages → BookFault → Type 0

@@ -1,5 +1,6 @@
--- The steps of a board as a dealer: what was begun, answered and given back since the service last started.
-use Rattle.std.specs.Prelude.{ℕ, List, [], ◌∷◌, ◌++◌, Option, Some, None, option_map}
+-- The steps of a board as a dealer: what was begun, answered and given back since the service last started; and what had
+-- happened before.
+use Rattle.std.specs.Prelude.{ℕ, Bool, true, false, List, [], ◌∷◌, ◌++◌, Option, Some, None, option_map, if◌then◌else◌}
 use Rattle.provider_trait.specs.Work.{Work}
 use Rattle.dealer_trait.specs.declared.dealer_step.DealerStep.{DealerStep}
 use Rattle.dealer_trait.specs.Steps as dealer
@@ -33,3 +34,17 @@ steps_from x ss (e ∷ es) = steps_from x (steps_after x ss e) es
 
 abbrev pub steps_of : Planned → List Event → List DealerStep
 steps_of x h = steps_from x [] h
+
+abbrev pub or_later : Event → Bool → Bool
+or_later crash b = true
+or_later e b = b
+
+-- whether the service has stopped
+abbrev pub has_crash : List Event → Bool
+has_crash [] = false
+has_crash (e ∷ es) = or_later e (has_crash es)
+
+-- the events up to the last crash, and with it
+abbrev pub until_crash : List Event → List Event
+until_crash [] = []
+until_crash (e ∷ es) = if has_crash (e ∷ es) then e ∷ until_crash es else []

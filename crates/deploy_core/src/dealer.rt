@@ -8,14 +8,15 @@ use std::alloc::Global;
 use task_standings::Standings;
 
 impl<S: Standings> Dealer for Board<S> {
-    ghost use Rattle.deploy_histories.specs.Events.{progress};
+    ghost use Rattle.std.specs.Prelude.{List};
+    ghost use Rattle.deploy_histories.specs.Events.{Event, progress};
     ghost use Rattle.deploy_histories.specs.Legal.{HasEnded};
     ghost use Rattle.deploy_histories.specs.Planned.{Planned};
-    ghost use Rattle.deploy_core.specs.Steps.{steps_of};
+    ghost use Rattle.deploy_core.specs.Steps.{steps_of, until_crash};
 
-    ghost Fixed = { Planned };
+    ghost Fixed = { Planned × List Event };
 
-    ghost fixed = { λ b. S.planned b.0 };
+    ghost fixed = { λ b. (S.planned b.0, until_crash b.1.events) };
 
     ghost steps = { λ b. steps_of (S.planned b.0) b.1.events };
 

@@ -65,7 +65,7 @@ not_later before m ms e i n g h =
     (sym (last_named n.1 m.1 before (folded_same n.1 m.1 h))
     ∙ none_before (before ++ m.1 ∷ []) ms (first_new before m ms e).1 i n g)
 
-names_differ : (before : List (List ℕ)) (ns : List Named) → repeated_from before ns ≡ None → (i j : ℕ) (n m : Named)
+pub names_differ : (before : List (List ℕ)) (ns : List Named) → repeated_from before ns ≡ None → (i j : ℕ) (n m : Named)
     → slice_get ns i ≡ Some n → slice_get ns j ≡ Some m → fold n.1 ≡ fold m.1 → i ≡ j
 names_differ before [] e zero j n m g h k = absurd cc
 names_differ before [] e (suc i) j n m g h k = absurd cc
@@ -81,7 +81,7 @@ names_differ before (x ∷ xs) e (suc i) (suc j) n m g h k =
 
 -- ---- symbols
 
-mapped_get : {A B : Type 0} (f : A → B) (xs : List A) (k : ℕ)
+pub mapped_get : {A B : Type 0} (f : A → B) (xs : List A) (k : ℕ)
     → slice_get (map f xs) k ≡ option_map f (slice_get xs k)
 mapped_get f [] k = refl
 mapped_get f (x ∷ xs) zero = refl

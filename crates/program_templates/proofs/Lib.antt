@@ -1,0 +1,5 @@
+mod KindLemmas
+mod NameLemmas
+mod NestedLemmas
+mod ParameterLemmas
+mod ScopeLemmas

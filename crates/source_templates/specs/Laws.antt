@@ -1,0 +1,30 @@
+-- What holds of templates that are made for files.
+use Rattle.std.specs.Prelude.{◌≡◌, ℕ, List, Option}
+use Rattle.template_parts.specs.declared.mode.Form.TheVariants.{One}
+use Rattle.template_parts.specs.declared.parameter.Parameter.{Parameter}
+use Rattle.template_tree.specs.Tree.{TemplateTree}
+use Rattle.bicep_tree.specs.Tree.{FileTree}
+use Rattle.resolved_program.specs.declared.resolved.ResolvedFile.{ResolvedFile}
+use Rattle.resolved_program.specs.View.{file_view}
+use Rattle.bicep_meaning.specs.Files.{SourceFile}
+use Rattle.source_worlds.specs.Numbers.{symbol_of}
+use Rattle.agreeing_files.specs.Agreeing.{outputs_of}
+use Rattle.declared_table.specs.Seen.{Shape, file_in, files_in}
+use Rattle.emitted_files.specs.Files.{IsFile}
+use Rattle.source_files.specs.Sources.{source_file}
+use Rattle.emitted_templates.specs.Parts.{HasParts}
+use Rattle.source_templates.specs.Texts.{IsOfText}
+
+-- a template with the parts of the file of a table is that of the text's file, in a program whose files have the
+-- outputs of the table's
+abbrev pub TemplatesAreOfTexts : Type 0
+TemplatesAreOfTexts =
+    (t : FileTree) (r : ResolvedFile) (s : Shape) (rs : List (Option Parameter)) (fs : List SourceFile)
+    (u : TemplateTree) → IsOfText t r s rs → outputs_of (files_in s) ≡ outputs_of fs → HasParts s rs u
+    → IsFile fs (source_file One t (file_view r)) One u
+
+-- the resource of a number of the template is that of the same symbol in both files
+abbrev pub SymbolsHaveTheSameNumbers : Type 0
+SymbolsHaveTheSameNumbers =
+    (t : FileTree) (r : ResolvedFile) (s : Shape) (rs : List (Option Parameter)) → IsOfText t r s rs → (m : ℕ)
+    → symbol_of One (file_in s) m ≡ symbol_of One (source_file One t (file_view r)) m

@@ -1,0 +1,35 @@
+//! What holds of templates that are made for files. A law has at most other laws in its body: its contract is the law.
+ghost use Rattle.source_templates.specs.Laws.{TemplatesAreOfTexts, SymbolsHaveTheSameNumbers};
+
+use agreeing_files::laws::types_are_the_same;
+use alike_files::laws::{
+    alike_files_have_the_same_rest, defaults_become_the_same, files_are_their_parts,
+};
+use parameter_rules::laws::parameters_have_the_rules;
+use source_files::laws::{
+    modules_are_in_source_order, source_files_are_of_texts, tables_are_of_source_files,
+};
+
+/// A template that has the parts of the file of a table, with the rules that the decorators of a text give to
+/// parameters, is that of the file of the text.
+pub fn templates_are_of_their_texts()
+    ensures { TemplatesAreOfTexts }
+{
+    types_are_the_same();
+    alike_files_have_the_same_rest();
+    defaults_become_the_same();
+    files_are_their_parts();
+    parameters_have_the_rules();
+    modules_are_in_source_order();
+    source_files_are_of_texts();
+    tables_are_of_source_files();
+}
+
+/// The resource of a number of the template is that of the same symbol in the file of the table and in that of the
+/// text.
+pub fn symbols_have_the_same_numbers()
+    ensures { SymbolsHaveTheSameNumbers }
+{
+    types_are_the_same();
+    tables_are_of_source_files();
+}

@@ -3,7 +3,7 @@ use Rattle.std.proofs.Common.{◌≡◌, ◌≢◌, ◌<◌, ◌==◌, ℕ, Bool
 use Rattle.std.proofs.lemmas.Bool.Decides.{nat_tests}
 use Rattle.std.specs.Prelude.{nat_lt}
 use Rattle.std.specs.List.{before_first, after_first, position_or_len}
-use Rattle.command_words.specs.Words.{Sign, AnOption, NoSign, valued, option_of, dashed, value_of, word_of, is_equals}
+use Rattle.command_words.specs.Words.{AnOption, NoSign, valued, option_of, dashed, value_of, word_of, is_equals}
 
 pub no_dash : (bs : List ℕ) → ((rest : List ℕ) → bs ≢ 45 ∷ rest) → word_of bs ≡ value_of bs
 unfolding word_of value_of

@@ -1,5 +1,5 @@
 -- Which words are a command, and what it is. Words are their bytes in UTF-8.
-use Rattle.std.specs.Prelude.{ℕ, Bool, ◌||◌, List, [], ◌∷◌, bytes_eq, codes, Option, Some, None, option_map, is_some}
+use Rattle.std.specs.Prelude.{ℕ, Bool, ◌||◌, List, [], ◌∷◌, bytes_eq, codes, Option, Some, None, is_some}
 use Rattle.std.specs.Prelude.{if◌then◌else◌}
 use Rattle.template_parts.specs.declared.mode.Mode.{Mode}
 use Rattle.template_parts.specs.declared.mode.Mode.TheVariants.{Incremental, Complete}

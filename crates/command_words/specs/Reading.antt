@@ -1,5 +1,5 @@
 -- How the words after a command are read: its file, and its options with their values, in any order, each at most once.
-use Rattle.std.specs.Prelude.{ℕ, ◌==◌, not, Bool, List, [], ◌∷◌, bytes_eq, codes}
+use Rattle.std.specs.Prelude.{ℕ, List, [], ◌∷◌, bytes_eq, codes}
 use Rattle.std.specs.Prelude.{Option, Some, None, option_map, is_some}
 use Rattle.std.specs.Prelude.{if◌then◌else◌}
 use Rattle.std.specs.Borrow.{Bor}
@@ -21,8 +21,15 @@ pub record Values : Type 0 where
   pub language : Option (List ℕ)
 
 abbrev pub nothing : Values
-nothing =
-    record { file = None; group = None; name = None; mode = None; parameters = None; subscription = None; language = None }
+nothing = record {
+  file = None;
+  group = None;
+  name = None;
+  mode = None;
+  parameters = None;
+  subscription = None;
+  language = None;
+}
 
 -- the place of an option's value, by the option's name
 unfoldable pub later_place : List ℕ → Option Place

@@ -1,0 +1,6 @@
+mod NameLemmas
+mod FoundLemmas
+mod FieldLemmas
+mod BodyLemmas
+mod VariableLemmas
+pub mod FileLemmas

@@ -1,0 +1,4 @@
+mod NameLemmas
+mod VariableLemmas
+mod MemberLemmas
+pub mod KeptLemmas

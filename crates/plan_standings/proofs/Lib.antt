@@ -15,3 +15,4 @@ mod NeedLemmas
 mod EnterFailLemmas
 mod LeaveFailLemmas
 mod FailStepLemmas
+mod RootLemmas

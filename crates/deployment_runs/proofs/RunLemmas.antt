@@ -34,6 +34,8 @@ module _ {P : Type 0} (made : P → P → List Done → Type 0) (end : Type 0) (
     steps_are = d.steps;
     length_same = same;
     calls = λ k low. (d.worked k low).called;
+    one_at_a_time = λ k low. (d.worked k low).one_at_a_time;
+    others = d.others;
     begun = λ k low. subst (λ ss. begins k ss ≡ jobs_of (of k (dones_of d.course))) (sym d.steps) (d.worked k low).begun;
     answered = subst (λ ss. answers ss ≡ answers_to (kept d.course)) (sym d.steps) d.answered;
     calm = subst BeginsNoneAfterBack (sym d.steps) d.calm;

@@ -1,8 +1,9 @@
 -- What running a deployment has done, by the steps of its board and by its seats.
-use Rattle.std.specs.Prelude.{◌≡◌, ◌<◌, ℕ, List, length, Result, Err, slice_index_or}
+use Rattle.std.specs.Prelude.{◌≡◌, ◌<◌, ◌≤◌, ℕ, List, [], length, None, Result, Err, slice_index_or}
 use Rattle.dealer_trait.specs.Steps.{NoneBegun}
 use Rattle.dealer_trait.specs.declared.dealer_step.DealerStep.{DealerStep}
 use Rattle.driver_loop.specs.Actions.{steps_of, dones_of}
+use Rattle.driver_loop.specs.Courses.{Goes, IsOfJob}
 use Rattle.driver_loop.specs.declared.action.Action.{Action}
 use Rattle.seat_calls.specs.Dones.{of, jobs_of}
 use Rattle.seat_calls.specs.declared.done.Done.{Done}
@@ -28,6 +29,9 @@ pub record HasRun {P : Type 0} (made : P → P → List Done → Type 0) (steps 
   -- the calls of each provider were, in order, the Begins with the number of its seat
   pub calls : (k : ℕ) → k < length old → AreCallsOf made old new k (of k (dones_of course))
   pub begun : (k : ℕ) → k < length old → begins k steps ≡ jobs_of (of k (dones_of course))
+  -- each seat has one job at a time, and a result is of the job that it has; no result is of another seat
+  pub one_at_a_time : (k : ℕ) → k < length old → Goes IsOfJob k None course None
+  pub others : (k : ℕ) → length old ≤ k → of k (dones_of course) ≡ []
   -- each answer is what its call gave, in order
   pub answered : answers steps ≡ answers_to (kept course)
   -- after the first job that was given back none was begun, and no Begin is open

@@ -5,7 +5,7 @@ ghost use Rattle.arm_edges.specs.Faults.{Rose};
 ghost use Rattle.deploy_histories.specs.Events.{progress};
 ghost use Rattle.deploy_histories.specs.Legal.{IsLegal, HasEnded};
 ghost use Rattle.deploy_core.specs.Endings.{IsTrueEnding};
-ghost use Rattle.deploy_core.specs.Steps.{steps_of};
+ghost use Rattle.deploy_core.specs.Steps.{steps_of, until_crash};
 ghost use Rattle.seat_calls.specs.Dones.{Made};
 ghost use Rattle.worker_crew.specs.Driven.{HasNoJobs};
 ghost use Rattle.deployment_runs.specs.Runs.{HasRun, by_seat};
@@ -43,6 +43,7 @@ pub fn run_to_end<R: Threads + Wait + Sync, S: Standings, P: Provider>(
     requires fresh { steps_of (S.planned board.old.0) board.old.1.events ≡ [] }
     ensures free { HasNoJobs (vec_items seats.new) }
     ensures planned { S.planned board.new.0 ≡ S.planned board.old.0 }
+    ensures past { until_crash board.new.1.events ≡ until_crash board.old.1.events }
     ensures legal { IsLegal (S.planned board.old.0) board.new.1.events }
     ensures run { HasRun (Made P.may P.tells P.calls P.faults)
         (steps_of (S.planned board.old.0) board.new.1.events) (vec_items seats.old) (vec_items seats.new) }

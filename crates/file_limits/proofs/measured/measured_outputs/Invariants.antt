@@ -1,0 +1,8 @@
+use Rattle.std.proofs.Common.{length}
+use Rattle.file_limits.proofs.OverLemmas.{SoFar}
+use Rattle.file_limits.specs.Extremes.{output_extremes}
+use Rattle.file_limits.proofs.measured.measured_outputs.Given as goal
+
+-- what the outputs before take
+abbrev pub invariant-loop-output : goal.invariant-loop-output
+invariant-loop-output l = SoFar (output_extremes l.table) (length l.outputs) l.output-index l.all

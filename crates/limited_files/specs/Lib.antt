@@ -1,0 +1,11 @@
+pub mod Laws
+pub use Rattle.file_limits.specs.Extremes
+pub use Rattle.file_limits.specs.Fits
+pub use Rattle.file_limits.specs.Lists
+pub use Rattle.file_limits.specs.Seen
+pub use Rattle.file_limits.specs.Templates
+pub use Rattle.file_limits.specs.Within
+pub use Rattle.file_tables.specs.Checked
+pub use Rattle.file_tables.specs.Emittable
+pub use Rattle.file_tables.specs.Orders
+pub use Rattle.file_tables.specs.Tables

@@ -1,0 +1,4 @@
+mod NumberLemmas
+mod PartLemmas
+pub mod BoundLemmas
+mod TreeLemmas

@@ -2,3 +2,4 @@ mod NumberLemmas
 mod PartLemmas
 pub mod BoundLemmas
 mod TreeLemmas
+pub mod DeepLemmas

@@ -86,7 +86,7 @@ number_within : {A : Type 0} (n : ℕ) (f : A → Json) → ((a : A) → nesting
 number_within n f e None = tt
 number_within n f e (Some a) = subst (λ m. m ≤ n) (sym (e a)) (at_least n)
 
-plainly : (js : List Json) → items_nesting (map written_plainly js) ≡ items_nesting js
+pub plainly : (js : List Json) → items_nesting (map written_plainly js) ≡ items_nesting js
 plainly [] = refl
 plainly (j ∷ js) = λ i. max (nesting-each_text escaped j i) (plainly js i)
 

@@ -1,2 +1,3 @@
 mod TemplateLemmas
 pub use Rattle.file_lists.proofs.LimitLemmas
+pub use Rattle.file_resources.proofs.ListedLemmas

@@ -1,6 +1,7 @@
 pub mod Templates
 pub mod Parts
 pub mod Laws
+pub use Rattle.file_lists.specs.Found
 pub use Rattle.file_lists.specs.Lists
 pub use Rattle.file_resources.specs.Arguments
 pub use Rattle.file_resources.specs.Buildable
@@ -11,5 +12,7 @@ pub use Rattle.file_resources.specs.Files
 pub use Rattle.file_resources.specs.Filled
 pub use Rattle.file_resources.specs.Fits
 pub use Rattle.file_resources.specs.Limits
+pub use Rattle.file_resources.specs.Modules
 pub use Rattle.file_resources.specs.Seen
+pub use Rattle.file_resources.specs.Values
 pub use Rattle.file_resources.specs.Within

@@ -10,27 +10,12 @@ use Rattle.bicep_declared.specs.Declarations.{DeclaredTree}
 use Rattle.bicep_declared.specs.Declarations as d
 use Rattle.bicep_meaning.specs.Files.{declaration}
 use Rattle.source_worlds.specs.Numbers.{is_put, if_put, in_template, symbol_of}
-use Rattle.emitted_modules.specs.Limits.{members_at}
-use Rattle.emitted_modules.specs.Modules.{IsDeployment}
-use Rattle.emitted_modules.specs.Resources.{HasMembers}
-use Rattle.declared_table.specs.Seen.{Shape, file_in}
-use Rattle.emitted_files.specs.Values.{AreBoth}
-use Rattle.file_resources.specs.Built.{Templates, template_of, AreBuilt, IsBuiltFor, body_in}
-use Rattle.file_resources.proofs.ListedLemmas.{IsAt, at_place}
+use Rattle.emitted_templates.specs.Seen.{Shape, file_in}
+use Rattle.emitted_templates.specs.Values.{AreBoth}
+use Rattle.emitted_templates.specs.Built.{Templates, template_of, AreBuilt, IsBuiltFor, body_in}
+use Rattle.emitted_templates.proofs.ListedLemmas.{IsAt, at_place}
 
 module _ (s : Shape) where
-  -- a resource that has members is no nested deployment
-  no_members : (n : ℕ) (b : d.BodyTree) (x : body.BodyTree) (w : Nested) → HasMembers (members_at s n b) x
-      → nested_in x ≡ Some w → ⊥
-  no_members n b (body.body_members ms) w h e = absurd cc
-  no_members n b (body.deployment scope args v) w h e = absurd h
-
-  of_deployment : (n : ℕ) (b : d.BodyTree) (u : TemplateTree) (x : body.BodyTree) (w : Nested)
-      → IsDeployment s n b u x → nested_in x ≡ Some w → Some u ≡ Some w.template
-  of_deployment n b u (body.body_members ms) w h e = absurd h
-  of_deployment n b u (body.deployment scope args v) w h e =
-      ap (λ t. Some t) (sym h.1.1) ∙ ap (λ (y : Nested). Some y.template) (same_some e)
-
   -- by the declaration of the number, and by what is given for it
   given_by : (n : ℕ) (o : Option TemplateTree) (e : Option DeclaredTree) (r : ResourceTree) (w : Nested)
       → IsBuiltFor s n o e r → nested_in (body_in r) ≡ Some w → o ≡ Some w.template
@@ -38,9 +23,13 @@ module _ (s : Shape) where
   given_by n o (Some (d.parameter at t)) r w h is = absurd h
   given_by n o (Some (d.parameter_with at t x)) r w h is = absurd h
   given_by n o (Some (d.variable at v)) r w h is = absurd h
-  given_by n o (Some (d.a_resource at q existing b)) r w h is = absurd (no_members n b (body_in r) w h.body is)
+  given_by n o (Some (d.a_resource at q existing b)) (body.resource x (body.body_members ms) rs) w h is = absurd cc
+  given_by n o (Some (d.a_resource at q existing b)) (body.resource x (body.deployment scope args v) rs) w h is =
+      absurd h.body
   given_by n None (Some (d.a_module at b)) r w h is = absurd h
-  given_by n (Some u) (Some (d.a_module at b)) r w h is = of_deployment n b u (body_in r) w h.body is
+  given_by n (Some u) (Some (d.a_module at b)) (body.resource x (body.body_members ms) rs) w h is = absurd h.body
+  given_by n (Some u) (Some (d.a_module at b)) (body.resource x (body.deployment scope args v) rs) w h is =
+      ap (λ t. Some t) (sym h.body.1.1) ∙ ap (λ (y : Nested). Some y.template) (same_some is)
 
   module _ (us : Templates) where
     -- an entry of the list of resources that is a nested deployment

@@ -11,11 +11,11 @@ use Rattle.bicep_types.specs.Faults.{HasFault}
 use Rattle.bicep_types.specs.declared.fault.CheckFault.{CheckFault}
 use Rattle.bicep_meaning.specs.Files.{SourceFile}
 use Rattle.source_worlds.specs.Numbers.{in_template, symbol_of}
-use Rattle.emitted_files.specs.Files.{IsEmitted}
-use Rattle.file_resources.specs.Built.{Templates, template_of, AreBuilt}
-use Rattle.declared_table.specs.Seen.{Shape, file_in}
+use Rattle.emitted_templates.specs.Files.{IsEmitted}
+use Rattle.emitted_templates.specs.Built.{Templates, template_of, AreBuilt}
+use Rattle.emitted_templates.specs.Seen.{Shape, file_in}
 use Rattle.parameter_rules.specs.Files.{IsParameterAt}
-use Rattle.file_lists.specs.Lists.{AreRules, rule_at}
+use Rattle.emitted_templates.specs.Lists.{AreRules, rule_at}
 use Rattle.program_templates.specs.Kinds.{HasKinds, NamesDiffer}
 use Rattle.program_templates.specs.Whole.{IsWhole}
 

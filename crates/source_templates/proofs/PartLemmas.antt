@@ -17,16 +17,16 @@ use Rattle.bicep_meaning.specs.Instances.{parameter_named, parameter_numbered, s
 use Rattle.source_worlds.specs.Numbers.{number_of, passing}
 use Rattle.emitted_declarations.specs.Declared.{whole}
 use Rattle.emitted_trees.specs.EmittedTrees.{tree_of}
-use Rattle.emitted_files.specs.Files.{IsParameter}
-use Rattle.emitted_files.specs.Values.{AreBoth, IsTree}
+use Rattle.emitted_templates.specs.Files.{IsParameter}
+use Rattle.emitted_templates.specs.Values.{AreBoth, IsTree}
 use Rattle.declared_table.specs.Seen.{Shape, file_in, files_in}
 use Rattle.alike_files.specs.Alike.{AreAlike}
 use Rattle.alike_files.specs.Rest.{HasRest, HasParameters, HasModules}
 use Rattle.alike_files.proofs.NumberLemmas.{with_rest, number_same}
 use Rattle.source_files.specs.Sources as source
-use Rattle.file_lists.specs.Lists.{IsCompleted, rule_at, default_of}
-use Rattle.file_resources.specs.Modules as made
-use Rattle.file_resources.specs.Modules.{modules_in}
+use Rattle.emitted_templates.specs.Lists.{IsCompleted, rule_at, default_of}
+use Rattle.emitted_templates.specs.Modules as made
+use Rattle.emitted_templates.specs.Modules.{modules_in}
 use Rattle.emitted_templates.specs.Parts.{HasParts}
 
 both : {A B : Type 0} (R S : A → B → Type 0) → ((a : A) (b : B) → R a b → S a b) → (o : Option A) (p : Option B)

@@ -10,7 +10,7 @@ use Rattle.bicep_meaning.specs.Files.{SourceFile}
 use Rattle.source_worlds.specs.Numbers.{symbol_of}
 use Rattle.agreeing_files.specs.Agreeing.{outputs_of}
 use Rattle.declared_table.specs.Seen.{Shape, file_in, files_in}
-use Rattle.emitted_files.specs.Files.{IsFile}
+use Rattle.emitted_templates.specs.Files.{IsFile}
 use Rattle.source_files.specs.Sources.{source_file}
 use Rattle.emitted_templates.specs.Parts.{HasParts}
 use Rattle.source_templates.specs.Texts.{IsOfText}

@@ -9,7 +9,7 @@ use Rattle.symbol_decorators.specs.Batches.{HasBatches}
 use Rattle.parameter_rules.specs.Files.{IsParameterAt}
 use Rattle.declared_table.specs.Seen.{Shape, file_of, file_in}
 use Rattle.declared_table.specs.declared.mark.Mark.{Mark}
-use Rattle.file_lists.specs.Lists.{rule_at}
+use Rattle.emitted_templates.specs.Lists.{rule_at}
 
 -- The table is that of the file whose names are found; its loops have the batches of the text's decorators, and the
 -- list has the parameters that these and the types of parameters make.

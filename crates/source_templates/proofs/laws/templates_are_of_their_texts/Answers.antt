@@ -9,7 +9,7 @@ use Rattle.declared_table.specs.Seen.{file_in, files_in, file_of}
 use Rattle.alike_files.specs.Alike.{AreAlike}
 use Rattle.alike_files.specs.Rest.{HasParameters, HasModules}
 use Rattle.alike_files.proofs.NumberLemmas.{with_rest}
-use Rattle.file_resources.specs.Modules.{modules_in}
+use Rattle.emitted_templates.specs.Modules.{modules_in}
 use Rattle.source_files.specs.Sources.{source_file, without_modules}
 use Rattle.source_templates.proofs.PartLemmas.{is_second, rest_of, parameters_of, modules_in_same, modules_of}
 use Rattle.source_templates.proofs.laws.templates_are_of_their_texts.Goals as goal

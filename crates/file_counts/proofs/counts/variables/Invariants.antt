@@ -1,0 +1,10 @@
+use Rattle.std.proofs.Common.{length, map}
+use Rattle.bicep_declared.specs.View.{declared_tree}
+use Rattle.declared_table.specs.Seen.{file_in}
+use Rattle.file_counts.specs.Counts.{is_entry_at}
+use Rattle.file_counts.proofs.CountLemmas.{Counted}
+use Rattle.file_counts.proofs.counts.variables.Given as goal
+
+abbrev pub invariant-loop-number : goal.invariant-loop-number
+invariant-loop-number l =
+    Counted (is_entry_at (file_in l.table) (map declared_tree l.declarations)) (length l.declarations) l.number l.total

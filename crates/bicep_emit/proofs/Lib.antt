@@ -1,0 +1,4 @@
+mod BytesLemmas
+pub mod FileLemmas
+mod ModuleLemmas
+mod RefusedLemmas

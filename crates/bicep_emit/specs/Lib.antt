@@ -1,0 +1,5 @@
+pub mod Bytes
+pub mod Clauses
+pub mod Faults
+pub mod Modules
+pub mod Programs

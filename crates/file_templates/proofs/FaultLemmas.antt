@@ -47,4 +47,4 @@ pub of_measure : (t : FileTree) (s : Shape) (rs : List (Option Parameter))
     → ((n : ℕ) → IsParameterAt t (file_in s) n (rule_at s rs n)) → (x : EmitFault) → IsMeasuredFault s rs x
     → IsPartsFault t s x
 of_measure t s rs rules x (inl e) = inl e
-of_measure t s rs rules x (inr h) = inr (rs, (rules, h))
+of_measure t s rs rules x (inr h) = inr (inr (rs, (rules, h)))

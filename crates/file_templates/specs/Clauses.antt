@@ -20,7 +20,7 @@ pub use Rattle.emitted_templates.specs.Lists.{AreRules}
 pub use Rattle.file_tables.specs.Orders.{HasBatches, HasOrder, IsOfChecked, IsOrderFor}
 pub use Rattle.file_tables.specs.Tables.{IsOfProgram}
 pub use Rattle.file_templates.specs.Faults.{IsBatchFault, IsFaultOf, IsFileFault, IsMeasureOf, IsMeasuredFault}
-pub use Rattle.file_templates.specs.Faults.{IsMemoryFault, IsOfBeyond, IsPartsFault}
+pub use Rattle.file_templates.specs.Faults.{IsCount, IsMemoryFault, IsOfBeyond, IsPartsFault}
 pub use Rattle.file_templates.specs.Made.{AreGivenIn, AreGivenTo, CanBeMade, HasOutputs, IsKeptBy, IsMadeFor}
 pub use Rattle.file_templates.specs.Made.{IsOfEachText, KeepsRules}
 pub use Rattle.file_templates.specs.Parts.{AreMentionedParts, AreMentionsOf, AreParts, ArePartsOf, AreRulesOf}

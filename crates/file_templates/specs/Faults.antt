@@ -1,6 +1,7 @@
 -- Why a file has no template: the limit that its template would break.
 use Rattle.std.specs.Prelude.{◌≡◌, ◌⊎◌, ℕ, List, Option, Some}
 use Rattle.template_parts.specs.declared.parameter.Parameter.{Parameter}
+use Rattle.template_parts.specs.declared.limit.Which.{Which}
 use Rattle.template_parts.specs.declared.limit.Which.TheVariants as which
 use Rattle.bicep_tree.specs.Tree.{FileTree}
 use Rattle.resolved_program.specs.declared.resolved.ResolvedFile.{ResolvedFile}
@@ -16,6 +17,7 @@ use Rattle.measured_trees.specs.declared.limits.Beyond.TheVariants as beyond
 use Rattle.measured_trees.specs.declared.measure.Measure.{Measure}
 use Rattle.emitted_templates.specs.Seen.{Shape, file_in}
 use Rattle.emitted_templates.specs.Lists.{rule_at}
+use Rattle.file_counts.specs.Counts.{first_beyond}
 use Rattle.file_limits.specs.Extremes.{file_extremes}
 use Rattle.file_templates.specs.Texts.{IsTabledIn}
 use Rattle.file_templates.specs.declared.fault.EmitFault.{EmitFault}
@@ -63,12 +65,24 @@ IsBeyondLimit s rs x = IsLimitFault (file_extremes s rs unmeasured) x
 abbrev pub IsMeasuredFault : Shape → List (Option Parameter) → EmitFault → Type 0
 IsMeasuredFault s rs x = (x ≡ fault.OutOfMemory) ⊎ IsBeyondLimit s rs x
 
--- so it is with the parameters of the text
+-- the fault of a number that is beyond its limit
+abbrev pub IsCount : Which × ℕ → EmitFault → Type 0
+IsCount p x = x ≡ fault.Limit p.0 p.1
+
+-- the parameters, the variables, the outputs or the resources of the template are so many, which is beyond their limit
+abbrev pub IsCountFault : Shape → EmitFault → Type 0
+IsCountFault s (fault.Limit w n) = first_beyond (file_in s) ≡ Some (w, n)
+IsCountFault s fault.TooDeep = ⊥
+IsCountFault s fault.OutOfMemory = ⊥
+
+-- it is beyond another limit, with the parameters of the text
+abbrev pub IsRuledFault : FileTree → Shape → EmitFault → Type 0
+IsRuledFault t s x =
+    (rs : List (Option Parameter))
+    × (((n : ℕ) → IsParameterAt t (file_in s) n (rule_at s rs n)) × IsBeyondLimit s rs x)
+
 abbrev pub IsPartsFault : FileTree → Shape → EmitFault → Type 0
-IsPartsFault t s x =
-    (x ≡ fault.OutOfMemory)
-    ⊎ ((rs : List (Option Parameter)) × (((n : ℕ) → IsParameterAt t (file_in s) n (rule_at s rs n))
-    × IsBeyondLimit s rs x))
+IsPartsFault t s x = (x ≡ fault.OutOfMemory) ⊎ (IsCountFault s x ⊎ IsRuledFault t s x)
 
 -- the fault of a file, by its text and by a table of its declarations
 abbrev pub IsFileFault : FileTree → ResolvedFile → EmitFault → Type 0

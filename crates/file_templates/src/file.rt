@@ -7,6 +7,7 @@ use bicep_dependencies::dependencies;
 use bicep_program::SourceFile;
 use emitted_templates::laws::templates_have_the_parts_of_the_file;
 use emitted_templates::{Measure, Table, template};
+use file_counts::first_beyond;
 use file_limits::laws::files_within_the_limits_fit;
 use file_limits::measured_file;
 use file_tables::{FileOrder, file_order, file_table};
@@ -252,6 +253,33 @@ fn parts_of(
     }
 }
 
+// The fault of a template with so many parts.
+fn count_fault(beyond: (Which, u64)) -> EmitFault
+    ensures { spec.IsCount beyond result }
+{
+    EmitFault::Limit(beyond.0, beyond.1)
+}
+
+// What the template of the file of a table is made of, where none of its lists is too long.
+fn counted_parts(
+    alloc: Global,
+    source: &SourceFile,
+    file: &ResolvedFile,
+    order: &[u32],
+    table: &Table,
+) -> Result<Parts, EmitFault>
+    requires text { spec.IsShallow source.now }
+    requires order { spec.HasOrder file.now order.now }
+    requires table { spec.IsTabledIn (spec.text_of source.now) file.now table.now }
+    ensures parts { spec.IfOk result (spec.ArePartsOf (spec.text_of source.now) table.now) }
+    ensures fault { spec.IfErr result (spec.IsPartsFault (spec.text_of source.now) table.now) }
+{
+    match first_beyond(table) {
+        Some(beyond) => Err(count_fault(beyond)),
+        None => parts_of(alloc, source, file, order, table),
+    }
+}
+
 // The template of a file with that table.
 fn tabled(
     alloc: Global,
@@ -269,7 +297,7 @@ fn tabled(
     ensures keeps { spec.IfOk result (spec.KeepsRules (spec.templates_of templates.items)) }
     ensures fault { spec.IfErr result (spec.IsPartsFault (spec.text_of source.now) table.now) }
 {
-    match parts_of(alloc, source, file, order, table) {
+    match counted_parts(alloc, source, file, order, table) {
         Ok(parts) => made(
             alloc,
             table,
@@ -323,8 +351,9 @@ fn ordered(
 /// # Errors
 ///
 /// Each of these only where it holds (`specs/Faults`); where several do, any of them is returned.
-/// - `Limit`: a batch has more than 800 instances, the text of an expression has more than 24,576 characters, or arrays
-///   and objects nest above 120; with the number that is beyond the limit.
+/// - `Limit`: a batch has more than 800 instances, there are more than 256 parameters, 512 variables, 64 outputs or 800
+///   resources, the text of an expression has more than 24,576 characters, or arrays and objects nest above 120; with
+///   the number that is beyond the limit.
 /// - `TooDeep`: an expression nests above 64.
 /// - `OutOfMemory`.
 pub fn file_template(

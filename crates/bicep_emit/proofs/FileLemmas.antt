@@ -3,7 +3,7 @@ use Rattle.std.proofs.Common.{◌≡◌, inl, inr, ℕ, zero, suc, List, [], ◌
 use Rattle.std.proofs.Common.{Some, Result, Ok, Err, refl, sym, ap, ◌∙◌, subst, arith, None}
 use Rattle.std.proofs.lemmas.List.{length-map}
 use Rattle.std.proofs.lemmas.Option.{slice_get-map}
-use Rattle.std.specs.Prelude.{option_map, slice_get, IfOk, IfErr}
+use Rattle.std.specs.Prelude.{option_and_then, option_map, slice_get, drop, IfOk, IfErr}
 use Rattle.template_parts.specs.declared.mode.Form.{Form}
 use Rattle.template_parts.specs.declared.mode.Form.TheVariants.{One}
 use Rattle.foundation.proofs.Options.{same_some}
@@ -28,9 +28,8 @@ use Rattle.ordered_emissions.specs.Orders.{IsPaired}
 use Rattle.agreeing_files.specs.Agreeing.{outputs_of}
 use Rattle.template_written.specs.Keeps.{Keeps}
 use Rattle.source_files.specs.Sources.{source_file, source_files}
-use Rattle.emitted_templates.specs.Built.{templates_of, template_of}
-use Rattle.emitted_templates.specs.Seen.{files_of}
-use Rattle.file_tables.specs.Tables.{IsOfProgram}
+use Rattle.program_templates.specs.Built.{templates_of, template_of}
+use Rattle.program_templates.specs.Seen.{files_of}
 use Rattle.program_templates.specs.Laws.{WholeTemplatesAreEmitted}
 use Rattle.program_templates.specs.Kinds.{HasKinds, file_number}
 use Rattle.program_templates.specs.Whole.{IsWhole, whole}
@@ -39,8 +38,10 @@ use Rattle.file_templates.specs.Faults.{IsFileFault}
 use Rattle.file_templates.specs.Made.{AreGivenTo, IsMadeFor, IsWith, KeepsRules}
 use Rattle.file_templates.specs.Texts.{text_of}
 use Rattle.file_templates.specs.declared.fault.EmitFault.{EmitFault}
-use Rattle.emitted_templates.specs.Files.{IsEmitted}
-use Rattle.bicep_emit.specs.Faults.{IsEmitFault, IsFault, IsNestingFault}
+use Rattle.program_templates.specs.Files.{IsEmitted}
+use Rattle.bicep_symbols.specs.declared.entry.Entry.{Entry}
+use Rattle.bicep_meaning.specs.Instances.{module_of}
+use Rattle.bicep_emit.specs.Faults.{AreDeep, IsDeepAmong, IsEmitFault, IsNestingFault, IsOwnFault}
 use Rattle.bicep_emit.specs.Modules.{IsPair, IsGiven, IsWholeFile, AreModules}
 use Rattle.bicep_emit.specs.Programs.{IsCheckedAs, IsEmission, IsLoaded, IsRead, IsWithin, HasNoFault, trees_of}
 use Rattle.bicep_emit.specs.Programs.{sources_in}
@@ -103,17 +104,6 @@ module _ (ss : List Text) (rs : List ResolvedFile) (h : IsRead ss rs) (k : ℕ) 
       let s = at_place (λ (q : ProgramFile). IsReadAs h.folder q.name q.tree) ps k (program_file x) text_at h.read in
       omega (arith, s.source.shallow)
 
-  pub of_program : IsOfProgram rs r
-  of_program = record {
-    folder = h.folder;
-    files = ps;
-    read = h.read;
-    resolved = h.resolved;
-    none = h.none;
-    number = k;
-    is = view_at;
-  }
-
   pub same_outputs : map (λ (g : SourceFile). g.outputs) (sources_in ss rs)
       ≡ map (λ (v : ResolvedFileTree). v.outputs) views → outputs_of (files_of rs) ≡ outputs_of (sources_in ss rs)
   same_outputs e = outputs_same rs ∙ sym e
@@ -168,10 +158,37 @@ module _ (ss : List Text) (rs : List ResolvedFile) (h : IsRead ss rs) (k : ℕ) 
     all_whole same (Ok u) w keeps = record { whole = whole_is u (w (sources_in ss rs) same); keeps = keeps all_kept }
     all_whole same (Err y) w keeps = tt
 
-  pub of_file : (res : Result Template EmitFault) → IfErr res (IsFileFault (text_of x) r) → IfErr res (IsFault ss rs)
+  pub of_file : (res : Result Template EmitFault) → IfErr res (IsFileFault (text_of x) r) → IfErr res (IsOwnFault ss rs)
   of_file (Ok u) e = tt
   of_file (Err y) e =
       inr (inl (record { number = k; text = x; file = r; pair = p; fault = e }))
+
+  -- the symbol of a module in the file
+  symbol_at : (es : List Entry) (i : ℕ) (e : Entry) (rest : List Entry) → drop i es ≡ e ∷ rest
+      → slice_get es i ≡ Some e
+  symbol_at [] zero e rest d = absurd cc
+  symbol_at [] (suc i) e rest d = absurd cc
+  symbol_at (a ∷ es) zero e rest d = ap (λ (l : List Entry). slice_get l 0) d
+  symbol_at (a ∷ es) (suc i) e rest d = symbol_at es i e rest d
+
+  pub deep_from : (depth : ℕ) → IsDeepAmong ss rs r.entries.items depth
+      → AreDeep (sources_in ss rs) (suc depth) k
+  deep_from depth a = (
+    a.deep.0,
+    (
+      record {
+        file = f;
+        is = source_at;
+        symbol = a.number;
+        named =
+            ap (λ o. option_and_then module_of (option_map (λ q. q.2) o))
+            (at_mapped symbol_of r.entries.items a.number a.entry
+            (symbol_at r.entries.items a.number a.entry a.rest a.is))
+            ∙ a.deep.1.0;
+      },
+      a.deep.1.1,
+    ),
+  )
 
 -- ---- the program
 

@@ -16,9 +16,9 @@ use Rattle.bicep_declared.specs.Declarations.{DeclaredTree}
 use Rattle.bicep_declared.specs.Declarations as d
 use Rattle.bicep_meaning.specs.Files.{SourceFile}
 use Rattle.bicep_meaning.specs.Instances.{module_of}
-use Rattle.emitted_templates.specs.Built.{templates_of, template_of}
-use Rattle.emitted_templates.specs.Fits.{HasTemplate}
-use Rattle.emitted_templates.specs.Modules.{is_module_by}
+use Rattle.program_templates.specs.Built.{templates_of, template_of}
+use Rattle.program_templates.specs.Fits.{HasTemplate}
+use Rattle.program_templates.specs.Modules.{is_module_by}
 use Rattle.file_templates.specs.declared.fault.EmitFault.{EmitFault}
 use Rattle.bicep_emit.specs.Modules.{AreGiven, IsGiven, HasLast, HasModule, IsModuleFor}
 use Rattle.bicep_program.specs.declared.file.SourceFile.{SourceFile as Text}

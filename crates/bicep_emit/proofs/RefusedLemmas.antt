@@ -1,6 +1,6 @@
 -- What is refused has a fault and no value.
 use Rattle.std.proofs.Common.{◌≡◌, ◌<◌, ◌≤◌, ◌-◌, ℕ, List, Option, Some, Result, Ok, Err, refl, sym, ap, subst}
-use Rattle.std.proofs.Common.{arith}
+use Rattle.std.proofs.Common.{inl, inr, arith}
 use Rattle.std.specs.Prelude.{option_map, IfOk, IfErr}
 use Rattle.template_tree.specs.View.{template_tree}
 use Rattle.template_tree.specs.declared.resource.Template.{Template}
@@ -12,7 +12,9 @@ use Rattle.template_nestings.specs.Laws.{NestsNoDeeper}
 use Rattle.template_nestings.specs.Nestings.{template_nesting}
 use Rattle.template_parts.specs.declared.limit.Which.TheVariants as which
 use Rattle.file_templates.specs.declared.fault.EmitFault.TheVariants as fault
-use Rattle.bicep_emit.specs.Faults.{IsMemoryFault, IsNestingFault}
+use Rattle.bicep_program.specs.declared.file.SourceFile.{SourceFile as Text}
+use Rattle.resolved_program.specs.declared.resolved.ResolvedFile.{ResolvedFile}
+use Rattle.bicep_emit.specs.Faults.{IsFaultOr, IsMemoryFault, IsNestingFault}
 use Rattle.bicep_emit.specs.Programs.{IsWithin}
 use Rattle.bicep_emit.specs.Modules.{IsGiven}
 
@@ -47,3 +49,18 @@ pub within_nesting : (law : NestsNoDeeper) (t : Template) (depth : ℕ) → dept
     → depth ≤ 120 → IsWithin t t
 within_nesting law t depth e l =
     (refl, law (template_tree t) 120 (omega arith) (subst (λ n. n ≤ 120) e l))
+
+-- what else is said of modules that are too deep in one another
+pub other_deep : (D E : Type 0) (ss : List Text) (rs : List ResolvedFile) → (D → E) → (x : EmitFault)
+    → IsFaultOr D ss rs x → IsFaultOr E ss rs x
+other_deep D E ss rs more x (inl h) = inl h
+other_deep D E ss rs more x (inr (inl h)) = inr (inl h)
+other_deep D E ss rs more x (inr (inr h)) = inr (inr (h.0, more h.1))
+
+pub each_deep : {A D E : Type 0} (ss : List Text) (rs : List ResolvedFile) → (D → E) → (res : Result A EmitFault)
+    → IfErr res (IsFaultOr D ss rs) → IfErr res (IsFaultOr E ss rs)
+each_deep ss rs more (Ok a) h = tt
+each_deep {A} {D} {E} ss rs more (Err x) h = other_deep D E ss rs more x h
+
+pub no_deep : (E : Type 0) → ⊥ → E
+no_deep E h = absurd h

@@ -22,7 +22,7 @@ use Rattle.resolved_program.specs.View.{file_view, files_view}
 use Rattle.resolved_program.specs.declared.resolved.ResolvedFile.{ResolvedFile}
 use Rattle.bicep_meaning.specs.Files.{SourceFile}
 use Rattle.source_files.specs.Sources.{source_files}
-use Rattle.emitted_templates.specs.Files.{IsEmitted}
+use Rattle.program_templates.specs.Files.{IsEmitted}
 
 abbrev pub trees_of : List ProgramFile → List FileTree
 trees_of ps = map (λ p. p.tree) ps

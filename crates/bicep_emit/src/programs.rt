@@ -54,7 +54,7 @@ fn file_at(files: &[ResolvedFile], number: usize) -> Option<&ResolvedFile>
 
 // One less, where it is not 0.
 fn below(depth: u32) -> Option<u32>
-    ensures { spec.IfSome result (spec.IsBelow depth) }
+    ensures { spec.IsBelow depth result }
 {
     if depth == 0 { None } else { Some(depth - 1) }
 }
@@ -87,7 +87,7 @@ fn with_modules(
     requires pair { spec.ArePaired sources.now files.now source.now file.now }
     requires modules { spec.AreModules sources.now files.now file.now.entries.items templates.items }
     ensures whole { spec.IsWholeAtEach sources.now files.now source.now file.now result }
-    ensures fault { spec.IfErr result (spec.IsFault sources.now files.now) }
+    ensures fault { spec.IfErr result (spec.IsOwnFault sources.now files.now) }
 {
     checked_files_are_paired();
     checked_files_have_kinds();
@@ -107,7 +107,7 @@ fn whole_file(
 ) -> Result<Template, EmitFault>
     requires { spec.IsRead sources.now files.now }
     ensures whole { spec.IfOk result (spec.IsWholeFile sources.now files.now number) }
-    ensures fault { spec.IfErr result (spec.IsFault sources.now files.now) }
+    ensures fault { spec.IfErr result (spec.IsFaultFrom sources.now files.now number depth) }
 {
     match source_at(sources, number) {
         Some(source) => with_source(alloc, sources, files, source, number, depth),
@@ -127,7 +127,7 @@ fn with_source(
 ) -> Result<Template, EmitFault>
     requires { spec.IsReadWith sources.now files.now number source.now }
     ensures whole { spec.IfOk result (spec.IsWholeFile sources.now files.now number) }
-    ensures fault { spec.IfErr result (spec.IsFault sources.now files.now) }
+    ensures fault { spec.IfErr result (spec.IsFaultFrom sources.now files.now number depth) }
 {
     match file_at(files, number) {
         Some(file) => whole_of(alloc, sources, files, source, file, depth),
@@ -147,7 +147,7 @@ fn whole_of(
 ) -> Result<Template, EmitFault>
     requires { spec.AreReadAndPaired sources.now files.now source.now file.now }
     ensures whole { spec.IsWholeAtEach sources.now files.now source.now file.now result }
-    ensures fault { spec.IfErr result (spec.IsFault sources.now files.now) }
+    ensures fault { spec.IsFaultFromEach sources.now files.now source.now file.now depth result }
 {
     match modules(alloc, sources, files, file.entries.as_slice(), depth) {
         Ok(templates) => with_modules(alloc, sources, files, source, file, templates),
@@ -166,7 +166,7 @@ fn modules(
 ) -> Result<Vec<Option<Template>>, EmitFault>
     requires { spec.IsRead sources.now files.now }
     ensures modules { spec.IfOk result (spec.AreModulesIn sources.now files.now entries.now) }
-    ensures fault { spec.IfErr result (spec.IsFault sources.now files.now) }
+    ensures fault { spec.IfErr result (spec.IsFaultAmong sources.now files.now entries.now depth) }
 {
     let mut all = Vec::new(alloc);
     for entry in entries {
@@ -190,7 +190,7 @@ fn with_module(
 ) -> Result<Vec<Option<Template>>, EmitFault>
     requires { spec.IsRead sources.now files.now }
     ensures added { spec.IfOk result (spec.HasModule sources.now files.now kind templates.items) }
-    ensures fault { spec.IfErr result (spec.IsFault sources.now files.now) }
+    ensures fault { spec.IfErr result (spec.IsFaultBy sources.now files.now kind depth) }
 {
     match module(alloc, sources, files, kind, depth) {
         Ok(template) => with_last(templates, template),
@@ -209,7 +209,7 @@ fn module(
 ) -> Result<Option<Template>, EmitFault>
     requires { spec.IsRead sources.now files.now }
     ensures module { spec.IfOk result (spec.IsModuleFor sources.now files.now kind) }
-    ensures fault { spec.IfErr result (spec.IsFault sources.now files.now) }
+    ensures fault { spec.IfErr result (spec.IsFaultBy sources.now files.now kind depth) }
 {
     match module_of(kind) {
         Some(number) => deeper(alloc, sources, files, number, depth),
@@ -228,7 +228,7 @@ fn deeper(
 ) -> Result<Option<Template>, EmitFault>
     requires { spec.IsRead sources.now files.now }
     ensures module { spec.IfOk result (spec.IsInner sources.now files.now number) }
-    ensures fault { spec.IfErr result (spec.IsFault sources.now files.now) }
+    ensures fault { spec.IfErr result (spec.IsFaultInside sources.now files.now number depth) }
 {
     match below(depth) {
         Some(less) => match whole_file(alloc, sources, files, number, less) {

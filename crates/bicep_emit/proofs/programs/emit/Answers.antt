@@ -1,7 +1,7 @@
 use Rattle.std.proofs.Common.{List, inl, sym, subst}
 use Rattle.bicep_program.specs.declared.file.SourceFile.{SourceFile as Text}
 use Rattle.resolved_program.specs.declared.resolved.ResolvedFile.{ResolvedFile}
-use Rattle.bicep_emit.specs.Faults.{IsFault}
+use Rattle.bicep_emit.specs.Faults.{IsFaultFrom}
 use Rattle.bicep_emit.specs.Modules.{IsWholeFile}
 use Rattle.bicep_emit.specs.Programs.{IsRead}
 use Rattle.bicep_emit.proofs.FileLemmas.{is_read, is_emission, too_deep}
@@ -33,7 +33,7 @@ returns-in-Ok-clause-fault c =
 pub returns-in-Err-clause-fault : goal.returns-in-Err-clause-fault
 returns-in-Err-clause-fault c =
     inl
-    (subst (λ (ss : List Text). IsFault ss c.args.checked.now.resolved.files.items c.in-Err.fault)
+    (subst (λ (ss : List Text). IsFaultFrom ss c.args.checked.now.resolved.files.items 0 29 c.in-Err.fault)
     c.as_slice-sources.ensures.value
-    (subst (λ (rs : List ResolvedFile). IsFault c.as_slice-sources.result.now rs c.in-Err.fault)
+    (subst (λ (rs : List ResolvedFile). IsFaultFrom c.as_slice-sources.result.now rs 0 29 c.in-Err.fault)
     c.as_slice-files.ensures.value c.in-Err.ensures.fault))

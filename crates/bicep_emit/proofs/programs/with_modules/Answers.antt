@@ -5,7 +5,7 @@ use Rattle.resolved_program.specs.View.{file_view}
 use Rattle.source_files.specs.Sources.{source_file}
 use Rattle.file_templates.specs.Texts.{text_of}
 use Rattle.bicep_emit.specs.Programs.{trees_of}
-use Rattle.bicep_emit.proofs.FileLemmas.{view_at, shallow, of_program, same_outputs, trees_fit, given_to, all_whole}
+use Rattle.bicep_emit.proofs.FileLemmas.{view_at, shallow, same_outputs, trees_fit, given_to, all_whole}
 use Rattle.bicep_emit.proofs.FileLemmas.{of_file}
 use Rattle.bicep_emit.proofs.programs.with_modules.Goals as goal
 
@@ -16,8 +16,18 @@ file_template-requires-clause-text c =
 
 pub file_template-requires-clause-checked : goal.file_template-requires-clause-checked
 file_template-requires-clause-checked c =
-    of_program c.args.sources.now c.args.files.now c.requires.read c.requires.pair.0 c.args.source.now
-    c.args.file.now c.requires.pair.1
+    let h = c.requires.read in
+    record {
+      folder = h.folder;
+      files = map program_file c.args.sources.now;
+      read = h.read;
+      resolved = h.resolved;
+      none = h.none;
+      number = c.requires.pair.0;
+      is =
+          view_at c.args.sources.now c.args.files.now h c.requires.pair.0 c.args.source.now c.args.file.now
+          c.requires.pair.1;
+    }
 
 pub file_template-requires-clause-given : goal.file_template-requires-clause-given
 file_template-requires-clause-given c =

@@ -38,10 +38,10 @@ use Rattle.emitted_resources.specs.Resources.{HasMembers}
 use Rattle.emitted_modules.specs.Arguments.{argument_name, argument_value, arguments_in}
 use Rattle.emitted_modules.specs.Modules.{IsDeployment}
 use Rattle.emitted_modules.proofs.ArgumentLemmas.{argument_in_is}
-use Rattle.file_lists.specs.Lists.{variable_name}
-use Rattle.file_resources.specs.Built.{Templates, template_of, IsResourceOf, IsModuleOf, IsBuiltFor, AreBuilt}
-use Rattle.file_resources.specs.Seen.{Shape, file_in, files_in, whole_in}
-use Rattle.file_resources.specs.Values.{AreBoth, IsContent}
+use Rattle.emitted_templates.specs.Lists.{variable_name}
+use Rattle.emitted_templates.specs.Built.{Templates, template_of, IsResourceOf, IsModuleOf, IsBuiltFor, AreBuilt}
+use Rattle.emitted_templates.specs.Seen.{Shape, file_in, files_in, whole_in}
+use Rattle.emitted_templates.specs.Values.{AreBoth, IsContent}
 use Rattle.emitted_templates.specs.Templates.{IsTemplateOf}
 use Rattle.kept_templates.specs.Kept.{AreBatchesSmall, AllKept}
 use Rattle.kept_templates.proofs.NameLemmas.{copy, none_loops}

@@ -8,8 +8,8 @@ use Rattle.template_written.specs.Keeps.{Keeps, KeepsBatches}
 use Rattle.bicep_meaning.specs.Files.{SourceFile}
 use Rattle.declaration_laws.specs.Sound.{IsSound}
 use Rattle.placed_files.specs.Placed.{IsPlaced}
-use Rattle.file_resources.specs.Built.{Templates, template_of}
-use Rattle.file_resources.specs.Seen.{Shape, file_in}
+use Rattle.emitted_templates.specs.Built.{Templates, template_of}
+use Rattle.emitted_templates.specs.Seen.{Shape, file_in}
 use Rattle.emitted_templates.specs.Templates.{IsTemplateOf}
 
 -- a batch of a loop has at most 800 instances

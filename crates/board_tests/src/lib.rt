@@ -1,0 +1,7 @@
+//! Tests of boards, over plans that are given as tables.
+#![tactic(auto)]
+
+#[cfg(test)]
+mod replays;
+#[cfg(test)]
+mod scripts;

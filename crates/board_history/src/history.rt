@@ -48,6 +48,13 @@ pub(crate) fn run_out<T: Drop, R: Drop>(_part: T) -> Result<R, OutOfMemory>
     Err(AllocError)
 }
 
+/// The answer; the part is dropped.
+pub fn letting_go<T: Drop, R>(answer: R, _part: T) -> R
+    ensures { result ≡ answer }
+{
+    answer
+}
+
 // The place of the first refusal: the one that there is, or else this one.
 pub(crate) fn first_place(refusal: Option<usize>, place: usize) -> Option<usize>
     ensures { result ≡ first_of refusal place }
@@ -84,6 +91,19 @@ impl History {
         ensures { map event_of result.now ≡ self.now.events }
     {
         self.events.as_slice()
+    }
+
+    /// What has happened, oldest first; how far the tasks are is dropped.
+    pub fn into_events(self) -> Vec<Event>
+        ensures { map event_of result.items ≡ self.events }
+    {
+        let History {
+            events,
+            stages,
+            refusal: _,
+            opened: _,
+        } = self;
+        letting_go(events, stages)
     }
 
     /// Whether the task is done.

@@ -8,4 +8,4 @@ mod history;
 mod noting;
 mod stage;
 
-pub use history::History;
+pub use history::{History, letting_go};

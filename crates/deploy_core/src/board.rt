@@ -18,7 +18,7 @@ use crate::naming::task_name;
 use crate::opening::{Parts, first_parts};
 use arm_value::{OutOfMemory, Text};
 use board_dealing::dealing::{deal, give_back, is_refused, pause, take};
-use board_history::History;
+use board_history::{History, letting_go};
 use board_replays::replaying::reopen;
 use board_replays::{BoardFault, Noted};
 use dealer_trait::Next;
@@ -133,6 +133,20 @@ impl<S: Standings> Board<S> {
         ensures legal { IsLegal (S.planned self.now.0) self.now.1.events }
     {
         self.history.events()
+    }
+
+    /// What has happened, oldest first; the rest of the board is dropped. Each event came where it might.
+    pub fn into_history(self) -> Vec<Event>
+        ensures events { map event_of result.items ≡ self.1.events }
+        ensures legal { IsLegal (S.planned self.0) self.1.events }
+    {
+        let Board {
+            standings,
+            history,
+            agenda,
+            seen: _,
+        } = self;
+        letting_go(history.into_events(), (standings, agenda))
     }
 
     /// The open Begin of the task has this answer. It takes no memory.

@@ -12,4 +12,5 @@ mod naming;
 mod opening;
 
 pub use board::Board;
+pub use board_history::letting_go;
 pub use ending::Ending;

@@ -14,6 +14,7 @@ use Rattle.deploy_histories.specs.Legal.{IsLegal, HasEnded}
 use Rattle.deploy_histories.specs.Outcome.{AreGiven}
 use Rattle.task_standings.specs.Failures.{Tells}
 use Rattle.deploy_core.specs.Endings.{IsTrueEnding}
+use Rattle.deploy_core.specs.Past.{event_of}
 use Rattle.deploy_core.specs.Names.{name_of}
 use Rattle.deploy_core.specs.Steps.{steps_of, until_crash}
 use Rattle.deploy_cells.specs.Cells.{Position}
@@ -28,6 +29,7 @@ use Rattle.deployment_runs.specs.declared.fault.RunFault.TheVariants.{Provider, 
 use Rattle.deployment_runs.proofs.GivenLemmas.{one_of}
 use Rattle.run_reports.specs.Sides.{ProviderSide, MadeCalls, side, sides}
 use Rattle.run_reports.specs.Deployments.{DeploymentRun, Ran}
+use Rattle.run_reports.specs.declared.outcome.Outcome.{Outcome}
 use Rattle.run_reports.specs.Reported.{SaysRun, HasFailed, IsReported, surroundings}
 use Rattle.run_reports.proofs.SideLemmas.{sides_ran, side_at, as_many}
 
@@ -47,14 +49,14 @@ module _ {P : Type 0} (may : Kind) (tells : Bool) (calls : P → List Call) (fau
             (side_at may tells calls faults old k s a f.0) (f.1 a a)),
       )
 
-  pub reported_run : (named : ℕ → Option (List ℕ)) (name : List ℕ) (reported : Result Report AllocError)
+  pub reported_run : (named : ℕ → Option (List ℕ)) (name : List ℕ) (o : Outcome) → map event_of o.history.items ≡ h
       → IsLegal x h → HasRun (Made may tells calls faults) (steps_of x h) old new → AreGiven may x at_opening h
       → ((e : Ending) → ending ≡ Ok e → HasEnded x (progress h) × IsTrueEnding told x (progress h) e)
       → ((k : ℕ) → ending ≡ by_seat k → (k < length old)
       × ((s : Seat P) (t : Seat P) → Rose (faults (get_or old k s).provider) (faults (get_or new k t).provider)))
-      → IfOk reported (SaysRun named name ending)
-      → IsReported (surroundings may tells told (sides faults calls old) (sides faults calls new)) named name x reported
-  reported_run named name reported legal ran given ended failed says = record {
+      → IfOk o.report (SaysRun named name ending)
+      → IsReported (surroundings may tells told (sides faults calls old) (sides faults calls new)) named name x o
+  reported_run named name o handed legal ran given ended failed says = record {
     run = record { planned = x; history = h; ending = ending };
     planned = refl;
     ran = record {
@@ -64,6 +66,7 @@ module _ {P : Type 0} (may : Kind) (tells : Bool) (calls : P → List Call) (fau
       calls = sides_ran may tells calls faults (steps_of x h) old new ran;
       given = given;
     };
+    handed = handed;
     says = says;
     blamed = λ k e. failed_by ran.length_same k (failed k e);
   }
@@ -107,3 +110,7 @@ none_before h g e f = e ∙ ap until_crash f
 pub failed_as : (f q : RunFault) (k : ℕ) → f ≡ q → ◌≡◌ {A = Result Ending RunFault} (Err q) (by_seat k)
     → ◌≡◌ {A = Result Ending RunFault} (Err f) (by_seat k)
 failed_as f q k e i = ap {B = Result Ending RunFault} (λ (r : RunFault). Err r) e ∙ i
+
+-- nothing is said where memory was out
+pub says_nothing : (f : Report → Type 0) (r : Result Report AllocError) (e : AllocError) → r ≡ Err e → IfOk r f
+says_nothing f r e is = subst (λ (q : Result Report AllocError). IfOk q f) (sym is) tt

@@ -1,10 +1,10 @@
 -- What is reported of a deployment that was run.
-use Rattle.std.specs.Prelude.{◌≡◌, ◌<◌, ℕ, Bool, List, length, Option, Result, Ok, Err, IfOk, slice_index_or}
-use Rattle.std.specs.declared.alloc.AllocError.{AllocError}
+use Rattle.std.specs.Prelude.{◌≡◌, ◌<◌, ℕ, Bool, List, length, map, Option, Result, Ok, Err, IfOk, slice_index_or}
 use Rattle.arm_edges.specs.Faults.{Rose}
 use Rattle.command_reports.specs.Faults.{fault_report}
 use Rattle.command_reports.specs.declared.faults.Fault.TheVariants as fault
 use Rattle.command_reports.specs.declared.report.Report.{Report}
+use Rattle.deploy_core.specs.Past.{event_of}
 use Rattle.deploy_histories.specs.Planned.{Planned}
 use Rattle.seat_calls.specs.Called.{Kind}
 use Rattle.task_standings.specs.Failures.{Tells}
@@ -16,6 +16,7 @@ use Rattle.deployment_runs.specs.declared.fault.RunFault.{RunFault}
 use Rattle.deployment_runs.specs.declared.fault.RunFault.TheVariants.{Provider, OutOfMemory}
 use Rattle.run_reports.specs.Sides.{ProviderSide}
 use Rattle.run_reports.specs.Deployments.{DeploymentRun, Surroundings, Ran}
+use Rattle.run_reports.specs.declared.outcome.Outcome.{Outcome}
 use Rattle.seat_calls.specs.declared.seat.Seat.{Seat}
 
 -- the record of its fields, in this order
@@ -40,12 +41,13 @@ HasFailed before now k = (k < length before)
     × ((s : Seat ProviderSide) (t : Seat ProviderSide) → Rose (slice_index_or before k s).provider.faults
     (slice_index_or now k t).provider.faults)
 
--- what is planned was run, and this is reported of the run, unless memory was out
+-- what is planned was run, and this came of it: its history, and a report unless memory was out for that
 pub record IsReported (s : Surroundings) (named : ℕ → Option (List ℕ)) (name : List ℕ) (x : Planned)
-    (reported : Result Report AllocError) : Type 0 where
+    (o : Outcome) : Type 0 where
   pub run : DeploymentRun
   pub planned : run.planned ≡ x
   pub ran : Ran s run
-  pub says : IfOk reported (SaysRun named name run.ending)
+  pub handed : map event_of o.history.items ≡ run.history
+  pub says : IfOk o.report (SaysRun named name run.ending)
   -- a provider is blamed only where its count of faults rose
   pub blamed : (k : ℕ) → run.ending ≡ by_seat k → HasFailed s.before s.now k

@@ -5,9 +5,10 @@
 //! `specs/Reported.antt`.
 #![tactic(auto)]
 
-mod dropping;
 pub mod laws;
+mod outcome;
 mod running;
 
-pub use dropping::letting_go;
+pub use deploy_core::letting_go;
+pub use outcome::Outcome;
 pub use running::run_board;

@@ -1,4 +1,4 @@
--- How a deployment comes out, from its plan up to the value that states its template.
+-- What comes of a deployment, from its plan up to the value that states its template.
 use Rattle.std.proofs.Common.{◌≡◌, ◌<◌, ◌≤◌, length, inr, ℕ, List, Bool, Result, Ok, Err, refl, sym, ap, subst}
 use Rattle.std.proofs.Common.{◌∙◌, map}
 use Rattle.std.specs.Prelude.{IfOk, encode_utf8_all, vec_items}
@@ -26,6 +26,7 @@ use Rattle.command_refusals.specs.Templates.{plan_report}
 use Rattle.deploy_core.specs.Names.{name_of}
 use Rattle.run_reports.specs.Deployments.{LeadsToStates}
 use Rattle.run_reports.specs.Reported.{IsReported}
+use Rattle.run_reports.specs.declared.outcome.Outcome.{Outcome}
 use Rattle.run_reports.proofs.SideLemmas.{as_many}
 use Rattle.template_tree.specs.View.{template_tree}
 use Rattle.template_tree.specs.declared.resource.Template.{Template}
@@ -41,30 +42,33 @@ use Rattle.template_parameters.specs.Binding.{BoundMeaning, bound_view}
 use Rattle.template_deployments.specs.Requests.{request_of, IsBoundTo}
 use Rattle.template_deployments.specs.Refusals.{IsUnplanned, IsUnrun, IsRefusal}
 use Rattle.template_deployments.specs.Deploying.{AreReady, MayDeploy, MayRun, MayDeployBound, title, terms, around}
-use Rattle.template_deployments.specs.Deploying.{CameOut}
+use Rattle.template_deployments.specs.Deploying.{CameOut, IsRefusedWith}
 use Rattle.template_deployments.specs.Deploying.{HasRun, HasDeployedBound, HasDeployedRead, HasDeployed}
 use Rattle.template_deployments.specs.declared.asked.Asked.{Asked}
 
 module _ {P : Type 0} (may : Kind) (told : Bool) (faults : P → ℕ) (calls : P → List Call)
-    (old new : Vec (Seat P) Global) (r : Result Report AllocError) where
+    (old new : Vec (Seat P) Global) (o : Outcome) where
   -- by other refusals and sources, which follow, in an equal place
   pub came_out_more : (f g : Report → Type 0) (s u : Planned → Type 0) (a b : Place) → ((q : Report) → f q → g q)
-      → ((x : Planned) → s x → u x) → a ≡ b → CameOut may told faults calls old new r f s a
-      → CameOut may told faults calls old new r g u b
+      → ((x : Planned) → s x → u x) → a ≡ b → CameOut may told faults calls old new o f s a
+      → CameOut may told faults calls old new o g u b
   came_out_more f g s u a b refused source same c = record {
     ready = c.ready;
     came =
-        came_more (terms f s a) (terms g u b) (around may told faults calls old new r) r refused source (λ x. refl)
+        came_more (terms f s a) (terms g u b) (around may told faults calls old new o) o refused source (λ x. refl)
         (ap (λ (p : Place). encode_utf8_all p.deployment) same) c.came;
   }
 
 -- no provider was called, and the deployment was refused
 pub turned_down : {P : Type 0} (may : Kind) (told : Bool) (faults : P → ℕ) (calls : P → List Call)
-    (seats : Vec (Seat P) Global) (r : Result Report AllocError) (f : Report → Type 0) (s : Planned → Type 0)
-    (a : Place) → AreReady (vec_items seats) → IfOk r f → CameOut may told faults calls seats seats r f s a
-turned_down may told faults calls seats r f s a ready says = record {
+    (seats : Vec (Seat P) Global) (o : Outcome) (r : Result Report AllocError) (f : Report → Type 0)
+    (s : Planned → Type 0) (a : Place) → AreReady (vec_items seats) → IsRefusedWith r o → IfOk r f
+    → CameOut may told faults calls seats seats o f s a
+turned_down may told faults calls seats o r f s a ready refused says = record {
   ready = ready;
-  came = came_out (terms f s a) (around may told faults calls seats seats r) r refl says;
+  came =
+      came_out (terms f s a) (around may told faults calls seats seats o) o refl refused.nothing
+      (subst (λ (q : Result Report AllocError). IfOk q f) (sym refused.report) says);
 }
 
 pub if_says : (f : Report → Type 0) (p : Report) (r : Result Report AllocError) → IfOk r (λ q. q ≡ p)
@@ -92,7 +96,7 @@ is_plan_of law q t b p bound acc mode whole = record {
 -- ---- a plan is run
 
 module _ {P : Type 0} (may : Kind) (told : Bool) (faults : P → ℕ) (calls : P → List Call)
-    (old new : Vec (Seat P) Global) (r : Result Report AllocError) where
+    (old new : Vec (Seat P) Global) (o : Outcome) where
   -- as many seats as before
   as_ready : AreReady (vec_items old) → length (vec_items new) ≡ length (vec_items old) → HasNoJobs (vec_items new)
       → AreReady (vec_items new)
@@ -110,14 +114,14 @@ module _ {P : Type 0} (may : Kind) (told : Bool) (faults : P → ℕ) (calls : P
   pub ran_plan : (p : Plan) (held : List HeldResource) → HaveOutcomes may → MayRun p held old → IsInOrder held
       → HaveKeys held → HasNoJobs (vec_items new) → (x : Planned) → x ≡ planned_by p held → (name : List ℕ)
       → name ≡ encode_utf8_all p.place.now.deployment
-      → IsReported (around may told faults calls old new r) (name_of title x) name x r
-      → HasRun may told faults calls old new r p held
+      → IsReported (around may told faults calls old new o) (name_of title x) name x o
+      → HasRun may told faults calls old new o p held
   ran_plan p held law m order keys free x same name named is =
-      let at = subst (λ (n : List ℕ). IsReported (around may told faults calls old new r) (name_of title x) n x r)
+      let at = subst (λ (n : List ℕ). IsReported (around may told faults calls old new o) (name_of title x) n x o)
       named is in
       let done = subst
-      (λ (y : Planned). IsReported (around may told faults calls old new r) (name_of title y)
-      (encode_utf8_all p.place.now.deployment) y r) same at in
+      (λ (y : Planned). IsReported (around may told faults calls old new o) (name_of title y)
+      (encode_utf8_all p.place.now.deployment) y o) same at in
       record {
         ready =
             as_ready m.may.ready
@@ -126,7 +130,7 @@ module _ {P : Type 0} (may : Kind) (told : Bool) (faults : P → ℕ) (calls : P
             free;
         came =
             came_run (terms (λ q. ⊥) (λ y. y ≡ planned_by p held) p.place.now)
-            (around may told faults calls old new r) (planned_by p held) r
+            (around may told faults calls old new o) (planned_by p held) o
             (leads_by p held law m.accepted order keys m.may) refl done;
       }
 
@@ -147,11 +151,11 @@ module _ {P : Type 0} (t : Template) (b : List BoundParameter) (a : Asked) (p : 
   }
 
   pub bound_ran : (may : Kind) (told : Bool) (faults : P → ℕ) (calls : P → List Call) (old new : Vec (Seat P) Global)
-      (r s : Result Report AllocError) → HaveHistories → IsAccepted p a.held.now → p.mode ≡ a.mode
+      (r s : Outcome) → HaveHistories → IsAccepted p a.held.now → p.mode ≡ a.mode
       → MayDeployBound t b a old → s ≡ r → HasRun may told faults calls old new r p a.held.now
       → HasDeployedBound may told faults calls old new s t a
   bound_ran may told faults calls old new r s law acc mode m is ran =
-      subst (λ (o : Result Report AllocError). HasDeployedBound may told faults calls old new o t a) (sym is)
+      subst (λ (o : Outcome). HasDeployedBound may told faults calls old new o t a) (sym is)
       (came_out_more may told faults calls old new r (λ q. ⊥) (IsUnplanned (request_of a) (template_tree t))
       (λ x. x ≡ planned_by p a.held.now) (IsPlanOf (request_of a) (template_tree t)) p.place.now a.place.now
       (λ q h. absurd h)
@@ -178,11 +182,11 @@ unplanned q t b f r bound holds report = record {
 }
 
 module _ {P : Type 0} (may : Kind) (told : Bool) (faults : P → ℕ) (calls : P → List Call)
-    (old new : Vec (Seat P) Global) (r s : Result Report AllocError) where
+    (old new : Vec (Seat P) Global) (r s : Outcome) where
   pub read_ran : (t : Template) (a : Asked) → s ≡ r → HasDeployedBound may told faults calls old new r t a
       → HasDeployedRead may told faults calls old new s t a
   read_ran t a is ran =
-      subst (λ (o : Result Report AllocError). HasDeployedRead may told faults calls old new o t a) (sym is)
+      subst (λ (o : Outcome). HasDeployedRead may told faults calls old new o t a) (sym is)
       (came_out_more may told faults calls old new r (IsUnplanned (request_of a) (template_tree t))
       (IsUnrun (request_of a) (template_tree t)) (IsPlanOf (request_of a) (template_tree t))
       (IsPlanOf (request_of a) (template_tree t)) a.place.now a.place.now (λ q h. inr h) (λ x h. h) refl ran)
@@ -190,7 +194,7 @@ module _ {P : Type 0} (may : Kind) (told : Bool) (faults : P → ℕ) (calls : P
   pub value_ran : (v : Value) (t : Template) (a : Asked) → States (json v) (template_tree t) → s ≡ r
       → HasDeployedRead may told faults calls old new r t a → HasDeployed may told faults calls old new s v a
   value_ran v t a states is ran =
-      subst (λ (o : Result Report AllocError). HasDeployed may told faults calls old new o v a) (sym is)
+      subst (λ (o : Outcome). HasDeployed may told faults calls old new o v a) (sym is)
       (came_out_more may told faults calls old new r (IsUnrun (request_of a) (template_tree t))
       (IsRefusal (json v) (request_of a)) (IsPlanOf (request_of a) (template_tree t))
       (IsPlanBy (json v) (request_of a)) a.place.now a.place.now (λ q h. inr (template_tree t, (states, h)))

@@ -1,5 +1,5 @@
--- How the deployment of a template comes out.
-use Rattle.std.specs.Prelude.{◌≡◌, ◌<◌, ◌≤◌, ℕ, Bool, List, length, Result, encode_utf8_all, vec_items}
+-- What comes of the deployment of a template.
+use Rattle.std.specs.Prelude.{◌≡◌, ◌<◌, ◌≤◌, ℕ, Bool, List, [], length, Result, encode_utf8_all, vec_items}
 use Rattle.std.specs.declared.alloc.AllocError.{AllocError}
 use Rattle.std.specs.declared.alloc.Global.{Global}
 use Rattle.std.specs.declared.vec.Vec.{Vec}
@@ -25,6 +25,7 @@ use Rattle.plan_boards.specs.Tells.{tells}
 use Rattle.run_reports.specs.Sides.{sides}
 use Rattle.run_reports.specs.Deployments.{Surroundings}
 use Rattle.run_reports.specs.Reported.{surroundings}
+use Rattle.run_reports.specs.declared.outcome.Outcome.{Outcome}
 use Rattle.template_deployments.specs.Came.{Terms, Came}
 use Rattle.template_parts.specs.declared.given.BoundParameter.{BoundParameter}
 use Rattle.template_tree.specs.View.{template_tree}
@@ -74,14 +75,14 @@ terms refusal source place = record {
 }
 
 module _ {P : Type 0} (may : Kind) (told : Bool) (faults : P → ℕ) (calls : P → List Call)
-    (old new : Vec (Seat P) Global) (r : Result Report AllocError) where
+    (old new : Vec (Seat P) Global) (o : Outcome) where
   abbrev pub around : Surroundings
   around = surroundings may told tells (sides faults calls (vec_items old)) (sides faults calls (vec_items new))
 
   -- so the deployment came out, and no seat has a job
   pub record CameOut (refusal : Report → Type 0) (source : Planned → Type 0) (place : Place) : Type 0 where
     pub ready : AreReady (vec_items new)
-    pub came : Came (terms refusal source place) around r
+    pub came : Came (terms refusal source place) around o
 
   -- the plan was run
   abbrev pub HasRun : Plan → List HeldResource → Type 0
@@ -100,3 +101,8 @@ module _ {P : Type 0} (may : Kind) (told : Bool) (faults : P → ℕ) (calls : P
   -- the deployment of what a value states was refused, or its template was run
   abbrev pub HasDeployed : Value → Asked → Type 0
   HasDeployed v a = CameOut (IsRefusal (json v) (request_of a)) (IsPlanBy (json v) (request_of a)) a.place.now
+
+-- it was refused with this report, and nothing has happened
+pub record IsRefusedWith (r : Result Report AllocError) (o : Outcome) : Type 0 where
+  pub report : o.report ≡ r
+  pub nothing : o.history.items ≡ []

@@ -10,8 +10,8 @@ plan-requires g c = record {
   names_differ = c.stated_names_differ.ensures (template_tree c.args.template.now) c.requires.read.stated;
 }
 
-pub run_plan-report-requires-clause-allowed : goal.run_plan-report-requires-clause-allowed
-run_plan-report-requires-clause-allowed g c κs within =
+pub run_plan-outcome-requires-clause-allowed : goal.run_plan-outcome-requires-clause-allowed
+run_plan-outcome-requires-clause-allowed g c κs within =
     may_run c.args.template.now c.args.bound.now c.args.asked c.in-Ok.plan c.in-Ok.ensures.whole c.args.seats.now
     c.in-Ok.ensures.accepted c.requires
 
@@ -19,16 +19,16 @@ pub returns-in-Ok : goal.returns-in-Ok
 returns-in-Ok g c =
     bound_ran c.args.template.now c.args.bound.now c.args.asked c.in-Ok.plan c.in-Ok.ensures.whole
     g.P.Provider.may g.P.Provider.tells g.P.Provider.faults g.P.Provider.calls c.args.seats.now
-    c.run_plan-report.new.seats
-    c.run_plan-report.result c.letting_go.result c.accepted_plans_have_histories.ensures c.in-Ok.ensures.accepted
-    c.in-Ok.ensures.mode c.requires c.letting_go.ensures c.run_plan-report.ensures
+    c.run_plan-outcome.new.seats
+    c.run_plan-outcome.result c.letting_go.result c.accepted_plans_have_histories.ensures c.in-Ok.ensures.accepted
+    c.in-Ok.ensures.mode c.requires c.letting_go.ensures c.run_plan-outcome.ensures
 
 pub returns-in-Err : goal.returns-in-Err
 returns-in-Err g c =
     let q = request_of c.args.asked in
     let t = template_tree c.args.template.now in
     turned_down g.P.Provider.may g.P.Provider.tells g.P.Provider.faults g.P.Provider.calls c.args.seats.now
-    c.letting_go-in-Err.result (IsUnplanned q t) _ _ c.requires.read.may.ready
+    c.refused.result c.letting_go-in-Err.result (IsUnplanned q t) _ _ c.requires.read.may.ready c.refused.ensures
     (if_says_as (IsUnplanned q t) (plan_report c.in-Err.fault) c.plan_report.result c.letting_go-in-Err.result
     c.letting_go-in-Err.ensures c.plan_report.ensures
     (λ r e. unplanned q t c.args.bound.now c.in-Err.fault r c.requires.bound c.in-Err.ensures.fault e))

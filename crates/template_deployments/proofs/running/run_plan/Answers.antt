@@ -18,5 +18,5 @@ returns-in-Ok g c =
 
 pub returns-in-Err : goal.returns-in-Err
 returns-in-Err g c =
-    turned_down g.P.Provider.may g.P.Provider.tells g.P.Provider.faults g.P.Provider.calls c.args.seats.now _ _ _ _
-    c.requires.allowed.may.ready tt
+    turned_down g.P.Provider.may g.P.Provider.tells g.P.Provider.faults g.P.Provider.calls c.args.seats.now
+    c.refused.result _ _ _ _ c.requires.allowed.may.ready c.refused.ensures tt

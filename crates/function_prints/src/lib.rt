@@ -18,3 +18,4 @@ pub use joining::{concat, join};
 pub use padding::pad_left;
 pub use printed::to_text;
 pub use stated::read_json;
+pub use whole::has_whole_numbers;

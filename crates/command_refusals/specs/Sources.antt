@@ -13,8 +13,6 @@ use Rattle.lock_rules.specs.Spaced.{spaced}
 use Rattle.command_reports.specs.declared.report.Report.{Report}
 use Rattle.command_reports.specs.declared.faults.Fault.TheVariants.{Memory, Tree}
 use Rattle.command_reports.specs.Faults.{fault_report, refusal_report}
-use Rattle.command_refusals.specs.declared.sources.EmitFault.{EmitFault}
-use Rattle.command_refusals.specs.declared.sources.EmitFault.TheVariants as emit
 
 -- a refusal with a file, in UTF-8
 abbrev pub of_file : List ℕ → List ℕ → Report
@@ -76,8 +74,3 @@ check_report files (check.MissingModuleParameter n at) =
     at_place (codes "MissingModuleParameter") (file_name files n) at
 check_report files (check.ExtraModuleParameter n at) = at_place (codes "ExtraModuleParameter") (file_name files n) at
 check_report files check.OutOfMemory = fault_report Memory
-
--- a program whose main file has this name becomes no template
-abbrev pub emit_report : List ℕ → EmitFault → Report
-emit_report main emit.Limit = of_file (codes "Limit") main
-emit_report main emit.TooDeep = of_file (codes "TooDeep") main

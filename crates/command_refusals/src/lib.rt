@@ -12,5 +12,5 @@ mod templates;
 mod words;
 
 pub use requests::{code_report, name_report, parameter_report};
-pub use sources::{EmitFault, check_report, emit_report, load_report};
+pub use sources::{check_report, load_report};
 pub use templates::{bind_report, plan_report, template_report};

@@ -1,7 +1,7 @@
 // Why sources are refused.
 
 ghost use Rattle.std.specs.Prelude.{◌≡◌, encode_utf8_all, IfOk};
-ghost use Rattle.command_refusals.specs.Sources.{at_place, check_report, emit_report, file_name, lex_report};
+ghost use Rattle.command_refusals.specs.Sources.{at_place, check_report, file_name, lex_report};
 ghost use Rattle.command_refusals.specs.Sources.{load_report, parse_report};
 
 use crate::listing::of_names;
@@ -13,15 +13,6 @@ use bicep_program::{LoadFault, SourceFile};
 use bicep_types::CheckFault;
 use command_reports::{Report, refusal_report};
 use std::alloc::Global;
-
-/// Why a program becomes no template.
-#[derive(Clone, Copy, Debug, PartialEq, Eq)]
-pub enum EmitFault {
-    /// A quantity of the template is beyond its limit.
-    Limit,
-    /// An expression of the template nests too deep.
-    TooDeep,
-}
 
 // The lexer refuses a file.
 fn lex_report(alloc: Global, file: &str, fault: LexFault) -> Result<Report, OutOfMemory>
@@ -124,15 +115,5 @@ pub fn check_report(
             at_offset(alloc, "ExtraModuleParameter", files, *n, *at)
         }
         CheckFault::OutOfMemory => out_of_memory(alloc),
-    }
-}
-
-/// The report of a program that becomes no template, whose main file has this name.
-pub fn emit_report(alloc: Global, main: &str, fault: EmitFault) -> Result<Report, OutOfMemory>
-    ensures { IfOk result (λ r. r ≡ emit_report main.now fault) }
-{
-    match fault {
-        EmitFault::Limit => refusal_report(alloc, "Limit", main),
-        EmitFault::TooDeep => refusal_report(alloc, "TooDeep", main),
     }
 }

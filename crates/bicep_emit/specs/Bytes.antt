@@ -1,9 +1,9 @@
 -- The bytes of a template.
-use Rattle.std.specs.Prelude.{◌≡◌, ◌≤◌, ◌<◌, ◌⊎◌, ℕ, List, length, Some}
+use Rattle.std.specs.Prelude.{◌≡◌, ◌≤◌, ◌<◌, ◌⊎◌, ℕ, List, length, Some, None}
 use Rattle.serde_json.specs.Written.{compact_text}
 use Rattle.foundation.specs.declared.limits.TheConstants.{MAX_TEMPLATE_BYTES}
 use Rattle.arm_value.specs.Json.{Json, nesting}
-use Rattle.arm_value.specs.Reading.{data_of, reading}
+use Rattle.arm_value.specs.Reading.{data_of, reading, not_whole}
 use Rattle.read_backs.specs.Characters.{HasCharacters}
 use Rattle.template_meaning.specs.Describes.{Describes}
 use Rattle.template_parts.specs.declared.limit.Which.TheVariants as which
@@ -40,6 +40,7 @@ pub record AreBytes (j : Json) (b : List ℕ) : Type 0 where
   pub text : b ≡ text_of_value j
   pub reads : reading b ≡ Some (data_of j)
   pub characters : HasCharacters j
+  pub whole : not_whole (data_of j) ≡ None
   pub small : length b ≤ MAX_TEMPLATE_BYTES
 
 abbrev pub HasLongText : Json → EmitFault → Type 0
@@ -53,6 +54,7 @@ pub record IsBytesOf (t : Template) (b : List ℕ) : Type 0 where
   pub text : b ≡ text_of_value value
   pub reads : reading b ≡ Some (data_of value)
   pub characters : HasCharacters value
+  pub whole : not_whole (data_of value) ≡ None
   pub small : length b ≤ MAX_TEMPLATE_BYTES
 
 abbrev pub IsBytesFault : Template → EmitFault → Type 0

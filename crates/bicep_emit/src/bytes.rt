@@ -4,6 +4,7 @@ ghost use Rattle.bicep_emit.specs.Clauses as spec;
 use arm_value::{Bytes, Value};
 use file_templates::EmitFault;
 use foundation::limits::MAX_TEMPLATE_BYTES;
+use function_prints::has_whole_numbers;
 use read_backs::know_characters;
 use std::alloc::Global;
 use template_parts::Which;
@@ -30,6 +31,7 @@ fn bytes_of(alloc: Global, value: &Value) -> Result<Bytes, EmitFault>
     ensures fault { spec.IfErr result (spec.HasLongText (spec.json value.now)) }
 {
     know_characters(value);
+    has_whole_numbers(value);
     match value.to_json(alloc) {
         Ok(bytes) => short(bytes),
         Err(_) => Err(EmitFault::OutOfMemory),

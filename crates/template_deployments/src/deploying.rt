@@ -3,7 +3,7 @@
 ghost use Rattle.template_deployments.specs.Deploying as spec;
 
 use crate::asked::Asked;
-use crate::refused::refused;
+use crate::refusing::refused;
 use crate::running::run_plan;
 use arm_template::{Bound, Template, bind, read_template};
 use arm_value::Value;

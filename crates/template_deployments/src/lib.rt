@@ -7,9 +7,9 @@
 
 mod asked;
 mod deploying;
-mod refused;
+mod refusing;
 mod running;
 
 pub use asked::Asked;
 pub use deploying::deploy_value;
-pub use refused::refused;
+pub use refusing::refused;

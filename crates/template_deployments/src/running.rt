@@ -2,7 +2,7 @@
 
 ghost use Rattle.template_deployments.specs.Deploying as spec;
 
-use crate::refused::refused;
+use crate::refusing::refused;
 use arm_ids::Held;
 use plan_boards::{Plan, open_board};
 use plan_outcomes::laws::one_outcome_of_a_plan;

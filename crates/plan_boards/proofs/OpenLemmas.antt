@@ -1,4 +1,4 @@
--- The board of a plan on which nothing has happened.
+-- The board of a plan.
 use Rattle.std.proofs.Common.{◌≡◌, List, sym, ap, subst, ◌∙◌}
 use Rattle.arm_ids.specs.Held.{HeldResource}
 use Rattle.task_aims.specs.Plan.{Plan}
@@ -8,7 +8,7 @@ use Rattle.deploy_core.specs.Opens.{AreStartNeeds}
 use Rattle.plan_standings.specs.declared.standings.PlanStandings.{PlanStandings}
 use Rattle.plan_standings.specs.Kept.{planned_of, IsNew}
 
-new_planned : (g : Plan) (held : List HeldResource) (s : PlanStandings) → IsNew g held s
+pub new_planned : (g : Plan) (held : List HeldResource) (s : PlanStandings) → IsNew g held s
     → planned_of s ≡ planned_by g held
 new_planned g held s n =
     ap (λ (p : Plan). planned_by p s.held.now) n.plan ∙ ap (λ (h : List HeldResource). planned_by g h) n.held_then

@@ -4,3 +4,4 @@ pub use Rattle.history_plans.specs.Planned
 pub use Rattle.history_plans.specs.Plans
 pub use Rattle.plan_standings.specs.Kept
 pub use Rattle.plan_standings.specs.Tells
+pub use Rattle.plan_standings.specs.Titles

@@ -16,3 +16,4 @@ mod EnterFailLemmas
 mod LeaveFailLemmas
 mod FailStepLemmas
 mod RootLemmas
+mod TitleLemmas

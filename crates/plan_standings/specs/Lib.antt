@@ -7,3 +7,4 @@ pub mod Kept
 pub mod Tells
 pub mod Ended
 pub mod Needing
+pub mod Titles

@@ -1,4 +1,7 @@
 // What a board asks of a plan.
+ghost use Rattle.std.specs.Prelude.{◌≡◌, IfOk};
+ghost use Rattle.arm_ids.specs.Segments.{is_empty};
+ghost use Rattle.plan_standings.specs.Titles.{or_root};
 
 use crate::root_outputs::root_outputs;
 use crate::standings::PlanStandings;
@@ -8,8 +11,24 @@ use std::alloc::Global;
 use task_aims::{aim_of, place_of};
 use task_standings::{Aim, Failing, Kind, RootOutput, Standing, Standings};
 
+fn is_blank(text: &Text) -> bool
+    ensures { result ≡ is_empty text.now }
+{
+    text.as_str().is_empty()
+}
+
+// The text; `/` where it is empty.
+fn or_root(alloc: Global, text: Text) -> Result<Text, OutOfMemory>
+    ensures { IfOk result (λ t. t ≡ or_root text) }
+{
+    if is_blank(&text) {
+        return Text::of(alloc, "/");
+    }
+    Ok(text)
+}
+
 impl<'p, 'a> Standings for PlanStandings<'p, 'a> {
-    ghost use Rattle.plan_paths.specs.Texts.{a_position, scope_text};
+    ghost use Rattle.plan_standings.specs.Titles.{title};
     ghost use Rattle.plan_standings.specs.Kept.{planned_of, known_of, IsSound, HasNoted};
     ghost use Rattle.plan_standings.specs.Tells as faults;
 
@@ -23,7 +42,7 @@ impl<'p, 'a> Standings for PlanStandings<'p, 'a> {
 
     ghost tells = { faults.tells };
 
-    ghost titled = { λ x q. scope_text a_position x.deployment.template q };
+    ghost titled = { λ x q. title x q };
 
     fn count(&self) -> u32 {
         self.task_count()
@@ -38,7 +57,8 @@ impl<'p, 'a> Standings for PlanStandings<'p, 'a> {
     }
 
     fn place(&self, alloc: Global, task: u32) -> Result<Text, OutOfMemory> {
-        place_of(alloc, self.plan, task)
+        let place = place_of(alloc, self.plan, task)?;
+        or_root(alloc, place)
     }
 
     fn standing(

@@ -34,6 +34,7 @@ use Rattle.worker_crew.specs.Driven.{HasNoJobs}
 use Rattle.plan_boards.specs.Plan.{Plan}
 use Rattle.plan_cells.specs.Meaning.{Deployment}
 use Rattle.plan_boards.specs.Plans.{deployment_of}
+use Rattle.plan_boards.specs.Titles.{title}
 use Rattle.template_deployments.specs.Came.{Came}
 use Rattle.template_deployments.proofs.RunLemmas.{came_more, came_out, came_run}
 use Rattle.template_tree.specs.Tree.{TemplateTree}
@@ -41,7 +42,7 @@ use Rattle.template_parts.specs.declared.given.BoundParameter.{BoundParameter}
 use Rattle.template_parameters.specs.Binding.{BoundMeaning, bound_view}
 use Rattle.template_deployments.specs.Requests.{request_of, IsBoundTo}
 use Rattle.template_deployments.specs.Refusals.{IsUnplanned, IsUnrun, IsRefusal}
-use Rattle.template_deployments.specs.Deploying.{AreReady, MayDeploy, MayRun, MayDeployBound, title, terms, around}
+use Rattle.template_deployments.specs.Deploying.{AreReady, MayDeploy, MayRun, MayDeployBound, terms, around}
 use Rattle.template_deployments.specs.Deploying.{CameOut, IsRefusedWith}
 use Rattle.template_deployments.specs.Deploying.{HasRun, HasDeployedBound, HasDeployedRead, HasDeployed}
 use Rattle.template_deployments.specs.declared.asked.Asked.{Asked}

@@ -13,15 +13,14 @@ use Rattle.command_reports.specs.declared.report.Report.{Report}
 use Rattle.provider_trait.specs.declared.call.Call.{Call}
 use Rattle.seat_calls.specs.Called.{Kind}
 use Rattle.seat_calls.specs.declared.seat.Seat.{Seat}
-use Rattle.deploy_cells.specs.Cells.{Position}
 use Rattle.deploy_histories.specs.Planned.{Planned}
 use Rattle.deploy_core.specs.Names.{name_of}
 use Rattle.deployment_requests.specs.Requests.{IsPlanOf, IsPlanBy}
 use Rattle.history_holdings.specs.Opening.{IsPlainPlace}
 use Rattle.plan_boards.specs.Planned.{planned_by}
 use Rattle.plan_boards.specs.Plan.{Plan}
-use Rattle.plan_paths.specs.Texts.{a_position, scope_text}
 use Rattle.plan_boards.specs.Tells.{tells}
+use Rattle.plan_boards.specs.Titles.{title}
 use Rattle.run_reports.specs.Sides.{sides}
 use Rattle.run_reports.specs.Deployments.{Surroundings}
 use Rattle.run_reports.specs.Reported.{surroundings}
@@ -60,10 +59,6 @@ pub record MayDeployBound {P : Type 0} (t : Template) (b : List BoundParameter) 
     (seats : Vec (Seat P) Global) : Type 0 where
   pub bound : IsBoundTo (request_of a) (template_tree t) b
   pub read : MayDeployRead t a seats
-
--- the name of a scope: its position
-abbrev pub title : Planned → Position → List ℕ
-title x q = scope_text a_position x.deployment.template q
 
 -- the terms of the deployment of a template: its name is that of the place
 abbrev pub terms : (Report → Type 0) → (Planned → Type 0) → Place → Terms

@@ -8,10 +8,9 @@ use Rattle.bicep_declared.specs.Declarations.{BodyTree, a_module}
 use Rattle.bicep_meaning.specs.Files.{declaration, symbol_name}
 use Rattle.bicep_meaning.specs.Instances as source
 use Rattle.bicep_meaning.specs.Instances.{module_kind}
-use Rattle.emitted_resources.specs.Files.{IsResource, IsBody, IsArgument, argument_named, frames_around}
+use Rattle.emitted_resources.specs.Files.{IsResource, IsBody, IsArgument, argument_named}
 use Rattle.emitted_resources.specs.Values.{AreBoth}
 use Rattle.emitted_resources.specs.Seen.{Shape, file_in, files_in, whole_in}
-use Rattle.emitted_resources.specs.Filled.{emission_sight}
 use Rattle.emitted_resources.specs.Heads.{whole_name, whole_condition}
 use Rattle.emitted_resources.specs.Limits.{HeadIsWithin}
 use Rattle.emitted_resources.specs.Resources.{IsHead}

@@ -6,6 +6,7 @@ pub use Rattle.emitted_resources.specs.Extremes
 pub use Rattle.emitted_resources.specs.Files
 pub use Rattle.emitted_resources.specs.Filled
 pub use Rattle.emitted_resources.specs.Limits
+pub use Rattle.emitted_resources.specs.Metadata
 pub use Rattle.emitted_resources.specs.Resources
 pub use Rattle.emitted_resources.specs.Seen
 pub use Rattle.emitted_resources.specs.Values

@@ -11,6 +11,8 @@ pub mod laws;
 mod measured;
 mod modules;
 
-pub use emitted_resources::{Measure, Needs, Table, measured_head, measured_resource, resource};
+pub use emitted_resources::{
+    Measure, Needs, Table, copied_metadata, measured_head, measured_resource, resource,
+};
 pub use measured::measured_arguments;
 pub use modules::module;

@@ -1,5 +1,5 @@
 -- What declares resources and modules.
-use Rattle.std.proofs.Common.{◌≡◌, ℕ, false, List, Option, None, Result, Ok, Err, refl, ap, ◌∙◌, subst, sym}
+use Rattle.std.proofs.Common.{◌≡◌, ℕ, false, List, Option, Result, Ok, Err, refl, ap, ◌∙◌, subst, sym}
 use Rattle.std.specs.Prelude.{IfOk}
 use Rattle.std.specs.declared.alloc.AllocError.{AllocError}
 use Rattle.arm_expr.specs.Tree.{Tree}
@@ -73,7 +73,7 @@ pub head_is : (e : Emission) (n : ℕ) (l : Option LoopTree) (k : Kind) (symbol 
       condition = names.1;
       depends_on = needs.depends_on;
       copy = copy;
-      metadata = None;
+      metadata = needs.metadata;
     })
 head_is e n l k symbol needs kind names copy t a h c = record {
   kind = sym t;

@@ -6,6 +6,7 @@ pub use Rattle.emitted_values.specs.Buildable
 pub use Rattle.emitted_values.specs.Files
 pub use Rattle.emitted_values.specs.Values
 pub use Rattle.emitted_values.specs.Filled
+pub use Rattle.emitted_values.specs.Metadata
 pub use Rattle.emitted_values.specs.Seen
 pub use Rattle.measured_expressions.specs.Spans
 pub use Rattle.measured_trees.specs.Extremes

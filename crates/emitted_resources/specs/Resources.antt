@@ -1,5 +1,5 @@
 -- Resources of a template that are built.
-use Rattle.std.specs.Prelude.{◌≡◌, ℕ, false, List, Option, None}
+use Rattle.std.specs.Prelude.{◌≡◌, ℕ, false, List, Option}
 use Rattle.arm_value.specs.Json.{object, pairs}
 use Rattle.arm_value.specs.View.{json}
 use Rattle.template_parts.specs.declared.declaration.Declaration.{Declaration}
@@ -29,7 +29,7 @@ pub record IsHead (e : Emission) (n : ℕ) (l : Option LoopTree) (k : Kind) (x :
   pub symbol : d.symbol ≡ needs.symbol
   pub depends_on : d.depends_on ≡ needs.depends_on
   pub existing : d.existing ≡ false
-  pub metadata : d.metadata ≡ None
+  pub metadata : d.metadata ≡ needs.metadata
 
 -- the resource of a number that has this body
 abbrev pub resource_put : SourceFile → ℕ → BodyTree → Put

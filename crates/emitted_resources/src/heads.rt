@@ -1,5 +1,5 @@
 //! What declares resources and modules in a template.
-ghost use Rattle.std.specs.Prelude.{◌≡◌, false, None, IfOk};
+ghost use Rattle.std.specs.Prelude.{◌≡◌, false, IfOk};
 ghost use Rattle.arm_value.specs.View.{json};
 ghost use Rattle.bicep_declared.specs.View.{body_tree};
 ghost use Rattle.deploy_cells.specs.Puts.{Kind};
@@ -75,7 +75,7 @@ fn joined(
       condition = names.1;
       depends_on = needs.depends_on;
       copy = copy;
-      metadata = None;
+      metadata = needs.metadata;
     } }
 {
     Declaration {
@@ -87,7 +87,7 @@ fn joined(
         condition: names.1,
         depends_on: needs.depends_on,
         copy,
-        metadata: None,
+        metadata: needs.metadata,
     }
 }
 

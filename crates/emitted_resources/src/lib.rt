@@ -15,7 +15,7 @@ mod needs;
 mod resources;
 mod turns;
 
-pub use emitted_values::{Table, content, measured_content};
+pub use emitted_values::{Table, content, copied_metadata, measured_content};
 pub use heads::head;
 pub use measured::{measured_head, measured_resource};
 pub use measured_expressions::Span;

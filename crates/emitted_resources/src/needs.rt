@@ -1,6 +1,6 @@
 //! What resources of a template have beside what their declarations say.
 
-use arm_value::{Items, Text};
+use arm_value::{Items, Text, Value};
 use template_parts::Batches;
 
 /// What a resource or a module has in a template beside what its declaration says.
@@ -12,4 +12,6 @@ pub struct Needs {
     pub depends_on: Items,
     /// When the instances of its loop may begin.
     pub batches: Batches,
+    /// Its metadata.
+    pub metadata: Option<Value>,
 }

@@ -1,3 +1,4 @@
+mod MetadataLemmas
 mod TemplateLemmas
 pub use Rattle.file_lists.proofs.LimitLemmas
 pub use Rattle.file_resources.proofs.ListedLemmas

@@ -1,5 +1,5 @@
 -- Templates that are made have the parts of their files.
-use Rattle.std.proofs.Common.{ℕ, List, Option, Result, Ok, Err, sym, subst}
+use Rattle.std.proofs.Common.{◌≤◌, ℕ, List, length, Option, Result, Ok, Err, sym, subst}
 use Rattle.std.specs.Prelude.{IfOk}
 use Rattle.std.specs.declared.alloc.AllocError.{AllocError}
 use Rattle.template_parts.specs.declared.mode.Form.TheVariants.{One}
@@ -9,6 +9,7 @@ use Rattle.template_tree.specs.View.{template_tree, header_of}
 use Rattle.template_tree.specs.declared.resource.Template.{Template}
 use Rattle.source_worlds.specs.Numbers.{in_template}
 use Rattle.file_lists.specs.Lists.{AreParameters, AreVariables, AreOutputs, AreDivided, parameter_name, output_name}
+use Rattle.file_lists.specs.Lists.{parameter_count, variable_count, output_count}
 use Rattle.file_lists.specs.Order.{AreInOrder}
 use Rattle.file_resources.specs.Built.{Templates, AreBuilt}
 use Rattle.file_resources.specs.Fits.{IsReady}
@@ -33,6 +34,9 @@ module _ (s : Shape) (rs : List (Option Parameter)) (us : Templates) where
     variable_order = subst AreDivided (sym m.variables) l.variable_order;
     outputs = subst (AreOutputs s) (sym m.outputs) l.outputs;
     output_order = subst (AreInOrder output_name) (sym m.outputs) l.output_order;
+    few_parameters = subst (λ xs. length xs ≤ parameter_count s) (sym m.parameters) l.few_parameters;
+    few_variables = subst (λ xs. length xs ≤ variable_count s) (sym m.variables) l.few_variables;
+    few_outputs = subst (λ xs. length xs ≤ output_count s) (sym m.outputs) l.few_outputs;
     resources = subst (AreBuilt s us (in_template One (file_in s))) (sym m.same_resources) r;
   }
 

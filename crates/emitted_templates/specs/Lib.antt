@@ -1,5 +1,6 @@
 pub mod Templates
 pub mod Parts
+pub mod Metadata
 pub mod Laws
 pub use Rattle.file_lists.specs.Found
 pub use Rattle.file_lists.specs.Lists

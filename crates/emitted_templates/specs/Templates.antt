@@ -1,11 +1,12 @@
 -- The template of a file in the first form, as it is made.
-use Rattle.std.specs.Prelude.{◌≡◌, ℕ, List, Option, codes}
+use Rattle.std.specs.Prelude.{◌≡◌, ◌≤◌, ℕ, List, length, Option, codes}
 use Rattle.template_parts.specs.declared.mode.Form.TheVariants.{One}
 use Rattle.template_parts.specs.declared.parameter.Parameter.{Parameter}
 use Rattle.template_tree.specs.Tree.{ResourceTree}
 use Rattle.template_tree.specs.declared.resource.Template.{Template}
 use Rattle.source_worlds.specs.Numbers.{in_template}
 use Rattle.file_lists.specs.Lists.{AreParameters, AreVariables, AreOutputs, AreDivided, parameter_name, output_name}
+use Rattle.file_lists.specs.Lists.{parameter_count, variable_count, output_count}
 use Rattle.file_lists.specs.Lists.{VariablesFit, OutputsFit, DefaultsFit, SymbolsDiffer, OutputsDiffer, AreRules}
 use Rattle.file_lists.specs.Order.{AreInOrder}
 use Rattle.file_resources.specs.Built.{Templates, AreBuilt}
@@ -36,6 +37,10 @@ pub record AreListsOf (s : Shape) (rs : List (Option Parameter)) (x : Listed) : 
   pub variable_order : AreDivided x.variables
   pub outputs : AreOutputs s x.outputs
   pub output_order : AreInOrder output_name x.outputs
+  -- and no more than there are in the file
+  pub few_parameters : length x.parameters ≤ parameter_count s
+  pub few_variables : length x.variables ≤ variable_count s
+  pub few_outputs : length x.outputs ≤ output_count s
 
 -- the template of these lists and resources
 pub record IsMadeOf (x : Listed) (resources : List ResourceTree) (u : Template) : Type 0 where
@@ -58,4 +63,8 @@ pub record IsTemplateOf (s : Shape) (rs : List (Option Parameter)) (us : Templat
   pub variable_order : AreDivided u.variables
   pub outputs : AreOutputs s u.outputs
   pub output_order : AreInOrder output_name u.outputs
+  -- each list has no more parts than there are in the file
+  pub few_parameters : length u.parameters ≤ parameter_count s
+  pub few_variables : length u.variables ≤ variable_count s
+  pub few_outputs : length u.outputs ≤ output_count s
   pub resources : AreBuilt s us (in_template One (file_in s)) u.resources

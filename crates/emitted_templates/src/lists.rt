@@ -1,9 +1,10 @@
 //! The parameters, the variables and the outputs of a template.
 ghost use Rattle.std.specs.Prelude.{IfOk};
+ghost use Rattle.file_lists.specs.Lists.{HaveMetadata};
 ghost use Rattle.file_resources.specs.Fits.{IsReady};
 ghost use Rattle.emitted_templates.specs.Templates.{CanBeListed, AreListsOf};
 
-use arm_value::{ListOf, OutOfMemory};
+use arm_value::{ListOf, OutOfMemory, Value};
 use emitted_parts::lacks;
 use file_lists::{outputs, parameters, variables};
 use file_resources::Table;
@@ -21,19 +22,21 @@ pub(crate) struct Listed {
     pub outputs: ListOf<Output>,
 }
 
-/// The parameters, the variables and the outputs of the template of a file.
+/// The parameters, the variables and the outputs of the template of a file. `metadata` is that of its outputs.
 pub(crate) fn lists(
     alloc: Global,
     table: &Table,
     rules: &[Option<Parameter>],
+    metadata: &[Option<Value>],
 ) -> Result<Listed, OutOfMemory>
     requires ready { IsReady table.now }
     requires listed { CanBeListed table.now rules.now }
-    ensures { IfOk result (AreListsOf table.now rules.now) }
+    ensures lists { IfOk result (AreListsOf table.now rules.now) }
+    ensures metadata { IfOk result (λ x. HaveMetadata table.now metadata.now x.outputs) }
 {
     match parameters(alloc, table, rules) {
         Ok(parameters) => match variables(alloc, table) {
-            Ok(variables) => match outputs(alloc, table) {
+            Ok(variables) => match outputs(alloc, table, metadata) {
                 Ok(outputs) => Ok(Listed {
                     parameters,
                     variables,

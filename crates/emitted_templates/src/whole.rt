@@ -2,11 +2,12 @@
 ghost use Rattle.std.specs.Prelude.{◌≡◌, IfOk};
 ghost use Rattle.file_resources.specs.Built.{templates_of};
 ghost use Rattle.file_resources.specs.Fits.{IsReady, AreMentioned, AllMayBeBuilt};
+ghost use Rattle.emitted_templates.specs.Metadata.{IsNoted};
 ghost use Rattle.emitted_templates.specs.Templates as spec;
 ghost use Rattle.emitted_templates.specs.Templates.{CanBeListed, IsMadeOf, IsTemplateOf};
 
 use crate::lists::{Listed, lists};
-use arm_value::{OutOfMemory, Text};
+use arm_value::{OutOfMemory, Text, Value};
 use emitted_parts::lacks;
 use file_resources::{Table, resources};
 use std::alloc::Global;
@@ -47,9 +48,10 @@ fn made(alloc: Global, lists: Listed, resources: Resources) -> Result<Template, 
 }
 
 /// The template of a file in the first form, with a table of all its declarations. `rules` has at the number of each
-/// symbol that is a parameter its name, its type, the values that are allowed, its bounds and its metadata. `mentioned`
-/// is what `dependencies` of `bicep_dependencies` returns. `templates` has for each symbol the template of the file of
-/// its module, where it is that of a module. What declarations become is within the limits of templates.
+/// symbol that is a parameter its name, its type, the values that are allowed, its bounds and its metadata. `metadata`
+/// has at the number of each resource and each module its metadata, and `output_metadata` at that of each output.
+/// `mentioned` is what `dependencies` of `bicep_dependencies` returns. `templates` has for each symbol the template of
+/// the file of its module, where it is that of a module. What declarations become is within the limits of templates.
 ///
 /// # Errors
 ///
@@ -58,6 +60,8 @@ pub fn template(
     alloc: Global,
     table: &Table,
     rules: &[Option<Parameter>],
+    metadata: &[Option<Value>],
+    output_metadata: &[Option<Value>],
     mentioned: &[BTreeSet<usize>],
     templates: Vec<Option<Template>>,
 ) -> Result<Template, OutOfMemory>
@@ -65,10 +69,11 @@ pub fn template(
     requires listed { CanBeListed table.now rules.now }
     requires mentioned { AreMentioned table.now mentioned.now }
     requires built { AllMayBeBuilt table.now (templates_of templates.items) }
-    ensures { IfOk result (IsTemplateOf table.now rules.now (templates_of templates.items)) }
+    ensures template { IfOk result (IsTemplateOf table.now rules.now (templates_of templates.items)) }
+    ensures metadata { IfOk result (IsNoted table.now metadata.now output_metadata.now) }
 {
-    match resources(alloc, table, mentioned, templates) {
-        Ok(resources) => match lists(alloc, table, rules) {
+    match resources(alloc, table, mentioned, metadata, templates) {
+        Ok(resources) => match lists(alloc, table, rules, output_metadata) {
             Ok(lists) => made(alloc, lists, resources),
             Err(_) => lacks(resources),
         },

@@ -1,5 +1,6 @@
 pub mod Kinds
 pub mod Buildable
+pub mod Metadata
 pub use Rattle.emitted_files.specs.Files
 pub use Rattle.emitted_files.specs.Values
 pub use Rattle.filled_tables.specs.Filled

@@ -1,7 +1,6 @@
 //! The value of a variable, an output or an argument.
-ghost use Rattle.std.specs.Prelude.{◌≡◌, ℕ, List, IfOk, option_map};
+ghost use Rattle.std.specs.Prelude.{IfOk, option_map};
 ghost use Rattle.bicep_resolved.specs.View.{value_of};
-ghost use Rattle.bicep_emission.specs.Emitted.{Frame};
 ghost use Rattle.declaration_laws.specs.Sound.{IsSound};
 ghost use Rattle.filled_tables.specs.Seen.{file_in};
 ghost use Rattle.emitted_expressions.specs.Sight.{frames_of};

@@ -8,6 +8,7 @@
 mod contents;
 mod defaults;
 mod laws;
+mod metadata;
 mod outputs;
 mod passes;
 mod variables;
@@ -17,6 +18,7 @@ pub use defaults::{default_value, measured_default};
 pub use filled_tables::Table;
 pub use measured_expressions::Span;
 pub use measured_trees::Measure;
+pub use metadata::copied_metadata;
 pub use outputs::{kind_of, output};
 pub use tree_texts::{Expressions, printed_text, turns};
 pub use variables::variable;

@@ -11,7 +11,7 @@ ghost use Rattle.emitted_values.specs.Kinds as kinds;
 ghost use Rattle.emitted_values.specs.Buildable.{MayBeBuilt};
 
 use crate::contents::content;
-use arm_value::{OutOfMemory, Text};
+use arm_value::{OutOfMemory, Text, Value};
 use bicep_declared::DeclaredOutput;
 use bicep_tree::TypeName;
 use emitted_parts::lacks;
@@ -32,17 +32,19 @@ pub fn kind_of(kind: TypeName) -> ValueType
     }
 }
 
-// The output of a name, a type and a value, which is always there.
+// The output of a name, a type, a value and this metadata, which is always there.
 fn named(
     alloc: Global,
     name: &Text,
     kind: ValueType,
     content: Content,
+    metadata: Option<Value>,
 ) -> Result<Output, OutOfMemory>
     ensures name { IfOk result (λ q. q.name ≡ name.now) }
     ensures kind { IfOk result (λ q. q.kind ≡ kind) }
     ensures content { IfOk result (λ q. q.content ≡ content) }
     ensures condition { IfOk result (λ q. q.condition ≡ None) }
+    ensures metadata { IfOk result (λ q. q.metadata ≡ metadata) }
 {
     match name.copy(alloc) {
         Ok(name) => Ok(Output {
@@ -50,14 +52,14 @@ fn named(
             kind,
             content,
             condition: None,
-            metadata: None,
+            metadata,
         }),
-        Err(_) => lacks(content),
+        Err(_) => lacks((content, metadata)),
     }
 }
 
 /// The output of a name that the file declares, whose value is within the limits of templates, with a table of all
-/// declarations of the file.
+/// declarations of the file and with this metadata.
 ///
 /// # Errors
 ///
@@ -67,15 +69,17 @@ pub fn output(
     table: &Table,
     name: &Text,
     declared: &DeclaredOutput,
+    metadata: Option<Value>,
 ) -> Result<Output, OutOfMemory>
     requires filled { IsFilled table.now }
     requires sound { IsSound (file_in table.now) }
     requires within { MayBeBuilt (spec.value (emission_sight table.now) None (value_of declared.now.value) []) }
     ensures name { IfOk result (λ q. q.name ≡ name.now) }
+    ensures metadata { IfOk result (λ q. q.metadata ≡ metadata) }
     ensures output { IfOk result (IsOutput (files_in table.now) (file_in table.now) (output_tree declared.now)) }
 {
     match content(alloc, table, None, &declared.value, &[]) {
-        Ok(content) => named(alloc, name, kind_of(declared.kind), content),
-        Err(error) => Err(error),
+        Ok(content) => named(alloc, name, kind_of(declared.kind), content, metadata),
+        Err(_) => lacks(metadata),
     }
 }

@@ -1,5 +1,5 @@
 -- Parts that belong to the first so many entries, one after another.
-use Rattle.std.proofs.Common.{◌≡◌, ◌<◌, ◌≤◌, ◌+◌, ℕ, zero, suc, true, false, List, [], Option, Some}
+use Rattle.std.proofs.Common.{◌≡◌, ◌<◌, ◌≤◌, ◌+◌, ℕ, zero, suc, true, false, List, [], length, Option, Some}
 use Rattle.std.proofs.Common.{None, bytes_eq, refl, sym, ap, ◌∙◌, subst, arith}
 use Rattle.std.proofs.Common.{◌⊎◌, inl, inr}
 use Rattle.std.specs.Prelude.{option_and_then}
@@ -12,6 +12,7 @@ use Rattle.named_parts.specs.Order.{AreInOrder, inserted}
 use Rattle.named_parts.proofs.FoundLemmas.{one_inserted}
 use Rattle.named_parts.proofs.OrderLemmas.{in_order}
 use Rattle.file_lists.specs.Found.{sought, name_at, Differ, IsPart, AreOfFirst, AreListed, grown, IsNext}
+use Rattle.file_lists.proofs.SizeLemmas.{none_yet, not_more, one_more_at, is_declared, size_inserted}
 use Rattle.file_lists.proofs.SoughtLemmas.{sought_name, not_sought, is_sought, other_name, is_fold}
 
 -- no part is in order
@@ -177,7 +178,8 @@ module _ {E A B : Type 0} (key : E → List ℕ) (es : List E) (differ : Differ 
   Listed k xs = AreListed key es by name R k xs
 
   pub none_listed : (xs : List A) → xs ≡ [] → Listed 0 xs
-  none_listed xs e = subst (Listed 0) (sym e) (record { first = begin; order = none_in_order name })
+  none_listed xs e =
+      subst (Listed 0) (sym e) (record { first = begin; order = none_in_order name; size = none_yet })
 
   pub next_listed : (k : ℕ) (xs ys : List A) → IsNext name R (name_at key es k) (by k) xs ys → Listed k xs
       → Listed (k + 1) ys
@@ -187,8 +189,11 @@ module _ {E A B : Type 0} (key : E → List ℕ) (es : List E) (differ : Differ 
       by_part None p e = record {
         first = next_first k None xs ys p (λ q. e) (λ a q. absurd cc) h.first;
         order = subst (AreInOrder name) (sym e) h.order;
+        size = not_more by k xs ys e h.size;
       }
       by_part (Some a) p e = record {
         first = next_first k (Some a) xs ys p (λ q. absurd cc) (one_more a xs ys e) h.first;
         order = subst (AreInOrder name) (sym e) (in_order name a xs h.order (next_fresh k a xs p h.first));
+        size = one_more_at by k xs ys (is_declared name R (name_at key es k) (by k) a p)
+            (ap length e ∙ size_inserted name a xs) h.size;
       }

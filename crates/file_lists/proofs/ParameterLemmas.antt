@@ -2,12 +2,13 @@
 use Rattle.std.proofs.Common.{◌≡◌, ◌≤◌, ℕ, zero, suc, Bool, true, false, List, [], ◌∷◌, length, Option, Some, None}
 use Rattle.std.proofs.Common.{refl}
 use Rattle.std.proofs.Common.{sym, ap, ◌∙◌, subst, arith, ◌<◌, Result, Ok, Err}
-use Rattle.std.specs.Prelude.{is_some, option_and_then, slice_index_or, if◌then◌else◌, IfOk}
+use Rattle.std.specs.Prelude.{is_some, option_and_then, option_map, slice_index_or, if◌then◌else◌, IfOk}
 use Rattle.std.specs.declared.alloc.AllocError.{AllocError}
 use Rattle.foundation.proofs.Options.{if_ok}
 use Rattle.arm_value.specs.View.{json}
 use Rattle.arm_value.specs.declared.value.Value.{Value}
 use Rattle.template_parts.specs.declared.parameter.Parameter.{Parameter}
+use Rattle.bicep_names.specs.declared.kind.Kind.{Kind}
 use Rattle.bicep_resolved.specs.Source.{SourceTree}
 use Rattle.bicep_meaning.specs.Files.{symbol_kind, symbol_name}
 use Rattle.bicep_meaning.specs.Instances.{is_parameter, parameter_numbered, symbol_folded}
@@ -20,6 +21,7 @@ use Rattle.file_lists.specs.Lists.{AreRules}
 use Rattle.file_lists.specs.Lists.{SymbolsDiffer, IsDefault, default_of}
 use Rattle.file_lists.proofs.FirstLemmas.{all_first}
 use Rattle.file_lists.proofs.PartLemmas.{no_part, part_there}
+use Rattle.file_lists.proofs.VariableLemmas.{past_end}
 
 past_rules : (rs : List (Option Parameter)) (n : ℕ) → length rs ≤ n → slice_index_or rs n None ≡ None
 past_rules [] n l = refl
@@ -70,6 +72,12 @@ module _ (s : Shape) (rs : List (Option Parameter)) (rules : AreRules s rs) wher
       (sym (numbered (symbol_folded (file_in s) x)))
       (all_first symbol_text (file_in s).symbols differ (parameter_at s) parameter_name
       (λ n q. IsCompleted s (rule_at s rs n) n q) k ps (λ n m. past n (omega (arith, l, m))) h.first x)
+
+-- past the last symbol there is no parameter
+pub past_symbols : (s : Shape) (n : ℕ) → length (file_in s).symbols ≤ n → parameter_at s n ≡ None
+past_symbols s n l =
+    ap (λ (o : Option (ℕ × List ℕ × Kind)). if is_parameter (option_map (λ x. x.2) o) then Some n else None)
+    (past_end (file_in s).symbols n l)
 
 module _ (s : Shape) (n : ℕ) where
   -- a default that is made of its declaration

@@ -1,7 +1,7 @@
 -- Variables whose values no loop gives, and then those that loops give.
 use Rattle.std.proofs.Common.{◌≡◌, ◌≤◌, ◌+◌, ℕ, zero, suc, Bool, true, false, List, [], ◌∷◌, ◌++◌, length, take, drop}
 use Rattle.std.proofs.Common.{Option, Some, None, Ordering, Less, Equal, Greater, refl, sym, ap, ap₂, ◌∙◌, subst}
-use Rattle.std.proofs.Common.{arith, bytes_eq}
+use Rattle.std.proofs.Common.{arith, bytes_eq, length-append}
 use Rattle.std.proofs.lemmas.List.{append-nil, append_assoc, take-append-drop}
 use Rattle.std.specs.Prelude.{slice_get, if◌then◌else◌}
 use Rattle.std.specs.Ordering.{match_ordering}
@@ -17,11 +17,12 @@ use Rattle.named_parts.specs.Found.{found, HasOneMore}
 use Rattle.named_parts.specs.Order.{AreInOrder, place_of, inserted}
 use Rattle.named_parts.proofs.FoundLemmas.{one_between}
 use Rattle.named_parts.proofs.OrderLemmas.{is_inserted, in_order}
-use Rattle.file_lists.specs.Found.{AreOfFirst, IsPart}
+use Rattle.file_lists.specs.Found.{AreOfFirst, IsPart, declared_before}
 use Rattle.file_lists.specs.Lists.{symbol_text, variable_name, is_loop, AllLoop, AreDivided, IsDivided, AreGrown}
-use Rattle.file_lists.specs.Lists.{entry_at}
+use Rattle.file_lists.specs.Lists.{entry_at, variable_count}
 use Rattle.file_lists.specs.Lists.{IsNextVariable, AreVariables, SymbolsDiffer}
 use Rattle.file_lists.proofs.FirstLemmas.{none_in_order, begin, next_first, next_fresh, all_first}
+use Rattle.file_lists.proofs.SizeLemmas.{none_yet, size_inserted, is_declared, not_more, one_more_at, at_most}
 
 pub past_end : {A : Type 0} (xs : List A) (n : ℕ) → length xs ≤ n → slice_get xs n ≡ None
 past_end [] n l = refl
@@ -75,6 +76,21 @@ loop_last : (b : Bool) (v : Variable) (xs : List Variable) → is_loop v.content
 loop_last b v [] e h = (e, tt)
 loop_last b v (x ∷ xs) e h = (h.0, loop_last b v xs e h.1)
 
+-- ---- how many
+
+size_at_end : (v : Variable) (ps ls : List Variable) → length (ps ++ (ls ++ v ∷ [])) ≡ suc (length (ps ++ ls))
+size_at_end v [] [] = refl
+size_at_end v [] (x ∷ ls) = ap suc (size_at_end v [] ls)
+size_at_end v (x ∷ ps) ls = ap suc (size_at_end v ps ls)
+
+size_in_front : (v : Variable) (ps ls : List Variable)
+    → length (inserted variable_name v ps ++ ls) ≡ suc (length (ps ++ ls))
+size_in_front v ps ls =
+    let a = length-append (inserted variable_name v ps) ls in
+    let b = size_inserted variable_name v ps in
+    let c = length-append ps ls in
+    omega (arith, a, b, c)
+
 module _ (s : Shape) where
   abbrev First : ℕ → List Variable → Type 0
   First k vs =
@@ -86,6 +102,7 @@ module _ (s : Shape) where
     pub order : AreInOrder variable_name ps
     pub no_loop : AllLoop false ps
     pub all_loop : AllLoop true ls
+    pub size : length (ps ++ ls) ≤ declared_before (entry_at s) k
 
 module _ (s : Shape) (differ : SymbolsDiffer s) where
   pub none_so_far : (ps ls : List Variable) → ps ≡ [] → ls ≡ [] → SoFar s 0 ps ls
@@ -98,6 +115,7 @@ module _ (s : Shape) (differ : SymbolsDiffer s) where
         order = none_in_order variable_name;
         no_loop = tt;
         all_loop = tt;
+        size = none_yet;
       }))
 
   module _ (k : ℕ) (ps ls : List Variable) (h : SoFar s k ps ls) where
@@ -123,6 +141,14 @@ module _ (s : Shape) (differ : SymbolsDiffer s) where
         let e : v ≡ a = cc in
         subst (λ z. HasOneMore z (ps ++ ls) ys) e m
 
+    -- one variable more
+    longer : (v : Variable) (qs ms : List Variable) → Belongs (Some v)
+        → length (qs ++ ms) ≡ suc (length (ps ++ ls)) → length (qs ++ ms) ≤ declared_before (entry_at s) (k + 1)
+    longer v qs ms p e =
+        one_more_at (entry_at s) k (ps ++ ls) (qs ++ ms)
+        (is_declared variable_name (IsVariable (files_in s) (file_in s)) (symbol_name (file_in s) k) (entry_at s k) v p)
+        e h.size
+
     divided : (v : Variable) (b : Bool) (qs ms : List Variable) → is_loop v.content ≡ b → Belongs (Some v)
         → IsDivided b v ps ls (qs, ms) → SoFar s (k + 1) qs ms
     divided v false qs ms e p d = record {
@@ -133,6 +159,7 @@ module _ (s : Shape) (differ : SymbolsDiffer s) where
       order = subst (AreInOrder variable_name) (sym d.0) (in_order variable_name v ps h.order (fresh v p));
       no_loop = subst (AllLoop false) (sym d.0) (loop_inserted false v ps e h.no_loop);
       all_loop = subst (AllLoop true) (sym d.1) h.all_loop;
+      size = longer v qs ms p (ap₂ (λ xs zs. length (xs ++ zs)) d.0 d.1 ∙ size_in_front v ps ls);
     }
     divided v true qs ms e p d = record {
       first = step (Some v) (qs ++ ms) p (λ q. absurd cc)
@@ -141,6 +168,7 @@ module _ (s : Shape) (differ : SymbolsDiffer s) where
       order = subst (AreInOrder variable_name) (sym d.0) h.order;
       no_loop = subst (AllLoop false) (sym d.0) h.no_loop;
       all_loop = subst (AllLoop true) (sym d.1) (loop_last true v ls e h.all_loop);
+      size = longer v qs ms p (ap₂ (λ xs zs. length (xs ++ zs)) d.0 d.1 ∙ size_at_end v ps ls);
     }
 
     grown_by : (o : Option Variable) (qs ms : List Variable) → Belongs o → AreGrown o ps ls (qs, ms)
@@ -150,6 +178,7 @@ module _ (s : Shape) (differ : SymbolsDiffer s) where
       order = subst (AreInOrder variable_name) (sym d.0) h.order;
       no_loop = subst (AllLoop false) (sym d.0) h.no_loop;
       all_loop = subst (AllLoop true) (sym d.1) h.all_loop;
+      size = not_more (entry_at s) k (ps ++ ls) (qs ++ ms) (ap₂ (λ xs zs. xs ++ zs) d.0 d.1) h.size;
     }
     grown_by (Some v) qs ms p d = divided v (is_loop v.content) qs ms refl p d
 
@@ -166,6 +195,12 @@ module _ (s : Shape) (differ : SymbolsDiffer s) where
       nothing : (n : ℕ) → k ≤ n → entry_at s n ≡ None
       nothing n m =
           ap (variable_by (file_in s) n) (past_end (file_in s).declared.declarations n (omega (arith, l, m)))
+
+  pub are_few : (k : ℕ) (ps ls vs : List Variable) → vs ≡ ps ++ ls → SoFar s k ps ls → length vs ≤ variable_count s
+  are_few k ps ls vs e h =
+      subst (λ xs. length xs ≤ variable_count s) (sym e)
+      (at_most (entry_at s) (length (file_in s).declared.declarations)
+      (λ n m. ap (variable_by (file_in s) n) (past_end (file_in s).declared.declarations n m)) k (ps ++ ls) h.size)
 
   pub are_divided : (k : ℕ) (ps ls vs : List Variable) → vs ≡ ps ++ ls → SoFar s k ps ls → AreDivided vs
   are_divided k ps ls vs e h = record {

@@ -1,6 +1,6 @@
 -- Parts of a template that belong to the symbols or the outputs of a file, found by names after ASCII case folding.
-use Rattle.std.specs.Prelude.{◌≡◌, ◌<◌, ◌≤◌, ℕ, List, Option, Some, None, bytes_eq, position, option_map, slice_get}
-use Rattle.std.specs.Prelude.{Result, Ok, Err}
+use Rattle.std.specs.Prelude.{◌≡◌, ◌<◌, ◌≤◌, ◌+◌, ℕ, zero, suc, Bool, true, false, List, length, Option, Some, None}
+use Rattle.std.specs.Prelude.{bytes_eq, position, is_some, option_map, slice_get, Result, Ok, Err}
 use Rattle.std.specs.declared.alloc.AllocError.{AllocError}
 use Rattle.arm_value.specs.Look.{fold}
 use Rattle.emitted_values.specs.Values.{AreBoth}
@@ -27,6 +27,15 @@ IsPart name R (Some x) None o = o ≡ None
 IsPart name R (Some x) (Some b) None = ⊥
 IsPart name R (Some x) (Some b) (Some a) = (name a ≡ x) × R b a
 
+-- how many of the first so many numbers declare something
+abbrev pub one_if : Bool → ℕ
+one_if true = 1
+one_if false = 0
+
+abbrev pub declared_before : {B : Type 0} → (ℕ → Option B) → ℕ → ℕ
+declared_before by zero = 0
+declared_before by (suc k) = declared_before by k + one_if (is_some (by k))
+
 -- the parts that belong to the first so many entries, each found by the name of its entry
 pub record AreOfFirst {E A B : Type 0} (key : E → List ℕ) (es : List E) (by : ℕ → Option B) (name : A → List ℕ)
     (R : B → A → Type 0) (k : ℕ) (xs : List A) : Type 0 where
@@ -34,11 +43,12 @@ pub record AreOfFirst {E A B : Type 0} (key : E → List ℕ) (es : List E) (by 
   pub later : (x : List ℕ) (n : ℕ) → sought key es x ≡ Some n → k ≤ n → found name x xs ≡ None
   pub none : (x : List ℕ) → sought key es x ≡ None → found name x xs ≡ None
 
--- and they are in order
+-- and they are in order, and no more than entries that declare something
 pub record AreListed {E A B : Type 0} (key : E → List ℕ) (es : List E) (by : ℕ → Option B) (name : A → List ℕ)
     (R : B → A → Type 0) (k : ℕ) (xs : List A) : Type 0 where
   pub first : AreOfFirst key es by name R k xs
   pub order : AreInOrder name xs
+  pub size : length xs ≤ declared_before by k
 
 -- the parts, and one more in its place, where it is there
 abbrev pub grown : {A : Type 0} → (A → List ℕ) → Option A → List A → List A

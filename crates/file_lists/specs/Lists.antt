@@ -1,8 +1,9 @@
 -- The parameters, the variables and the outputs of the template of a file.
 use Rattle.std.specs.Prelude.{◌≡◌, ◌++◌, ℕ, Bool, true, false, List, [], ◌∷◌, Option, Some, None, is_some, slice_get}
-use Rattle.std.specs.Prelude.{slice_index_or, if◌then◌else◌}
+use Rattle.std.specs.Prelude.{length, option_map, slice_index_or, if◌then◌else◌}
 use Rattle.arm_value.specs.Json.{Json}
 use Rattle.arm_value.specs.View.{json}
+use Rattle.arm_value.specs.declared.value.Value.{Value}
 use Rattle.template_parts.specs.declared.content.Content.{Content}
 use Rattle.template_parts.specs.declared.content.Content.TheVariants as content
 use Rattle.template_parts.specs.declared.output.Output.{Output}
@@ -18,10 +19,11 @@ use Rattle.bicep_meaning.specs.Instances.{is_parameter, parameter_named, variabl
 use Rattle.emitted_values.specs.Values.{AreBoth, IsTree}
 use Rattle.emitted_values.specs.Files.{IsVariable, IsOutput, default_at}
 use Rattle.emitted_values.specs.Buildable.{MayBeBuilt, TreeMayBeBuilt}
+use Rattle.emitted_values.specs.Metadata.{metadata_at}
 use Rattle.emitted_values.specs.Seen.{Shape, file_in, files_in}
 use Rattle.emitted_values.specs.Filled.{emission_sight}
 use Rattle.tree_building.specs.Sight.{tree, value}
-use Rattle.file_lists.specs.Found.{Differ, IsPart}
+use Rattle.file_lists.specs.Found.{Differ, IsPart, sought, declared_before}
 
 -- ---- names
 
@@ -87,6 +89,10 @@ module _ (s : Shape) where
       (x : List ℕ) → AreBoth (IsVariable (files_in s) (file_in s)) (variable_named x (file_in s))
       (found variable_name x vs)
 
+  -- how many symbols of the file are variables that have an entry
+  abbrev pub variable_count : ℕ
+  variable_count = declared_before entry_at (length (file_in s).declared.declarations)
+
   abbrev pub VariablesFit : Type 0
   VariablesFit =
       (n : ℕ) (x : List ℕ) (v : ValueTree) → entry_at n ≡ Some v → symbol_name (file_in s) n ≡ Some x
@@ -101,6 +107,24 @@ module _ (s : Shape) where
   AreOutputs os =
       (x : List ℕ) → AreBoth (IsOutput (files_in s) (file_in s)) (output_folded (file_in s) x) (found output_name x os)
 
+  -- the declaration of the output of a number, and its metadata
+  abbrev pub noted_at : List (Option Value) → ℕ → Option (OutputTree × Option Value)
+  noted_at ms n = option_map (λ o. (o, metadata_at ms n)) (output_at n)
+
+  -- an output of a declaration, with this metadata
+  pub record IsNoted (p : OutputTree × Option Value) (q : Output) : Type 0 where
+    pub output : IsOutput (files_in s) (file_in s) p.0 q
+    pub metadata : q.metadata ≡ p.1
+
+  -- the output that has a name of the file after folding has the metadata of the number of this name
+  abbrev pub HaveMetadata : List (Option Value) → List Output → Type 0
+  HaveMetadata ms os =
+      (x : List ℕ) (n : ℕ) (q : Output) → sought output_text (file_in s).outputs x ≡ Some n
+      → found output_name x os ≡ Some q → q.metadata ≡ metadata_at ms n
+
+  abbrev pub output_count : ℕ
+  output_count = length (file_in s).declared.outputs
+
   abbrev pub OutputsFit : Type 0
   OutputsFit = (n : ℕ) (o : OutputTree) → output_at n ≡ Some o → MayBeBuilt (value (emission_sight s) None o.value [])
 
@@ -108,6 +132,10 @@ module _ (s : Shape) where
 
   abbrev pub parameter_at : ℕ → Option ℕ
   parameter_at n = if is_parameter (symbol_kind (file_in s) n) then Some n else None
+
+  -- how many symbols of the file are parameters
+  abbrev pub parameter_count : ℕ
+  parameter_count = declared_before parameter_at (length (file_in s).symbols)
 
   abbrev pub default_of : ℕ → Option SourceTree
   default_of n = default_at (files_in s) (file_in s) n

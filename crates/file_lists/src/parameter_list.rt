@@ -1,5 +1,5 @@
 //! The parameters of a template.
-ghost use Rattle.std.specs.Prelude.{◌≡◌, Some, IfOk, is_some, option_map};
+ghost use Rattle.std.specs.Prelude.{◌≡◌, ◌≤◌, Some, IfOk, is_some, length, option_map};
 ghost use Rattle.arm_value.specs.View.{json};
 ghost use Rattle.bicep_declared.specs.View.{declared_tree};
 ghost use Rattle.bicep_meaning.specs.Files.{declaration, symbol_kind, symbol_name};
@@ -12,7 +12,7 @@ ghost use Rattle.named_parts.specs.Order.{AreInOrder};
 ghost use Rattle.file_lists.specs.Found.{IsPart, IsNext};
 ghost use Rattle.file_lists.specs.Lists as lists;
 ghost use Rattle.file_lists.specs.Lists.{parameter_name, IsDefault, IsCompleted, AreParameters, AreRules, DefaultsFit};
-ghost use Rattle.file_lists.specs.Lists.{parameter_at, SymbolsDiffer};
+ghost use Rattle.file_lists.specs.Lists.{parameter_at, parameter_count, SymbolsDiffer};
 
 use crate::growing::{there, with_optional};
 use arm_value::{ListOf, OutOfMemory, Value};
@@ -156,6 +156,7 @@ pub fn parameters(
     requires fits { DefaultsFit table.now }
     ensures parameters { IfOk result (AreParameters table.now rules.now) }
     ensures order { IfOk result (AreInOrder parameter_name) }
+    ensures count { IfOk result (λ xs. length xs ≤ parameter_count table.now) }
 {
     let mut all = ListOf::new(alloc);
     for (number, rule) in rules.iter().enumerate() {

@@ -1,5 +1,5 @@
 //! The variables of a template.
-ghost use Rattle.std.specs.Prelude.{◌≡◌, Some, IfOk, map, true, false};
+ghost use Rattle.std.specs.Prelude.{◌≡◌, ◌≤◌, Some, IfOk, length, map, true, false};
 ghost use Rattle.bicep_resolved.specs.View.{value_of};
 ghost use Rattle.bicep_declared.specs.View.{declared_tree};
 ghost use Rattle.bicep_meaning.specs.Files.{declaration, symbol_name};
@@ -10,7 +10,7 @@ ghost use Rattle.emitted_values.specs.Filled.{IsFilled};
 ghost use Rattle.file_lists.specs.Found.{IsPart};
 ghost use Rattle.file_lists.specs.Lists as lists;
 ghost use Rattle.file_lists.specs.Lists.{AreDivided, IsDivided, AreGrown, variable_name, entry_at, AreVariables};
-ghost use Rattle.file_lists.specs.Lists.{VariablesFit, SymbolsDiffer, IsNextVariable};
+ghost use Rattle.file_lists.specs.Lists.{VariablesFit, SymbolsDiffer, IsNextVariable, variable_count};
 
 use crate::growing::{joined, there, with_last};
 use arm_value::{ListOf, OutOfMemory};
@@ -172,6 +172,7 @@ fn variables_of(
     requires declared { map declared_tree declarations.now ≡ (file_in table.now).declared.declarations }
     ensures variables { IfOk result (AreVariables table.now) }
     ensures divided { IfOk result AreDivided }
+    ensures count { IfOk result (λ xs. length xs ≤ variable_count table.now) }
 {
     let mut plain = ListOf::new(alloc);
     let mut loops = ListOf::new(alloc);
@@ -201,6 +202,7 @@ pub fn variables(alloc: Global, table: &Table) -> Result<ListOf<Variable>, OutOf
     requires fits { VariablesFit table.now }
     ensures variables { IfOk result (AreVariables table.now) }
     ensures divided { IfOk result AreDivided }
+    ensures count { IfOk result (λ xs. length xs ≤ variable_count table.now) }
 {
     variables_of(alloc, table, table.file().declared.declarations.as_slice())
 }

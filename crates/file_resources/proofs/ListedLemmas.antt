@@ -139,16 +139,17 @@ module _ (s : Shape) where
       resource_at_number n o (Some (d.variable at v)) r is p h = absurd h
       resource_at_number n o (Some (d.a_resource at q true b)) r is p h = absurd cc
       resource_at_number n o (Some (d.a_resource at q false b)) r is p h =
-          resource_is s n b (name_of (file_in s) n) (needs_of s n) (declared_by r) (body_in r)
+          resource_is s n b (name_of (file_in s) n) (needs_of s n (declared_by r).metadata) (declared_by r) (body_in r)
           (named (file_in s) paired n (d.a_resource at q false b) is) refl h.head h.body
           (within_by n (Some (d.a_resource at q false b)) is).0
       resource_at_number n None (Some (d.a_module at b)) r is p h = absurd h
       resource_at_number n (Some u) (Some (d.a_module at b)) r is p h =
-          module_is s n at b is (name_of (file_in s) n) (needs_of s n) u (declared_by r) (body_in r)
+          module_is s n at b is (name_of (file_in s) n) (needs_of s n (declared_by r).metadata) u (declared_by r)
+          (body_in r)
           (named (file_in s) paired n (d.a_module at b) is) refl h.head h.body
           (within_by n (Some (d.a_module at b)) is).0
 
-      depends : (n : ℕ) (j : List Json) → DependenciesAreWithin s n → j ≡ (needs_of s n).depends_on
+      depends : (n : ℕ) (j : List Json) → DependenciesAreWithin s n → j ≡ (needs_of s n None).depends_on
           → AreElements (files_in s) (file_in s) One (dependencies (file_in s) n) j
       depends n j w e =
           subst (AreElements (files_in s) (file_in s) One (dependencies (file_in s) n)) (sym e)

@@ -1,7 +1,8 @@
 -- Resources and modules that are made.
-use Rattle.std.proofs.Common.{◌≡◌, ℕ, List, [], Some, Result, Ok, Err, sym, ap, subst}
+use Rattle.std.proofs.Common.{◌≡◌, ℕ, List, [], Option, Some, Result, Ok, Err, sym, ap, ◌∙◌, subst}
 use Rattle.std.specs.Prelude.{IfOk}
 use Rattle.std.specs.declared.alloc.AllocError.{AllocError}
+use Rattle.arm_value.specs.declared.value.Value.{Value}
 use Rattle.template_parts.specs.declared.declaration.Declaration.{Declaration}
 use Rattle.template_tree.specs.Tree.{TemplateTree, trees}
 use Rattle.template_tree.specs.View.{resource_tree, body_tree}
@@ -14,36 +15,45 @@ use Rattle.emitted_modules.specs.Seen.{Shape, file_in, whole_in}
 use Rattle.emitted_modules.specs.Limits.{members_at}
 use Rattle.emitted_modules.specs.Resources.{IsHead, HasMembers}
 use Rattle.emitted_modules.specs.Modules.{Needed, IsDeployment}
-use Rattle.file_resources.specs.Built.{needs_of, IsDeclaredBy, IsResourceOf, IsModuleOf}
+use Rattle.file_resources.specs.Built.{declared_by, needs_of, IsDeclaredBy, IsResourceOf, IsModuleOf}
 use Rattle.file_resources.proofs.NameLemmas.{name_is}
 
 module _ (s : Shape) (n : ℕ) (b : BodyTree) where
-  declared_so : (x : List ℕ) (needs : Needed) (k : Kind) (d : Declaration) → symbol_name (file_in s) n ≡ Some x
-      → needs ≡ needs_of s n → IsHead (whole_in s) n b.each k x needs d → IsDeclaredBy s n b k d
-  declared_so x needs k d e m h =
-      subst (λ y. IsHead (whole_in s) n b.each k y (needs_of s n) d) (sym (name_is (file_in s) n x e))
-      (subst (λ y. IsHead (whole_in s) n b.each k x y d) m h)
+  declared_so : (x : List ℕ) (needs : Needed) (o : Option Value) (k : Kind) (d : Declaration)
+      → symbol_name (file_in s) n ≡ Some x → needs ≡ needs_of s n o → IsHead (whole_in s) n b.each k x needs d
+      → IsDeclaredBy s n b k d
+  declared_so x needs o k d e m h =
+      let of_needs = subst (λ y. IsHead (whole_in s) n b.each k x y d) m h in
+      subst (λ y. IsHead (whole_in s) n b.each k y (needs_of s n d.metadata) d) (sym (name_is (file_in s) n x e))
+      (subst (λ p. IsHead (whole_in s) n b.each k x (needs_of s n p) d) (sym of_needs.metadata) of_needs)
 
-  pub resource_made : (x : List ℕ) (needs : Needed) → symbol_name (file_in s) n ≡ Some x → needs ≡ needs_of s n
-      → (r : Result Resource AllocError)
+  -- a resource that is made has the metadata that is needed
+  pub metadata_made : (x : List ℕ) (needs : Needed) (o : Option Value) (k : Kind) → needs ≡ needs_of s n o
+      → (r : Result Resource AllocError) → IfOk r (λ r. IsHead (whole_in s) n b.each k x needs r.declaration)
+      → IfOk r (λ r. (declared_by (resource_tree r)).metadata ≡ o)
+  metadata_made x needs o k m (Err y) h = tt
+  metadata_made x needs o k m (Ok r) h = h.metadata ∙ ap (λ (y : Needed). y.metadata) m
+
+  pub resource_made : (x : List ℕ) (needs : Needed) (o : Option Value) → symbol_name (file_in s) n ≡ Some x
+      → needs ≡ needs_of s n o → (r : Result Resource AllocError)
       → IfOk r (λ r. IsHead (whole_in s) n b.each (resource_kind (file_in s) n) x needs r.declaration)
       → IfOk r (λ r. HasMembers (members_at s n b) (body_tree r.body)) → IfOk r (λ r. r.resources ≡ [])
       → IfOk r (λ r. IsResourceOf s n b (resource_tree r))
-  resource_made x needs e m (Err y) h k c = tt
-  resource_made x needs e m (Ok r) h k c = record {
-    head = declared_so x needs (resource_kind (file_in s) n) r.declaration e m h;
+  resource_made x needs o e m (Err y) h k c = tt
+  resource_made x needs o e m (Ok r) h k c = record {
+    head = declared_so x needs o (resource_kind (file_in s) n) r.declaration e m h;
     body = k;
     childless = ap trees c;
   }
 
-  pub module_made : (u : TemplateTree) (x : List ℕ) (needs : Needed) → symbol_name (file_in s) n ≡ Some x
-      → needs ≡ needs_of s n → (r : Result Resource AllocError)
+  pub module_made : (u : TemplateTree) (x : List ℕ) (needs : Needed) (o : Option Value)
+      → symbol_name (file_in s) n ≡ Some x → needs ≡ needs_of s n o → (r : Result Resource AllocError)
       → IfOk r (λ r. IsHead (whole_in s) n b.each module_kind x needs r.declaration)
       → IfOk r (λ r. IsDeployment s n b u (body_tree r.body)) → IfOk r (λ r. r.resources ≡ [])
       → IfOk r (λ r. IsModuleOf s n b u (resource_tree r))
-  module_made u x needs e m (Err y) h k c = tt
-  module_made u x needs e m (Ok r) h k c = record {
-    head = declared_so x needs module_kind r.declaration e m h;
+  module_made u x needs o e m (Err y) h k c = tt
+  module_made u x needs o e m (Ok r) h k c = record {
+    head = declared_so x needs o module_kind r.declaration e m h;
     body = k;
     childless = ap trees c;
   }

@@ -1,7 +1,8 @@
 -- What one declaration becomes.
-use Rattle.std.proofs.Common.{◌≡◌, ℕ, Bool, true, false, Option, Some, None, Result, Ok, Err, sym, ap, ◌∙◌, subst}
+use Rattle.std.proofs.Common.{◌≡◌, ℕ, Bool, true, false, List, Option, Some, None, Result, Ok, Err, sym, ap, ◌∙◌, subst}
 use Rattle.std.specs.Prelude.{IfOk, is_some, option_map}
 use Rattle.std.specs.declared.alloc.AllocError.{AllocError}
+use Rattle.arm_value.specs.declared.value.Value.{Value}
 use Rattle.template_tree.specs.Tree.{TemplateTree, ResourceTree}
 use Rattle.template_tree.specs.View.{resource_tree}
 use Rattle.template_tree.specs.declared.resource.Resource.{Resource}
@@ -12,7 +13,8 @@ use Rattle.bicep_meaning.specs.Files.{declaration}
 use Rattle.bicep_meaning.specs.Instances.{put_by}
 use Rattle.emitted_modules.specs.Seen.{Shape, file_in}
 use Rattle.emitted_modules.specs.Limits.{MembersFit, members_at}
-use Rattle.file_resources.specs.Built.{IsResourceOf, IsModuleWith, IsBuiltFor, IsPart, IsThere}
+use Rattle.file_resources.specs.Built.{IsResourceOf, IsModuleWith, IsBuiltFor, IsPart, IsThere, HasMetadata}
+use Rattle.file_resources.specs.Built.{MayHaveMetadata}
 use Rattle.file_resources.specs.Fits.{FitsBy, ArgumentsFitAt, HasTemplate, MayBeBuilt}
 
 module _ (s : Shape) (n : ℕ) where
@@ -65,3 +67,15 @@ module _ (s : Shape) (n : ℕ) where
 
     pub has_template : (at : ℕ) (b : BodyTree) → declaration (file_in s) n ≡ Some (d.a_module at b) → given ≡ true
     has_template at b is = subst (λ e. HasTemplate e given) is built.has_template
+
+-- what a declaration becomes has its metadata
+module _ (n : ℕ) (ms : List (Option Value)) where
+  pub none_has : (x : Result (Option Resource) AllocError) → x ≡ Ok None
+      → IfOk x (λ y. MayHaveMetadata ms n (option_map resource_tree y))
+  none_has x t = subst (λ x. IfOk x (λ y. MayHaveMetadata ms n (option_map resource_tree y))) (sym t) tt
+
+  pub part_has : (made : Result Resource AllocError) (x : Result (Option Resource) AllocError) → IsThere made x
+      → IfOk made (λ r. HasMetadata ms n (resource_tree r))
+      → IfOk x (λ y. MayHaveMetadata ms n (option_map resource_tree y))
+  part_has (Ok r) x t h = subst (λ x. IfOk x (λ y. MayHaveMetadata ms n (option_map resource_tree y))) (sym t) h
+  part_has (Err e) x t h = subst (λ x. IfOk x (λ y. MayHaveMetadata ms n (option_map resource_tree y))) (sym t) tt

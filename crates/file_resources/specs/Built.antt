@@ -2,6 +2,7 @@
 use Rattle.std.specs.Prelude.{◌≡◌, ◌++◌, ℕ, true, false, List, [], ◌∷◌, Option, Some, None, option_to_list, map}
 use Rattle.std.specs.Prelude.{option_map, slice_index_or, Result, Ok, Err}
 use Rattle.std.specs.declared.alloc.AllocError.{AllocError}
+use Rattle.arm_value.specs.declared.value.Value.{Value}
 use Rattle.template_parts.specs.declared.declaration.Declaration.{Declaration}
 use Rattle.template_parts.specs.declared.mode.Form.TheVariants.{One}
 use Rattle.template_tree.specs.Tree.{TemplateTree, ResourceTree, resource, Trees, no_resources}
@@ -18,6 +19,7 @@ use Rattle.source_needs.specs.Dependencies.{dependencies}
 use Rattle.source_worlds.specs.Numbers.{is_put, name_of}
 use Rattle.emitted_modules.specs.Seen.{Shape, file_in, files_in, whole_in}
 use Rattle.emitted_modules.specs.Limits.{members_at}
+use Rattle.emitted_modules.specs.Metadata.{metadata_at}
 use Rattle.emitted_modules.specs.Resources.{IsHead, HasMembers}
 use Rattle.emitted_modules.specs.Modules.{Needed, IsDeployment}
 use Rattle.emitted_dependencies.specs.Elements.{elements}
@@ -47,18 +49,38 @@ abbrev pub IsThere : Result Resource AllocError → Result (Option Resource) All
 IsThere (Ok r) x = x ≡ Ok (Some r)
 IsThere (Err e) x = x ≡ Err e
 
+-- one resource for each of these numbers, in their order
+abbrev pub AreEach : (ℕ → ResourceTree → Type 0) → List ℕ → List ResourceTree → Type 0
+AreEach R [] [] = Unit {0}
+AreEach R [] (r ∷ rs) = ⊥
+AreEach R (n ∷ ns) [] = ⊥
+AreEach R (n ∷ ns) (r ∷ rs) = R n r × AreEach R ns rs
+
+-- the resource of a number has the metadata that a list has for it
+abbrev pub HasMetadata : List (Option Value) → ℕ → ResourceTree → Type 0
+HasMetadata ms n r = (declared_by r).metadata ≡ metadata_at ms n
+
+abbrev pub HaveMetadata : List (Option Value) → List ℕ → List ResourceTree → Type 0
+HaveMetadata ms ns rs = AreEach (HasMetadata ms) ns rs
+
+-- the same of a resource that may be there
+abbrev pub MayHaveMetadata : List (Option Value) → ℕ → Option ResourceTree → Type 0
+MayHaveMetadata ms n None = Unit {0}
+MayHaveMetadata ms n (Some r) = HasMetadata ms n r
+
 module _ (s : Shape) where
   -- in the first form a resource has no symbolic name
-  abbrev pub needs_of : ℕ → Needed
-  needs_of n = record {
+  abbrev pub needs_of : ℕ → Option Value → Needed
+  needs_of n m = record {
     symbol = None;
     depends_on = elements (files_in s) (file_in s) One (dependencies (file_in s) n);
     batches = (file_in s).batches n;
+    metadata = m;
   }
 
-  -- what declares the resource or the module of a number
+  -- what declares the resource or the module of a number, with any metadata
   abbrev pub IsDeclaredBy : ℕ → BodyTree → Kind → Declaration → Type 0
-  IsDeclaredBy n b k x = IsHead (whole_in s) n b.each k (name_of (file_in s) n) (needs_of n) x
+  IsDeclaredBy n b k x = IsHead (whole_in s) n b.each k (name_of (file_in s) n) (needs_of n x.metadata) x
 
   -- the resource of a number that has this body; nested resources are no children
   pub record IsResourceOf (n : ℕ) (b : BodyTree) (r : ResourceTree) : Type 0 where
@@ -87,16 +109,14 @@ module _ (s : Shape) where
 
   -- one for each of these numbers, in their order
   abbrev pub AreBuilt : Templates → List ℕ → List ResourceTree → Type 0
-  AreBuilt us [] [] = Unit {0}
-  AreBuilt us [] (r ∷ rs) = ⊥
-  AreBuilt us (n ∷ ns) [] = ⊥
-  AreBuilt us (n ∷ ns) (r ∷ rs) = IsBuilt n (template_of us n) r × AreBuilt us ns rs
+  AreBuilt us ns rs = AreEach (λ n r. IsBuilt n (template_of us n) r) ns rs
 
   -- what a declaration becomes: a resource where it is that of a resource that is put, or of a module, else nothing
   abbrev pub IsPart : ℕ → Option TemplateTree → Option ResourceTree → Type 0
   IsPart n o None = is_put (file_in s) n ≡ false
   IsPart n o (Some r) = (is_put (file_in s) n ≡ true) × IsBuilt n o r
 
-  -- these resources, and then what the declaration of a number becomes
-  abbrev pub IsGrown : ℕ → Option TemplateTree → List ResourceTree → List ResourceTree → Type 0
-  IsGrown n o rs more = (x : Option ResourceTree) × (IsPart n o x × (more ≡ rs ++ option_to_list x))
+  -- these resources, and then what the declaration of a number becomes, with its metadata
+  abbrev pub IsGrown : List (Option Value) → ℕ → Option TemplateTree → List ResourceTree → List ResourceTree → Type 0
+  IsGrown ms n o rs more =
+      (x : Option ResourceTree) × (IsPart n o x × (MayHaveMetadata ms n x × (more ≡ rs ++ option_to_list x)))

@@ -10,5 +10,6 @@ pub use Rattle.emitted_modules.specs.Extremes
 pub use Rattle.emitted_modules.specs.Files
 pub use Rattle.emitted_modules.specs.Filled
 pub use Rattle.emitted_modules.specs.Limits
+pub use Rattle.emitted_modules.specs.Metadata
 pub use Rattle.emitted_modules.specs.Seen
 pub use Rattle.emitted_modules.specs.Values

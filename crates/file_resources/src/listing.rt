@@ -7,11 +7,11 @@ ghost use Rattle.bicep_declared.specs.View.{declared_tree};
 ghost use Rattle.bicep_meaning.specs.Files.{declaration};
 ghost use Rattle.source_worlds.specs.Numbers.{in_template};
 ghost use Rattle.emitted_modules.specs.Seen.{file_in};
-ghost use Rattle.file_resources.specs.Built.{AreBuilt, IsGrown, templates_of};
+ghost use Rattle.file_resources.specs.Built.{AreBuilt, HaveMetadata, IsGrown, templates_of};
 ghost use Rattle.file_resources.specs.Fits.{IsReady, AreMentioned, MayBeBuilt, AllMayBeBuilt};
 
 use crate::parts::part;
-use arm_value::OutOfMemory;
+use arm_value::{OutOfMemory, Value};
 use bicep_declared::Declared;
 use emitted_modules::Table;
 use emitted_parts::{lacks, letting_go};
@@ -48,6 +48,7 @@ fn with_part(
     alloc: Global,
     table: &Table,
     mentioned: &[BTreeSet<usize>],
+    metadata: &[Option<Value>],
     number: usize,
     declared: &Declared,
     template: Option<Template>,
@@ -57,9 +58,11 @@ fn with_part(
     requires mentioned { AreMentioned table.now mentioned.now }
     requires declared { declaration (file_in table.now) number ≡ Some (declared_tree declared.now) }
     requires built { MayBeBuilt table.now number (is_some template) }
-    ensures { IfOk result (λ rs. IsGrown table.now number (option_map template_tree template) all rs) }
+    ensures { IfOk result (λ rs. IsGrown table.now metadata.now number (option_map template_tree template) all rs) }
 {
-    match part(alloc, table, mentioned, number, declared, template) {
+    match part(
+        alloc, table, mentioned, metadata, number, declared, template,
+    ) {
         Ok(part) => added(all, part),
         Err(_) => lacks(all),
     }
@@ -70,6 +73,7 @@ fn resources_of(
     alloc: Global,
     table: &Table,
     mentioned: &[BTreeSet<usize>],
+    metadata: &[Option<Value>],
     declarations: &[Declared],
     templates: Vec<Option<Template>>,
 ) -> Result<Resources, OutOfMemory>
@@ -77,13 +81,17 @@ fn resources_of(
     requires mentioned { AreMentioned table.now mentioned.now }
     requires declared { map declared_tree declarations.now ≡ (file_in table.now).declared.declarations }
     requires built { AllMayBeBuilt table.now (templates_of templates.items) }
-    ensures { IfOk result (AreBuilt table.now (templates_of templates.items) (in_template One (file_in table.now))) }
+    ensures built { IfOk result (AreBuilt table.now (templates_of templates.items)
+        (in_template One (file_in table.now))) }
+    ensures metadata { IfOk result (HaveMetadata metadata.now (in_template One (file_in table.now))) }
 {
     let mut all = Resources::new(alloc);
     let mut rest = templates;
     for (number, declared) in declarations.iter().enumerate() {
         let template = template_at(&mut rest, number);
-        match with_part(alloc, table, mentioned, number, declared, template, all) {
+        match with_part(
+            alloc, table, mentioned, metadata, number, declared, template, all,
+        ) {
             Ok(more) => all = more,
             Err(_) => return lacks(rest),
         }
@@ -93,8 +101,9 @@ fn resources_of(
 
 /// The resources of the template that a file becomes in the first form, with a table of all its declarations: one for
 /// each resource that is put, and each module, in the order of the file. `mentioned` is what `dependencies` of
-/// `bicep_dependencies` returns: for each symbol the resources and modules that its declaration mentions. `templates`
-/// has for each symbol the template of the file of its module, where it is that of a module.
+/// `bicep_dependencies` returns: for each symbol the resources and modules that its declaration mentions. `metadata`
+/// has for each symbol the metadata of its resource or module. `templates` has for each symbol the template of the file
+/// of its module, where it is that of a module.
 ///
 /// # Errors
 ///
@@ -103,13 +112,16 @@ pub fn resources(
     alloc: Global,
     table: &Table,
     mentioned: &[BTreeSet<usize>],
+    metadata: &[Option<Value>],
     templates: Vec<Option<Template>>,
 ) -> Result<Resources, OutOfMemory>
     requires ready { IsReady table.now }
     requires mentioned { AreMentioned table.now mentioned.now }
     requires built { AllMayBeBuilt table.now (templates_of templates.items) }
-    ensures { IfOk result (AreBuilt table.now (templates_of templates.items) (in_template One (file_in table.now))) }
+    ensures built { IfOk result (AreBuilt table.now (templates_of templates.items)
+        (in_template One (file_in table.now))) }
+    ensures metadata { IfOk result (HaveMetadata metadata.now (in_template One (file_in table.now))) }
 {
     let declarations = table.file().declared.declarations.as_slice();
-    resources_of(alloc, table, mentioned, declarations, templates)
+    resources_of(alloc, table, mentioned, metadata, declarations, templates)
 }

@@ -3,15 +3,16 @@ ghost use Rattle.std.specs.Prelude.{◌≡◌, [], IfOk, MatchOption, slice_inde
 ghost use Rattle.template_parts.specs.declared.mode.Form.TheVariants.{One};
 ghost use Rattle.depend_graph.specs.Sets.{keys_of_each};
 ghost use Rattle.source_needs.specs.Dependencies.{dependencies};
+ghost use Rattle.emitted_modules.specs.Metadata.{metadata_at};
 ghost use Rattle.emitted_modules.specs.Seen.{file_in, files_in};
 ghost use Rattle.emitted_dependencies.specs.Elements.{elements};
 ghost use Rattle.file_resources.specs.Built.{needs_of};
 ghost use Rattle.file_resources.specs.Fits.{IsReady, AreMentioned};
 
-use arm_value::{Items, OutOfMemory};
+use arm_value::{Items, OutOfMemory, Value};
 use emitted_dependencies::depends_on;
-use emitted_modules::{Needs, Table};
-use emitted_parts::letting_go;
+use emitted_modules::{Needs, Table, copied_metadata};
+use emitted_parts::{lacks, letting_go};
 use std::alloc::Global;
 use std::collections::BTreeSet;
 use template_parts::Form;
@@ -45,23 +46,29 @@ fn elements_of(
     }
 }
 
-/// What the declaration of the resource or the module of a number does not say.
+/// What the declaration of the resource or the module of a number does not say. `metadata` has its metadata by its
+/// number.
 pub(crate) fn needs(
     alloc: Global,
     table: &Table,
     mentioned: &[BTreeSet<usize>],
+    metadata: &[Option<Value>],
     number: usize,
 ) -> Result<Needs, OutOfMemory>
     requires ready { IsReady table.now }
     requires mentioned { AreMentioned table.now mentioned.now }
-    ensures { IfOk result (λ x. x ≡ needs_of table.now number) }
+    ensures { IfOk result (λ x. x ≡ needs_of table.now number (metadata_at metadata.now number)) }
 {
     match elements_of(alloc, table, mentioned, number) {
-        Ok(depends_on) => Ok(Needs {
-            symbol: None,
-            depends_on,
-            batches: table.batches(number),
-        }),
+        Ok(depends_on) => match copied_metadata(alloc, metadata, number) {
+            Ok(metadata) => Ok(Needs {
+                symbol: None,
+                depends_on,
+                batches: table.batches(number),
+                metadata,
+            }),
+            Err(_) => lacks(depends_on),
+        },
         Err(error) => Err(error),
     }
 }

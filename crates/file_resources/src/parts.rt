@@ -6,10 +6,11 @@ ghost use Rattle.bicep_meaning.specs.Files.{declaration, symbol_name};
 ghost use Rattle.emitted_modules.specs.Seen.{file_in};
 ghost use Rattle.emitted_modules.specs.Limits.{MembersFit, members_at};
 ghost use Rattle.file_resources.specs.Built.{IsResourceOf, IsModuleOf, IsModuleWith, IsThere, IsPart};
+ghost use Rattle.file_resources.specs.Built.{HasMetadata, MayHaveMetadata};
 ghost use Rattle.file_resources.specs.Fits.{IsReady, AreMentioned, ArgumentsFitAt, MayBeBuilt};
 
 use crate::needs::needs;
-use arm_value::{OutOfMemory, Text};
+use arm_value::{OutOfMemory, Text, Value};
 use bicep_declared::{Declared, DeclaredBody};
 use emitted_modules::{Table, module, resource};
 use emitted_parts::{lacks, letting_go};
@@ -34,6 +35,7 @@ fn resource_of(
     alloc: Global,
     table: &Table,
     mentioned: &[BTreeSet<usize>],
+    metadata: &[Option<Value>],
     number: usize,
     body: &DeclaredBody,
 ) -> Result<Resource, OutOfMemory>
@@ -41,10 +43,11 @@ fn resource_of(
     requires mentioned { AreMentioned table.now mentioned.now }
     requires declared { is_some (declaration (file_in table.now) number) ≡ true }
     requires fits { MembersFit (members_at table.now number (body_tree body.now)) }
-    ensures { IfOk result (λ r. IsResourceOf table.now number (body_tree body.now) (resource_tree r)) }
+    ensures resource { IfOk result (λ r. IsResourceOf table.now number (body_tree body.now) (resource_tree r)) }
+    ensures metadata { IfOk result (λ r. HasMetadata metadata.now number (resource_tree r)) }
 {
     let symbol = symbol_of(table, number);
-    match needs(alloc, table, mentioned, number) {
+    match needs(alloc, table, mentioned, metadata, number) {
         Ok(needs) => resource(alloc, table, number, symbol, body, needs),
         Err(error) => Err(error),
     }
@@ -55,6 +58,7 @@ fn module_of(
     alloc: Global,
     table: &Table,
     mentioned: &[BTreeSet<usize>],
+    metadata: &[Option<Value>],
     number: usize,
     body: &DeclaredBody,
     template: Template,
@@ -63,11 +67,12 @@ fn module_of(
     requires mentioned { AreMentioned table.now mentioned.now }
     requires declared { is_some (declaration (file_in table.now) number) ≡ true }
     requires fits { ArgumentsFitAt table.now number (body_tree body.now) }
-    ensures { IfOk result (λ r. IsModuleOf table.now number (body_tree body.now) (template_tree template)
+    ensures module { IfOk result (λ r. IsModuleOf table.now number (body_tree body.now) (template_tree template)
         (resource_tree r)) }
+    ensures metadata { IfOk result (λ r. HasMetadata metadata.now number (resource_tree r)) }
 {
     let symbol = symbol_of(table, number);
-    match needs(alloc, table, mentioned, number) {
+    match needs(alloc, table, mentioned, metadata, number) {
         Ok(needs) => module(alloc, table, number, symbol, body, needs, template),
         Err(_) => lacks(template),
     }
@@ -78,6 +83,7 @@ fn module_with(
     alloc: Global,
     table: &Table,
     mentioned: &[BTreeSet<usize>],
+    metadata: &[Option<Value>],
     number: usize,
     body: &DeclaredBody,
     template: Option<Template>,
@@ -87,11 +93,12 @@ fn module_with(
     requires declared { is_some (declaration (file_in table.now) number) ≡ true }
     requires fits { ArgumentsFitAt table.now number (body_tree body.now) }
     requires there { is_some template ≡ true }
-    ensures { IfOk result (λ r. IsModuleWith table.now number (body_tree body.now) (option_map template_tree template)
-        (resource_tree r)) }
+    ensures module { IfOk result (λ r. IsModuleWith table.now number (body_tree body.now)
+        (option_map template_tree template) (resource_tree r)) }
+    ensures metadata { IfOk result (λ r. HasMetadata metadata.now number (resource_tree r)) }
 {
     match template {
-        Some(template) => module_of(alloc, table, mentioned, number, body, template),
+        Some(template) => module_of(alloc, table, mentioned, metadata, number, body, template),
         None => unreachable!(),
     }
 }
@@ -114,11 +121,12 @@ fn nothing(template: Option<Template>) -> Result<Option<Resource>, OutOfMemory>
 }
 
 /// The resource of a declaration, where it is that of a resource that is put, or of a module with the template of its
-/// file.
+/// file. `metadata` has its metadata by its number.
 pub(crate) fn part(
     alloc: Global,
     table: &Table,
     mentioned: &[BTreeSet<usize>],
+    metadata: &[Option<Value>],
     number: usize,
     declared: &Declared,
     template: Option<Template>,
@@ -127,20 +135,21 @@ pub(crate) fn part(
     requires mentioned { AreMentioned table.now mentioned.now }
     requires declared { declaration (file_in table.now) number ≡ Some (declared_tree declared.now) }
     requires built { MayBeBuilt table.now number (is_some template) }
-    ensures { IfOk result (λ o. IsPart table.now number (option_map template_tree template)
+    ensures part { IfOk result (λ o. IsPart table.now number (option_map template_tree template)
         (option_map resource_tree o)) }
+    ensures metadata { IfOk result (λ o. MayHaveMetadata metadata.now number (option_map resource_tree o)) }
 {
     match declared {
         Declared::Resource(_, _, existing, body) => {
             if *existing {
                 nothing(template)
             } else {
-                let made = there(resource_of(alloc, table, mentioned, number, body));
+                let made = there(resource_of(alloc, table, mentioned, metadata, number, body));
                 letting_go(made, template)
             }
         }
         Declared::Module(_, body) => {
-            there(module_with(alloc, table, mentioned, number, body, template))
+            there(module_with(alloc, table, mentioned, metadata, number, body, template))
         }
         Declared::Parameter(_, _) | Declared::ParameterWith(_, _, _) | Declared::Variable(_, _) => {
             nothing(template)

@@ -88,7 +88,7 @@ fn made(
     templates_are_of_their_texts();
     symbols_have_the_same_numbers();
     nested_templates_are_given();
-    match template(alloc, table, rules, mentioned, templates) {
+    match template(alloc, table, rules, &[], &[], mentioned, templates) {
         Ok(template) => Ok(template),
         Err(_) => Err(EmitFault::OutOfMemory),
     }

@@ -1,11 +1,12 @@
-use Rattle.std.proofs.Common.{ap, sym, ◌∙◌, subst, arith}
+use Rattle.std.proofs.Common.{ap, sym, ◌∙◌, length, subst, arith}
 use Rattle.std.specs.Prelude.{is_some}
 use Rattle.bicep_meaning.specs.Files.{symbol_name}
 use Rattle.emitted_values.specs.Seen.{file_in}
 use Rattle.file_lists.specs.Found.{IsNext}
 use Rattle.file_lists.specs.Lists.{symbol_text, parameter_name, parameter_at, IsCompleted, rule_at}
 use Rattle.file_lists.proofs.FirstLemmas.{none_listed, next_listed}
-use Rattle.file_lists.proofs.ParameterLemmas.{all_parameters, rule_is, same_next}
+use Rattle.file_lists.proofs.ParameterLemmas.{all_parameters, rule_is, same_next, past_symbols}
+use Rattle.file_lists.proofs.SizeLemmas.{at_most}
 use Rattle.file_lists.proofs.parameter_list.parameters.Goals as goal
 
 pub loop-number-init : goal.loop-number-init
@@ -49,3 +50,9 @@ returns-clause-parameters c =
 
 pub returns-clause-order : goal.returns-clause-order
 returns-clause-order c = c.loop-number.invariant.order
+
+pub returns-clause-count : goal.returns-clause-count
+returns-clause-count c =
+    let s = c.args.table.now in
+    at_most (parameter_at s) (length (file_in s).symbols) (past_symbols s) c.loop-number.number c.loop-number.all
+    c.loop-number.invariant.size

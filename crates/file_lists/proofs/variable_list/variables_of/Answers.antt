@@ -1,10 +1,10 @@
-use Rattle.std.proofs.Common.{◌++◌, ◌≡◌, arith}
+use Rattle.std.proofs.Common.{◌++◌, ◌≡◌, ◌≤◌, length, arith}
 use Rattle.foundation.proofs.Options.{if_ok}
 use Rattle.bicep_declared.specs.View.{declared_tree}
 use Rattle.emitted_values.specs.Seen.{file_in}
-use Rattle.file_lists.specs.Lists.{AreVariables, AreDivided}
+use Rattle.file_lists.specs.Lists.{AreVariables, AreDivided, variable_count}
 use Rattle.file_lists.proofs.LimitLemmas.{item_is, same_size}
-use Rattle.file_lists.proofs.VariableLemmas.{none_so_far, next_so_far, all_variables, are_divided}
+use Rattle.file_lists.proofs.VariableLemmas.{none_so_far, next_so_far, all_variables, are_divided, are_few}
 use Rattle.file_lists.proofs.variable_list.variables_of.Goals as goal
 
 pub loop-number-init : goal.loop-number-init
@@ -38,3 +38,11 @@ returns-clause-divided c =
     let ls = c.loop-number.loops in
     if_ok (λ xs. xs ≡ ps ++ ls) AreDivided c.joined.result c.joined.ensures
     (λ xs e. are_divided c.args.table.now c.requires.names c.loop-number.number ps ls xs e c.loop-number.invariant)
+
+pub returns-clause-count : goal.returns-clause-count
+returns-clause-count c =
+    let s = c.args.table.now in
+    let ps = c.loop-number.plain in
+    let ls = c.loop-number.loops in
+    if_ok (λ xs. xs ≡ ps ++ ls) (λ xs. length xs ≤ variable_count s) c.joined.result c.joined.ensures
+    (λ xs e. are_few s c.requires.names c.loop-number.number ps ls xs e c.loop-number.invariant)

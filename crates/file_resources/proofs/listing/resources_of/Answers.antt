@@ -5,10 +5,10 @@ use Rattle.template_tree.specs.View.{template_tree}
 use Rattle.template_parts.specs.declared.mode.Form.TheVariants.{One}
 use Rattle.source_worlds.specs.Numbers.{in_template}
 use Rattle.emitted_modules.specs.Seen.{file_in}
-use Rattle.file_resources.specs.Built.{templates_of, IsGrown, AreBuilt}
+use Rattle.file_resources.specs.Built.{templates_of, IsGrown, AreBuilt, HaveMetadata}
 use Rattle.file_resources.specs.Fits.{MayBeBuilt}
 use Rattle.file_resources.proofs.ListLemmas.{template_is, given_is, others_stay, size_stays, declared_is, same_size}
-use Rattle.file_resources.proofs.ListLemmas.{begin, grown, all_built}
+use Rattle.file_resources.proofs.ListLemmas.{begin, grown, all_built, IsNoted, noted_part, are_built, have_metadata}
 use Rattle.file_resources.proofs.listing.resources_of.Goals as goal
 
 pub loop-number-init : goal.loop-number-init
@@ -16,7 +16,8 @@ loop-number-init c =
     let s = c.args.table.now in
     let count = length (file_in s).declared.declarations in
     record {
-      built = begin s (templates_of c.args.templates.items) count c.new-all.result c.new-all.ensures;
+      built = begin (file_in s) (IsNoted s c.args.metadata.now (templates_of c.args.templates.items)) count
+          c.new-all.result c.new-all.ensures;
       left = λ m l. refl;
       size = refl;
     }
@@ -59,23 +60,39 @@ loop-number-preserved c =
     let b = length-map ts (option_map template_tree) in
     let l : n < length ts = omega (arith, c.loop-number-test.true, a, b, c.requires.built.all) in
     let m : n < length ds = omega (arith, c.loop-number-test.true, a) in
+    let ms = c.args.metadata.now in
     let is = template_is ts n l t
     (c.template_at-template.ensures.value ∙ c.loop-number.invariant.left n (omega arith)) in
+    let g = subst (λ o. IsGrown s ms n o c.loop-number.all c.in-Ok.more) is c.in-Ok.ensures in
     record {
-      built = grown s (templates_of ts) (length ds) n c.loop-number.all c.in-Ok.more m
-          (subst (λ o. IsGrown s n o c.loop-number.all c.in-Ok.more) is c.in-Ok.ensures) c.loop-number.invariant.built;
+      built = grown (file_in s) (IsNoted s ms (templates_of ts)) (length ds) n c.loop-number.all c.in-Ok.more m g.0
+          (noted_part s ms (templates_of ts) n g.0 g.1.0 g.1.1.0) g.1.1.1 c.loop-number.invariant.built;
       left = λ k h. others_stay c.loop-number.rest.items c.template_at-template.new.templates.items n k None
           c.template_at-template.ensures.after (omega (arith, h)) ∙ c.loop-number.invariant.left k (omega (arith, h));
       size = size_stays c.loop-number.rest.items c.template_at-template.new.templates.items n None
           c.template_at-template.ensures.after ∙ c.loop-number.invariant.size;
     }
 
-pub returns : goal.returns
-returns c =
+pub returns-clause-built : goal.returns-clause-built
+returns-clause-built c =
     let s = c.args.table.now in
     let ds = (file_in s).declared.declarations in
-    let ts = c.args.templates.items in
+    let us = templates_of c.args.templates.items in
+    let ms = c.args.metadata.now in
     let a = same_size c.args.declarations.now ds c.requires.declared in
-    subst (λ r. IfOk r (AreBuilt s (templates_of ts) (in_template One (file_in s)))) (sym c.letting_go.ensures)
-    (all_built s (templates_of ts) (length ds) c.loop-number.number c.loop-number.all
-    (omega (arith, a, c.loop-number-test.false)) c.loop-number.invariant.built)
+    subst (λ r. IfOk r (AreBuilt s us (in_template One (file_in s)))) (sym c.letting_go.ensures)
+    (are_built s ms us (in_template One (file_in s)) c.loop-number.all
+    (all_built (file_in s) (IsNoted s ms us) (length ds) c.loop-number.number c.loop-number.all
+    (omega (arith, a, c.loop-number-test.false)) c.loop-number.invariant.built))
+
+pub returns-clause-metadata : goal.returns-clause-metadata
+returns-clause-metadata c =
+    let s = c.args.table.now in
+    let ds = (file_in s).declared.declarations in
+    let us = templates_of c.args.templates.items in
+    let ms = c.args.metadata.now in
+    let a = same_size c.args.declarations.now ds c.requires.declared in
+    subst (λ r. IfOk r (HaveMetadata ms (in_template One (file_in s)))) (sym c.letting_go.ensures)
+    (have_metadata s ms us (in_template One (file_in s)) c.loop-number.all
+    (all_built (file_in s) (IsNoted s ms us) (length ds) c.loop-number.number c.loop-number.all
+    (omega (arith, a, c.loop-number-test.false)) c.loop-number.invariant.built))

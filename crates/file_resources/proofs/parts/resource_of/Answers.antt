@@ -1,9 +1,20 @@
-use Rattle.file_resources.proofs.MadeLemmas.{resource_made}
 use Rattle.bicep_declared.specs.View.{body_tree}
+use Rattle.bicep_meaning.specs.Instances.{resource_kind}
+use Rattle.emitted_modules.specs.Metadata.{metadata_at}
+use Rattle.emitted_modules.specs.Seen.{file_in}
+use Rattle.file_resources.proofs.MadeLemmas.{resource_made, metadata_made}
 use Rattle.file_resources.proofs.parts.resource_of.Goals as goal
 
-pub returns-in-Ok : goal.returns-in-Ok
-returns-in-Ok c =
+pub returns-in-Ok-clause-resource : goal.returns-in-Ok-clause-resource
+returns-in-Ok-clause-resource c =
     resource_made c.args.table.now c.args.number (body_tree c.args.body.now) c.symbol_of-symbol.result.now
-    c.in-Ok.needs c.symbol_of-symbol.ensures c.in-Ok.ensures c.resource.result c.resource.ensures.head
-    c.resource.ensures.body c.resource.ensures.childless
+    c.in-Ok.needs (metadata_at c.args.metadata.now c.args.number) c.symbol_of-symbol.ensures c.in-Ok.ensures
+    c.resource.result c.resource.ensures.head c.resource.ensures.body c.resource.ensures.childless
+
+pub returns-in-Ok-clause-metadata : goal.returns-in-Ok-clause-metadata
+returns-in-Ok-clause-metadata c =
+    let s = c.args.table.now in
+    let n = c.args.number in
+    metadata_made s n (body_tree c.args.body.now) c.symbol_of-symbol.result.now c.in-Ok.needs
+    (metadata_at c.args.metadata.now n) (resource_kind (file_in s) n) c.in-Ok.ensures c.resource.result
+    c.resource.ensures.head

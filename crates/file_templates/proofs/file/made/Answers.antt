@@ -15,9 +15,10 @@ pub returns-in-Ok-clause-text : goal.returns-in-Ok-clause-text
 returns-in-Ok-clause-text c =
     is_of_each c.templates_have_the_parts_of_the_file.ensures c.templates_are_of_their_texts.ensures
     c.symbols_have_the_same_numbers.ensures c.nested_templates_are_given.ensures c.args.table.now c.args.rules.now
-    (templates_of c.args.templates.items) c.requires.ready c.requires.fits.within c.in-Ok.template c.in-Ok.ensures
+    (templates_of c.args.templates.items) c.requires.ready c.requires.fits.within c.in-Ok.template
+    c.in-Ok.ensures.template
 
 pub returns-in-Ok-clause-keeps : goal.returns-in-Ok-clause-keeps
 returns-in-Ok-clause-keeps c = λ placed small kept.
     c.templates_keep_the_rules.ensures c.args.table.now c.args.rules.now (templates_of c.args.templates.items)
-    c.in-Ok.template c.in-Ok.ensures c.requires.ready.sound placed small kept
+    c.in-Ok.template c.in-Ok.ensures.template c.requires.ready.sound placed small kept

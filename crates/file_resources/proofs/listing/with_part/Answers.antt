@@ -1,0 +1,14 @@
+use Rattle.std.proofs.Common.{◌≡◌, ◌++◌}
+use Rattle.std.specs.Prelude.{option_map, option_to_list}
+use Rattle.foundation.proofs.Options.{if_ok}
+use Rattle.template_tree.specs.View.{resource_tree, template_tree}
+use Rattle.file_resources.specs.Built.{IsGrown}
+use Rattle.file_resources.proofs.listing.with_part.Goals as goal
+
+pub returns-in-Ok : goal.returns-in-Ok
+returns-in-Ok c =
+    let o = option_map template_tree c.args.template in
+    let x = option_map resource_tree c.in-Ok.part in
+    if_ok (λ rs. rs ≡ c.args.all ++ option_to_list x)
+    (IsGrown c.args.table.now c.args.metadata.now c.args.number o c.args.all) c.added.result c.added.ensures
+    (λ rs e. (x, (c.in-Ok.ensures.part, (c.in-Ok.ensures.metadata, e))))

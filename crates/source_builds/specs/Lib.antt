@@ -1,0 +1,4 @@
+pub mod Builds
+pub mod Refusals
+pub mod Clauses
+pub mod Laws

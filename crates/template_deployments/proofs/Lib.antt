@@ -1,2 +1,2 @@
-mod RunLemmas
-mod CameLemmas
+pub mod RunLemmas
+pub mod CameLemmas

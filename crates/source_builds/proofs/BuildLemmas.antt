@@ -8,6 +8,7 @@ use Rattle.arm_value.specs.Json.{Json, nesting}
 use Rattle.arm_value.specs.Reading.{data_of}
 use Rattle.bicep_emit.specs.Bytes.{IsBytesOf, IsBytesFault, CanBeWritten}
 use Rattle.bicep_emit.specs.Programs.{IsEmission, files_in_form}
+use Rattle.bicep_emit.specs.EmitFault.{EmitFault}
 use Rattle.bicep_program.specs.Program.{IsProgram, files_of}
 use Rattle.bicep_program.specs.Refused.{HasFault, TreeCounts}
 use Rattle.bicep_program.specs.Sources.{Folder}
@@ -22,7 +23,6 @@ use Rattle.command_refusals.specs.Sources.{load_report, check_report}
 use Rattle.command_reports.specs.Faults.{fault_report}
 use Rattle.command_reports.specs.declared.faults.Fault.TheVariants.{Tree}
 use Rattle.command_reports.specs.declared.report.Report.{Report}
-use Rattle.file_templates.specs.declared.fault.EmitFault.{EmitFault}
 use Rattle.resolved_program.specs.View.{files_view}
 use Rattle.serde_json.specs.Data.{depth}
 use Rattle.source_builds.specs.Builds.{IsBuilt}

@@ -1,5 +1,7 @@
 -- The status of a refusal is not that of a fault of the tree.
 use Rattle.std.proofs.Common.{◌≡◌, inl, inr, ℕ, List, refl, subst, sym, arith}
+use Rattle.bicep_emit.specs.EmitFault.{EmitFault}
+use Rattle.bicep_emit.specs.EmitFault.TheVariants as emit
 use Rattle.bicep_lexer.specs.declared.fault.LexFault.{LexFault}
 use Rattle.bicep_lexer.specs.declared.fault.LexFault.TheVariants as lexical_fault
 use Rattle.bicep_parser.specs.declared.fault.ParseFault.{ParseFault}
@@ -10,8 +12,6 @@ use Rattle.bicep_types.specs.declared.fault.CheckFault.{CheckFault}
 use Rattle.bicep_types.specs.declared.fault.CheckFault.TheVariants as check
 use Rattle.command_refusals.specs.Sources.{lex_report, parse_report, check_report}
 use Rattle.command_reports.specs.declared.report.Report.{Report}
-use Rattle.file_templates.specs.declared.fault.EmitFault.{EmitFault}
-use Rattle.file_templates.specs.declared.fault.EmitFault.TheVariants as emit
 use Rattle.source_builds.specs.Clauses.{IsRefusedLoaded}
 use Rattle.source_builds.specs.Refusals.{emit_report}
 use Rattle.template_parts.specs.declared.mode.Form.{Form}

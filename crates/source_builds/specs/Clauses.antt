@@ -5,6 +5,7 @@ use Rattle.arm_edges.specs.Faults.{Rose}
 use Rattle.bicep_emit.specs.Bytes.{IsBytesOf}
 use Rattle.bicep_emit.specs.Programs as emit
 use Rattle.bicep_emit.specs.Programs.{HasNoFault, IsCheckedAs, IsEmission}
+use Rattle.bicep_emit.specs.EmitFault.{EmitFault}
 use Rattle.bicep_program.specs.Program.{IsProgram, files_of}
 use Rattle.bicep_program.specs.Sources.{Folder, folder_of}
 use Rattle.bicep_program.specs.declared.file.Program.{Program}
@@ -12,7 +13,6 @@ use Rattle.bicep_types.specs.declared.checked.Checked.{Checked}
 use Rattle.command_reports.specs.Faults.{fault_report}
 use Rattle.command_reports.specs.declared.faults.Fault.TheVariants.{Tree}
 use Rattle.command_reports.specs.declared.report.Report.{Report}
-use Rattle.file_templates.specs.declared.fault.EmitFault.{EmitFault}
 use Rattle.source_builds.specs.Builds.{IsBuilt}
 use Rattle.source_builds.specs.Refusals.{IsUnchecked, IsUnemitted, IsInSecondForm, IsNotBuilt, HasEmitFault}
 pub use Rattle.source_builds.specs.Refusals.{emit_report}

@@ -3,6 +3,8 @@ use Rattle.std.specs.Prelude.{◌≡◌, ◌⊎◌, ℕ, List, chars, codes}
 use Rattle.bicep_emit.specs.Faults.{IsEmitFault}
 use Rattle.bicep_emit.specs.Bytes.{IsBytesFault}
 use Rattle.bicep_emit.specs.Programs.{HasNoFault, IsCheckedAs, IsEmission}
+use Rattle.bicep_emit.specs.EmitFault.{EmitFault}
+use Rattle.bicep_emit.specs.EmitFault.TheVariants as emit
 use Rattle.bicep_program.specs.Program.{IsProgram, files_of}
 use Rattle.bicep_program.specs.Refused.{HasFault}
 use Rattle.bicep_program.specs.Sources.{Folder}
@@ -15,8 +17,6 @@ use Rattle.command_refusals.specs.Sources.{load_report, check_report, of_file}
 use Rattle.command_reports.specs.Faults.{fault_report}
 use Rattle.command_reports.specs.declared.faults.Fault.TheVariants.{Memory}
 use Rattle.command_reports.specs.declared.report.Report.{Report}
-use Rattle.file_templates.specs.declared.fault.EmitFault.{EmitFault}
-use Rattle.file_templates.specs.declared.fault.EmitFault.TheVariants as emit
 use Rattle.template_parts.specs.declared.mode.Form.{Form}
 use Rattle.template_parts.specs.declared.mode.Form.TheVariants.{Two}
 use Rattle.template_tree.specs.declared.resource.Template.{Template}

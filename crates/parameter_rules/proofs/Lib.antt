@@ -1,4 +1,4 @@
-mod DepthLemmas
+pub mod DepthLemmas
 mod FileLemmas
 mod LoopLemmas
 mod NestLemmas

@@ -76,7 +76,7 @@ module _ (f from : SourceFile) where
     if_put_same : (n : ℕ) → if_put f n ≡ if_put g n
     if_put_same n = ap (λ (b : Bool). if b then Some n else None) (is_put_same n)
 
-    in_template_same : (z : Form) → in_template z f ≡ in_template z g
+    pub in_template_same : (z : Form) → in_template z f ≡ in_template z g
     in_template_same One =
         λ i. passing (λ n. is_put_same n i) 0 (length f.declared.declarations)
     in_template_same Two = by_name_same (passing (is_resource f) 0 (length f.declared.declarations))

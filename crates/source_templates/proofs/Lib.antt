@@ -1,1 +1,2 @@
+mod MetadataLemmas
 mod PartLemmas

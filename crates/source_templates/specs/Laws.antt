@@ -3,6 +3,8 @@ use Rattle.std.specs.Prelude.{◌≡◌, ℕ, List, Option}
 use Rattle.template_parts.specs.declared.mode.Form.TheVariants.{One}
 use Rattle.template_parts.specs.declared.parameter.Parameter.{Parameter}
 use Rattle.template_tree.specs.Tree.{TemplateTree}
+use Rattle.template_tree.specs.View.{template_tree}
+use Rattle.template_tree.specs.declared.resource.Template.{Template}
 use Rattle.bicep_tree.specs.Tree.{FileTree}
 use Rattle.resolved_program.specs.declared.resolved.ResolvedFile.{ResolvedFile}
 use Rattle.resolved_program.specs.View.{file_view}
@@ -10,9 +12,14 @@ use Rattle.bicep_meaning.specs.Files.{SourceFile}
 use Rattle.source_worlds.specs.Numbers.{symbol_of}
 use Rattle.agreeing_files.specs.Agreeing.{outputs_of}
 use Rattle.declared_table.specs.Seen.{Shape, file_in, files_in}
+use Rattle.file_metadata.specs.Files.{IsMetadataOf, symbol_metadata, output_metadata}
+use Rattle.file_metadata.specs.declared.files.FileMetadata.{FileMetadata}
+use Rattle.emitted_templates.specs.Built.{Templates}
 use Rattle.emitted_templates.specs.Files.{IsFile}
+use Rattle.emitted_templates.specs.Metadata.{HasMetadata, IsNoted}
 use Rattle.source_files.specs.Sources.{source_file}
 use Rattle.emitted_templates.specs.Parts.{HasParts}
+use Rattle.emitted_templates.specs.Templates.{IsTemplateOf}
 use Rattle.source_templates.specs.Texts.{IsOfText}
 
 -- a template with the parts of the file of a table is that of the text's file, in a program whose files have the
@@ -28,3 +35,11 @@ abbrev pub SymbolsHaveTheSameNumbers : Type 0
 SymbolsHaveTheSameNumbers =
     (t : FileTree) (r : ResolvedFile) (s : Shape) (rs : List (Option Parameter)) → IsOfText t r s rs → (m : ℕ)
     → symbol_of One (file_in s) m ≡ symbol_of One (source_file One t (file_view r)) m
+
+-- a template that is made with the metadata of a text has it
+abbrev pub TemplatesHaveTheMetadataOfTexts : Type 0
+TemplatesHaveTheMetadataOfTexts =
+    (t : FileTree) (r : ResolvedFile) (s : Shape) (rs : List (Option Parameter)) (us : Templates) (x : FileMetadata)
+    (u : Template) → IsOfText t r s rs → IsMetadataOf t x → IsTemplateOf s rs us u
+    → IsNoted s x.symbols.items x.outputs.items u
+    → HasMetadata One (source_file One t (file_view r)) (symbol_metadata t) (output_metadata t) (template_tree u)

@@ -1,10 +1,12 @@
 //! What holds of templates that are made for files. A law has at most other laws in its body: its contract is the law.
 ghost use Rattle.source_templates.specs.Laws.{TemplatesAreOfTexts, SymbolsHaveTheSameNumbers};
+ghost use Rattle.source_templates.specs.Laws.{TemplatesHaveTheMetadataOfTexts};
 
 use agreeing_files::laws::types_are_the_same;
 use alike_files::laws::{
     alike_files_have_the_same_rest, defaults_become_the_same, files_are_their_parts,
 };
+use emitted_templates::laws::templates_have_metadata;
 use parameter_rules::laws::parameters_have_the_rules;
 use source_files::laws::{
     modules_are_in_source_order, source_files_are_of_texts, tables_are_of_source_files,
@@ -30,6 +32,16 @@ pub fn templates_are_of_their_texts()
 pub fn symbols_have_the_same_numbers()
     ensures { SymbolsHaveTheSameNumbers }
 {
+    types_are_the_same();
+    tables_are_of_source_files();
+}
+
+/// A template that is made with the metadata that the decorators of a text give has it: its parameters, its outputs and
+/// its resources, by the numbers of the symbols and of the outputs of the text.
+pub fn templates_have_the_metadata_of_texts()
+    ensures { TemplatesHaveTheMetadataOfTexts }
+{
+    templates_have_metadata();
     types_are_the_same();
     tables_are_of_source_files();
 }

@@ -1,0 +1,7 @@
+//! The template of a Bicep file has as few parts as a template may have.
+//!
+//! A caller may rely on `laws`: where `first_beyond` of `file_counts` finds nothing, no list of the template that
+//! `template` of `emitted_templates` makes is too long. There is no other code.
+#![tactic(auto)]
+
+pub mod laws;

@@ -8,7 +8,7 @@ use Rattle.template_meaning.specs.Describes.{Describes}
 use Rattle.template_tree.specs.View.{template_tree}
 use Rattle.template_tree.specs.declared.resource.Template.{Template}
 use Rattle.template_written.specs.Written.{written}
-use Rattle.file_templates.specs.declared.fault.EmitFault.{EmitFault}
+use Rattle.program_parts.specs.EmitFault.{EmitFault}
 use Rattle.bicep_emit.specs.Bytes.{AreBytes, AreLong, AreShort, HasLongText, IsBytesFault, IsBytesOf, text_of_value}
 
 pub short_bytes : (j : Json) (bytes : List ℕ) → bytes ≡ text_of_value j → reading bytes ≡ Some (data_of j)

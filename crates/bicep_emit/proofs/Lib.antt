@@ -1,4 +1,5 @@
 mod BytesLemmas
 pub mod FileLemmas
+mod FitLemmas
 mod ModuleLemmas
 mod RefusedLemmas

@@ -3,6 +3,7 @@ use Rattle.std.proofs.Common.{◌≡◌, ◌<◌, ◌≤◌, ◌+◌, ℕ, zero,
 use Rattle.std.proofs.Common.{Option, Some, None, Result, Ok, Err, map, refl, sym, ap, append_assoc, append-nil, subst}
 use Rattle.std.proofs.lemmas.List.{drop_all}
 use Rattle.std.specs.Prelude.{is_some, option_and_then, option_map, slice_get, IfOk}
+use Rattle.std.specs.declared.alloc.AllocError.{AllocError}
 use Rattle.std.specs.declared.alloc.Global.{Global}
 use Rattle.std.specs.declared.vec.Vec.{Vec}
 use Rattle.foundation.proofs.Lists.{next_item}
@@ -19,10 +20,8 @@ use Rattle.bicep_meaning.specs.Instances.{module_of}
 use Rattle.program_templates.specs.Built.{templates_of, template_of}
 use Rattle.program_templates.specs.Fits.{HasTemplate}
 use Rattle.program_templates.specs.Modules.{is_module_by}
-use Rattle.file_templates.specs.declared.fault.EmitFault.{EmitFault}
+use Rattle.program_parts.specs.FileParts.{FileParts}
 use Rattle.bicep_emit.specs.Modules.{AreGiven, IsGiven, HasLast, HasModule, IsModuleFor}
-use Rattle.bicep_program.specs.declared.file.SourceFile.{SourceFile as Text}
-use Rattle.resolved_program.specs.declared.resolved.ResolvedFile.{ResolvedFile}
 
 module _ (fs : List SourceFile) where
   -- the templates so far, and those of what is left, are those of all
@@ -80,8 +79,8 @@ module _ (fs : List SourceFile) where
 
 -- ---- one more
 
-pub with_module : (ss : List Text) (rs : List ResolvedFile) (kind : Kind) (us : List (Option Template))
-    (u : Option Template) → IsModuleFor ss rs kind u → (res : Result (Vec (Option Template) Global) EmitFault)
-    → IfOk res (HasLast us u) → IfOk res (HasModule ss rs kind us)
-with_module ss rs kind us u h (Ok v) e = (u, (h, e))
-with_module ss rs kind us u h (Err x) e = tt
+pub with_module : (ps : List FileParts) (kind : Kind) (us : List (Option Template)) (u : Option Template)
+    → IsModuleFor ps kind u → (res : Result (Vec (Option Template) Global) AllocError) → IfOk res (HasLast us u)
+    → IfOk res (HasModule ps kind us)
+with_module ps kind us u h (Ok v) e = (u, (h, e))
+with_module ps kind us u h (Err x) e = tt

@@ -12,8 +12,8 @@ use Rattle.template_tree.specs.View.{template_tree}
 use Rattle.template_tree.specs.declared.resource.Template.{Template}
 use Rattle.template_written.specs.Keeps.{Keeps}
 use Rattle.template_written.specs.Written.{written}
-use Rattle.file_templates.specs.declared.fault.EmitFault.{EmitFault}
-use Rattle.file_templates.specs.declared.fault.EmitFault.TheVariants as fault
+use Rattle.program_parts.specs.EmitFault.{EmitFault}
+use Rattle.program_parts.specs.EmitFault.TheVariants as fault
 
 -- the template can be written
 pub record CanBeWritten (u : TemplateTree) : Type 0 where

@@ -1,25 +1,17 @@
 -- What the functions of the crate require and ensure.
-use Rattle.std.specs.Prelude.{◌≡◌, ◌<◌, ◌≤◌, ℕ, suc, List, Option, Some, None}
-use Rattle.bicep_program.specs.declared.file.SourceFile.{SourceFile as Text}
-use Rattle.resolved_program.specs.declared.resolved.ResolvedFile.{ResolvedFile}
+use Rattle.std.specs.Prelude.{◌≡◌, ◌<◌, ◌≤◌, ℕ, suc, Option, Some, None}
 pub use Rattle.std.specs.Prelude.{IfOk, IfErr, IfSome}
 pub use Rattle.arm_value.specs.View.{json}
 pub use Rattle.bicep_emit.specs.Bytes.{AreBytes, AreLong, AreShort, HasLongText, IsBytesFault, IsBytesOf, MayBeWritten}
-pub use Rattle.bicep_emit.specs.Faults.{IsEmitFault, IsFaultAmong, IsFaultBy, IsFaultFrom, IsFaultFromEach}
-pub use Rattle.bicep_emit.specs.Faults.{IsFaultInside, IsMemoryFault, IsNestingFault, IsOwnFault, IsRefused}
-pub use Rattle.bicep_emit.specs.Modules.{AreModules, AreModulesIn, ArePaired, HasLast, HasModule, IsAt, IsInner}
-pub use Rattle.bicep_emit.specs.Modules.{IsModuleFor, IsModuleOf, IsWholeAtEach, IsWholeFile}
-pub use Rattle.bicep_emit.specs.Programs.{HasNoFault, IsCheckedAs, IsEmission, IsLoaded, IsRead, IsWithin}
-
--- the program is read, and the text and the file are those of one number
-pub record AreReadAndPaired (ss : List Text) (rs : List ResolvedFile) (x : Text) (r : ResolvedFile) : Type 0 where
-  pub read : IsRead ss rs
-  pub pair : ArePaired ss rs x r
-
--- the same with the text of a number
-pub record IsReadWith (ss : List Text) (rs : List ResolvedFile) (k : ℕ) (x : Text) : Type 0 where
-  pub read : IsRead ss rs
-  pub text : IsAt ss k x
+pub use Rattle.bicep_emit.specs.Faults.{IsBuiltFault, IsEmissionFault, IsEmitFault, IsNestingFault, IsPartsFault}
+pub use Rattle.bicep_emit.specs.Faults.{IsRefused, IsWholeAndWithin, IsWholeProgram, IsWithin}
+pub use Rattle.bicep_emit.specs.Modules.{AreModulesIn, AreOfProgram, CanBeInner, CanBeModule, CanBeModules, CanBeWhole}
+pub use Rattle.bicep_emit.specs.Modules.{CanBeWholePart, HasLast, HasModule, IsInner, IsModuleFor, IsWholeAtEach}
+pub use Rattle.bicep_emit.specs.Modules.{IsWholeIn}
+pub use Rattle.bicep_emit.specs.Programs.{HasNoFault, IsCheckedAs, IsEmission, IsLoaded}
+pub use Rattle.program_parts.specs.Files.{IsAt, IsRead}
+pub use Rattle.program_parts.specs.Measures.{IsWholeWithin}
+pub use Rattle.program_parts.specs.Parts.{AreOrdersOfAll}
 
 -- one less, where it is not 0
 abbrev pub IsBelow : ℕ → Option ℕ → Type 0

@@ -1,5 +1,6 @@
--- Templates of the modules of a file, by the numbers of their symbols.
-use Rattle.std.specs.Prelude.{◌≡◌, ◌++◌, ℕ, List, [], ◌∷◌, Option, Some, None, option_map, slice_get, Result, IfOk}
+-- Templates of files with those of their modules in them, by the parts of the files of a program.
+use Rattle.std.specs.Prelude.{◌≡◌, ◌++◌, ◌≤◌, ◌*◌, ℕ, suc, List, [], ◌∷◌, None, Option, Some, option_map, Result, IfOk}
+use Rattle.std.specs.declared.alloc.AllocError.{AllocError}
 use Rattle.std.specs.declared.alloc.Global.{Global}
 use Rattle.std.specs.declared.vec.Vec.{Vec}
 use Rattle.template_tree.specs.Tree.{TemplateTree}
@@ -11,22 +12,57 @@ use Rattle.bicep_program.specs.declared.file.SourceFile.{SourceFile as Text}
 use Rattle.resolved_program.specs.declared.resolved.ResolvedFile.{ResolvedFile}
 use Rattle.bicep_meaning.specs.Files.{SourceFile}
 use Rattle.bicep_meaning.specs.Instances.{module_of}
+use Rattle.measured_trees.specs.Extremes.{Extremes}
+use Rattle.measured_trees.specs.Limits.{AreFlat, AreShort}
 use Rattle.template_written.specs.Keeps.{Keeps}
 use Rattle.program_templates.specs.Whole.{IsWhole}
-use Rattle.file_templates.specs.declared.fault.EmitFault.{EmitFault}
+use Rattle.program_parts.specs.FileParts.{FileParts}
+use Rattle.program_parts.specs.Files.{IsAt, IsRead}
+use Rattle.program_parts.specs.Measures.{by_file, inner_of, inside, whole}
+use Rattle.program_parts.specs.Parts.{ArePartsOfAll}
 use Rattle.bicep_emit.specs.Programs.{sources_in}
 
--- an item is that of a number
-abbrev pub IsAt : {A : Type 0} → List A → ℕ → A → Type 0
-IsAt xs k x = slice_get xs k ≡ Some x
+-- ---- what can be made
 
--- the text and the file are those of one number
-pub record IsPair (ss : List Text) (rs : List ResolvedFile) (k : ℕ) (x : Text) (r : ResolvedFile) : Type 0 where
-  pub text : IsAt ss k x
-  pub file : IsAt rs k r
+-- the parts are those of the files of a program that is read and checked
+abbrev pub AreOfProgram : List FileParts → Type 0
+AreOfProgram ps = (ss : List Text) × ((rs : List ResolvedFile) × (IsRead ss rs × ArePartsOfAll ss rs ps))
 
-abbrev pub ArePaired : List Text → List ResolvedFile → Text → ResolvedFile → Type 0
-ArePaired ss rs x r = (k : ℕ) × IsPair ss rs k x r
+-- it takes no more than the limits, in a template in which modules may be so deep in one another
+pub record Fits (x : Extremes) (depth : ℕ) : Type 0 where
+  pub short : AreShort x
+  pub deep : x.depth ≤ 4 * depth
+  pub flat : AreFlat x
+
+-- what takes so much can be made of the parts of a program
+pub record CanBe (ps : List FileParts) (x : Extremes) (depth : ℕ) : Type 0 where
+  pub known : AreOfProgram ps
+  pub most : depth ≤ 30
+  pub fits : Fits x depth
+
+-- the template of the file of a number
+abbrev pub CanBeWhole : List FileParts → ℕ → ℕ → Type 0
+CanBeWhole ps k depth = CanBe ps (whole ps (suc depth) k) depth
+
+-- the same with its parts
+pub record CanBeWholePart (ps : List FileParts) (p : FileParts) (depth : ℕ) : Type 0 where
+  pub number : ℕ
+  pub is : IsAt ps number p
+  pub can : CanBeWhole ps number depth
+
+-- the templates of the modules among these symbols
+abbrev pub CanBeModules : List FileParts → List Entry → ℕ → Type 0
+CanBeModules ps es depth = CanBe ps (inner_of (whole ps depth) es) depth
+
+-- that of a symbol, where it is a module
+abbrev pub CanBeModule : List FileParts → Kind → ℕ → Type 0
+CanBeModule ps kind depth = CanBe ps (by_file (whole ps depth) (module_of kind)) depth
+
+-- that of the file of a module
+abbrev pub CanBeInner : List FileParts → ℕ → ℕ → Type 0
+CanBeInner ps k depth = CanBe ps (inside (whole ps depth k)) depth
+
+-- ---- what is made
 
 -- the template is that of the file of a number, and those of its modules are in it
 pub record IsWholeOf (fs : List SourceFile) (k : ℕ) (u : TemplateTree) : Type 0 where
@@ -37,12 +73,15 @@ pub record IsWholeOf (fs : List SourceFile) (k : ℕ) (u : TemplateTree) : Type 
 abbrev pub IsWholeFile : List Text → List ResolvedFile → ℕ → Template → Type 0
 IsWholeFile ss rs k u = IsWholeOf (sources_in ss rs) k (template_tree u)
 
-abbrev pub IsWholeAtEach : List Text → List ResolvedFile → Text → ResolvedFile → Result Template EmitFault → Type 0
-IsWholeAtEach ss rs x r result = (k : ℕ) → IsPair ss rs k x r → IfOk result (IsWholeFile ss rs k)
+-- what is said of each program whose parts these are
+abbrev pub OfEach : List FileParts → (List Text → List ResolvedFile → Type 0) → Type 0
+OfEach ps P = (ss : List Text) (rs : List ResolvedFile) → IsRead ss rs → ArePartsOfAll ss rs ps → P ss rs
 
--- the number of the file of a module
-abbrev pub IsModuleOf : Kind → Option ℕ → Type 0
-IsModuleOf kind o = o ≡ module_of kind
+abbrev pub IsWholeIn : List FileParts → ℕ → Template → Type 0
+IsWholeIn ps k u = OfEach ps (λ ss rs. IsWholeFile ss rs k u)
+
+abbrev pub IsWholeAtEach : List FileParts → FileParts → Result Template AllocError → Type 0
+IsWholeAtEach ps p result = (k : ℕ) → IsAt ps k p → IfOk result (IsWholeIn ps k)
 
 module _ (fs : List SourceFile) where
   -- where there is a number of a file, the template of the file is there
@@ -58,23 +97,25 @@ module _ (fs : List SourceFile) where
   AreGiven (e ∷ es) [] = ⊥
   AreGiven (e ∷ es) (u ∷ us) = IsGiven (module_of e.kind) (option_map template_tree u) × AreGiven es us
 
-abbrev pub AreModules : List Text → List ResolvedFile → List Entry → List (Option Template) → Type 0
-AreModules ss rs es us = AreGiven (sources_in ss rs) es us
+abbrev pub AreModules : List FileParts → List Entry → List (Option Template) → Type 0
+AreModules ps es us = OfEach ps (λ ss rs. AreGiven (sources_in ss rs) es us)
 
-abbrev pub AreModulesIn : List Text → List ResolvedFile → List Entry → Vec (Option Template) Global → Type 0
-AreModulesIn ss rs es v = AreModules ss rs es v.items
+abbrev pub AreModulesIn : List FileParts → List Entry → Vec (Option Template) Global → Type 0
+AreModulesIn ps es v = AreModules ps es v.items
 
-abbrev pub IsModuleFor : List Text → List ResolvedFile → Kind → Option Template → Type 0
-IsModuleFor ss rs kind u = IsGiven (sources_in ss rs) (module_of kind) (option_map template_tree u)
+abbrev pub IsGivenIn : List FileParts → Option ℕ → Option Template → Type 0
+IsGivenIn ps o u = OfEach ps (λ ss rs. IsGiven (sources_in ss rs) o (option_map template_tree u))
 
-abbrev pub IsInner : List Text → List ResolvedFile → ℕ → Option Template → Type 0
-IsInner ss rs k u = IsGiven (sources_in ss rs) (Some k) (option_map template_tree u)
+abbrev pub IsModuleFor : List FileParts → Kind → Option Template → Type 0
+IsModuleFor ps kind u = IsGivenIn ps (module_of kind) u
+
+abbrev pub IsInner : List FileParts → ℕ → Option Template → Type 0
+IsInner ps k u = IsGivenIn ps (Some k) u
 
 -- the list has one more
 abbrev pub HasLast : List (Option Template) → Option Template → Vec (Option Template) Global → Type 0
 HasLast us u v = v.items ≡ us ++ u ∷ []
 
 -- which is the template of a symbol of that kind
-abbrev pub HasModule : List Text → List ResolvedFile → Kind → List (Option Template) → Vec (Option Template) Global
-    → Type 0
-HasModule ss rs kind us v = (u : Option Template) × (IsModuleFor ss rs kind u × HasLast us u v)
+abbrev pub HasModule : List FileParts → Kind → List (Option Template) → Vec (Option Template) Global → Type 0
+HasModule ps kind us v = (u : Option Template) × (IsModuleFor ps kind u × HasLast us u v)

@@ -1,6 +1,5 @@
 -- The template of a program, and the files of the program as their meaning has them.
-use Rattle.std.specs.Prelude.{◌≡◌, ◌≤◌, ℕ, List, map}
-use Rattle.std.specs.List.{AllByRecursion}
+use Rattle.std.specs.Prelude.{◌≤◌, ℕ, List, map}
 use Rattle.template_parts.specs.declared.mode.Form.{Form}
 use Rattle.template_parts.specs.declared.mode.Form.TheVariants.{One}
 use Rattle.template_tree.specs.View.{template_tree}
@@ -10,14 +9,14 @@ use Rattle.template_written.specs.Keeps.{Keeps}
 use Rattle.template_written.specs.Written.{written}
 use Rattle.bicep_tree.specs.Tree.{FileTree}
 use Rattle.bicep_program.specs.Program.{ProgramFile, IsProgram, files_of, program_file}
-use Rattle.bicep_program.specs.Sources.{Folder, IsReadAs}
+use Rattle.bicep_program.specs.Sources.{Folder}
 use Rattle.bicep_program.specs.declared.file.Program.{Program}
 use Rattle.bicep_program.specs.declared.file.SourceFile.{SourceFile as Text}
 use Rattle.bicep_types.specs.Checked.{IsChecked}
 use Rattle.bicep_types.specs.Faults.{HasFault}
 use Rattle.bicep_types.specs.declared.checked.Checked.{Checked}
 use Rattle.bicep_types.specs.declared.fault.CheckFault.{CheckFault}
-use Rattle.resolved_program.specs.Programs.{ResolvedFileTree, IsResolved}
+use Rattle.resolved_program.specs.Programs.{ResolvedFileTree}
 use Rattle.resolved_program.specs.View.{file_view, files_view}
 use Rattle.resolved_program.specs.declared.resolved.ResolvedFile.{ResolvedFile}
 use Rattle.bicep_meaning.specs.Files.{SourceFile}
@@ -42,13 +41,6 @@ IsCheckedAs p c = IsChecked (files_of p) c
 abbrev pub HasNoFault : Program → Type 0
 HasNoFault p = (fault : CheckFault) → ¬ HasFault (files_of p) fault
 
--- the files of a program that is read and in which nothing is wrong
-pub record IsRead (ss : List Text) (rs : List ResolvedFile) : Type 0 where
-  pub folder : Folder
-  pub read : AllByRecursion (λ p. IsReadAs folder p.name p.tree) (map program_file ss)
-  pub resolved : IsResolved (map program_file ss) (map file_view rs)
-  pub none : (fault : CheckFault) → ¬ HasFault (map program_file ss) fault
-
 abbrev pub sources_in : List Text → List ResolvedFile → List SourceFile
 sources_in ss rs = files_in_form One (map program_file ss) (map file_view rs)
 
@@ -57,7 +49,3 @@ pub record IsEmission (p : Program) (c : Checked) (u : Template) : Type 0 where
   pub emitted : IsEmitted One (files_in_form One (files_of p) (files_view c.resolved)) (template_tree u)
   pub keeps : Keeps (template_tree u)
   pub nests : nesting (written (template_tree u)) ≤ 120
-
--- the same template, which nests not too deep
-abbrev pub IsWithin : Template → Template → Type 0
-IsWithin t u = (u ≡ t) × (nesting (written (template_tree u)) ≤ 120)

@@ -2,9 +2,9 @@
 ghost use Rattle.bicep_emit.specs.Clauses as spec;
 
 use arm_value::{Bytes, Value};
-use file_templates::EmitFault;
 use foundation::limits::MAX_TEMPLATE_BYTES;
 use function_prints::has_whole_numbers;
+use program_parts::EmitFault;
 use read_backs::know_characters;
 use std::alloc::Global;
 use template_parts::Which;

@@ -9,5 +9,5 @@ mod bytes;
 mod programs;
 
 pub use bytes::build_bytes;
-pub use file_templates::EmitFault;
+pub use program_parts::EmitFault;
 pub use programs::emit;

@@ -1,25 +1,28 @@
 //! The template of a program: that of its main file, with those of its modules in it.
 ghost use Rattle.bicep_emit.specs.Clauses as spec;
 
+use arm_value::OutOfMemory;
 use bicep_names::Kind;
 use bicep_program::{Program, SourceFile};
 use bicep_symbols::Entry;
 use bicep_types::Checked;
-use file_templates::{EmitFault, file_template};
 use foundation::limits::MAX_JSON_NESTING;
+use program_parts::{
+    EmitFault, FileOrder, FileParts, file_orders, file_template, module_number,
+    parts_within_the_limits_can_be_filled, program_parts, whole_limits,
+};
 use program_templates::laws::{checked_files_have_kinds, whole_templates_are_emitted};
 use resolved_program::ResolvedFile;
-use sound_files::laws::checked_files_are_paired;
-use source_files::laws::{outputs_are_of_the_program, source_files_are_of_texts};
-use std::alloc::Global;
+use source_files::laws::outputs_are_of_the_program;
+use std::alloc::{AllocError, Global};
 use template_nestings::laws::templates_nest_no_deeper;
 use template_nestings::nesting;
-use template_parts::Which;
+use template_parts::{Which, run_out};
 use template_tree::Template;
 
-// How deep modules may be in one another: each adds four arrays and objects around its template, so that one which is
-// deeper is inside 120, and nests at least 121 deep.
-const MAX_MODULE_DEPTH: u32 = 29;
+// How deep modules are in one another at most, where the template nests at most 120: each adds four arrays and objects
+// around its template.
+const MAX_MODULE_DEPTH: u32 = 30;
 
 // The fault; the part is dropped.
 fn refuse<T: Drop, R: Drop>(fault: EmitFault, _part: T) -> Result<R, EmitFault>
@@ -28,28 +31,11 @@ fn refuse<T: Drop, R: Drop>(fault: EmitFault, _part: T) -> Result<R, EmitFault>
     Err(fault)
 }
 
-// The number of the file of a module, by the kind of its symbol.
-fn module_of(kind: Kind) -> Option<usize>
-    ensures { spec.IsModuleOf kind result }
+// What the template of the file of a number is made of.
+fn part_at<'p, 'a>(parts: &'p [FileParts<'a>], number: usize) -> Option<&'p FileParts<'a>>
+    ensures { spec.IfSome result (λ x. spec.IsAt parts.now number x.now) }
 {
-    match kind {
-        Kind::Module(file) | Kind::ModuleLoop(file) => Some(file),
-        Kind::Parameter | Kind::Variable | Kind::Resource(_) | Kind::ResourceLoop(_) => None,
-    }
-}
-
-// The text of a number.
-fn source_at(sources: &[SourceFile], number: usize) -> Option<&SourceFile>
-    ensures { spec.IfSome result (λ x. spec.IsAt sources.now number x.now) }
-{
-    sources.get(number)
-}
-
-// What the names of the file of a number are.
-fn file_at(files: &[ResolvedFile], number: usize) -> Option<&ResolvedFile>
-    ensures { spec.IfSome result (λ x. spec.IsAt files.now number x.now) }
-{
-    files.get(number)
+    parts.get(number)
 }
 
 // One less, where it is not 0.
@@ -63,75 +49,30 @@ fn below(depth: u32) -> Option<u32>
 fn with_last(
     templates: Vec<Option<Template>>,
     template: Option<Template>,
-) -> Result<Vec<Option<Template>>, EmitFault>
-    ensures added { spec.IfOk result (spec.HasLast templates.items template) }
-    ensures fault { spec.IfErr result spec.IsMemoryFault }
+) -> Result<Vec<Option<Template>>, OutOfMemory>
+    ensures { spec.IfOk result (spec.HasLast templates.items template) }
 {
     let mut templates = templates;
     match templates.push(template) {
         Ok(()) => Ok(templates),
-        Err(_) => refuse(EmitFault::OutOfMemory, templates),
+        Err(_) => run_out(templates),
     }
-}
-
-// The template of a file with these of its modules.
-fn with_modules(
-    alloc: Global,
-    sources: &[SourceFile],
-    files: &[ResolvedFile],
-    source: &SourceFile,
-    file: &ResolvedFile,
-    templates: Vec<Option<Template>>,
-) -> Result<Template, EmitFault>
-    requires read { spec.IsRead sources.now files.now }
-    requires pair { spec.ArePaired sources.now files.now source.now file.now }
-    requires modules { spec.AreModules sources.now files.now file.now.entries.items templates.items }
-    ensures whole { spec.IsWholeAtEach sources.now files.now source.now file.now result }
-    ensures fault { spec.IfErr result (spec.IsOwnFault sources.now files.now) }
-{
-    checked_files_are_paired();
-    checked_files_have_kinds();
-    outputs_are_of_the_program();
-    source_files_are_of_texts();
-    file_template(alloc, source, file, files, templates)
 }
 
 // The template of the file of a number, with those of its modules, which are in one another at most so deep.
 #[cycle(files)]
 fn whole_file(
     alloc: Global,
-    sources: &[SourceFile],
-    files: &[ResolvedFile],
+    parts: &[FileParts],
     number: usize,
     depth: u32,
-) -> Result<Template, EmitFault>
-    requires { spec.IsRead sources.now files.now }
-    ensures whole { spec.IfOk result (spec.IsWholeFile sources.now files.now number) }
-    ensures fault { spec.IfErr result (spec.IsFaultFrom sources.now files.now number depth) }
+) -> Result<Template, OutOfMemory>
+    requires { spec.CanBeWhole parts.now number depth }
+    ensures { spec.IfOk result (spec.IsWholeIn parts.now number) }
 {
-    match source_at(sources, number) {
-        Some(source) => with_source(alloc, sources, files, source, number, depth),
-        None => Err(EmitFault::OutOfMemory),
-    }
-}
-
-// The same with the text of the file.
-#[cycle(files)]
-fn with_source(
-    alloc: Global,
-    sources: &[SourceFile],
-    files: &[ResolvedFile],
-    source: &SourceFile,
-    number: usize,
-    depth: u32,
-) -> Result<Template, EmitFault>
-    requires { spec.IsReadWith sources.now files.now number source.now }
-    ensures whole { spec.IfOk result (spec.IsWholeFile sources.now files.now number) }
-    ensures fault { spec.IfErr result (spec.IsFaultFrom sources.now files.now number depth) }
-{
-    match file_at(files, number) {
-        Some(file) => whole_of(alloc, sources, files, source, file, depth),
-        None => Err(EmitFault::OutOfMemory),
+    match part_at(parts, number) {
+        Some(part) => whole_of(alloc, parts, part, depth),
+        None => Err(AllocError),
     }
 }
 
@@ -139,19 +80,19 @@ fn with_source(
 #[cycle(files)]
 fn whole_of(
     alloc: Global,
-    sources: &[SourceFile],
-    files: &[ResolvedFile],
-    source: &SourceFile,
-    file: &ResolvedFile,
+    parts: &[FileParts],
+    part: &FileParts,
     depth: u32,
-) -> Result<Template, EmitFault>
-    requires { spec.AreReadAndPaired sources.now files.now source.now file.now }
-    ensures whole { spec.IsWholeAtEach sources.now files.now source.now file.now result }
-    ensures fault { spec.IsFaultFromEach sources.now files.now source.now file.now depth result }
+) -> Result<Template, OutOfMemory>
+    requires { spec.CanBeWholePart parts.now part.now depth }
+    ensures { spec.IsWholeAtEach parts.now part.now result }
 {
-    match modules(alloc, sources, files, file.entries.as_slice(), depth) {
-        Ok(templates) => with_modules(alloc, sources, files, source, file, templates),
-        Err(fault) => Err(fault),
+    parts_within_the_limits_can_be_filled();
+    checked_files_have_kinds();
+    outputs_are_of_the_program();
+    match modules(alloc, parts, part.table.file().entries.as_slice(), depth) {
+        Ok(templates) => file_template(alloc, part, templates),
+        Err(error) => Err(error),
     }
 }
 
@@ -159,20 +100,18 @@ fn whole_of(
 #[cycle(files)]
 fn modules(
     alloc: Global,
-    sources: &[SourceFile],
-    files: &[ResolvedFile],
+    parts: &[FileParts],
     entries: &[Entry],
     depth: u32,
-) -> Result<Vec<Option<Template>>, EmitFault>
-    requires { spec.IsRead sources.now files.now }
-    ensures modules { spec.IfOk result (spec.AreModulesIn sources.now files.now entries.now) }
-    ensures fault { spec.IfErr result (spec.IsFaultAmong sources.now files.now entries.now depth) }
+) -> Result<Vec<Option<Template>>, OutOfMemory>
+    requires { spec.CanBeModules parts.now entries.now depth }
+    ensures { spec.IfOk result (spec.AreModulesIn parts.now entries.now) }
 {
     let mut all = Vec::new(alloc);
     for entry in entries {
-        match with_module(alloc, sources, files, entry.kind, depth, all) {
+        match with_module(alloc, parts, entry.kind, depth, all) {
             Ok(more) => all = more,
-            Err(fault) => return Err(fault),
+            Err(error) => return Err(error),
         }
     }
     Ok(all)
@@ -182,19 +121,17 @@ fn modules(
 #[cycle(files)]
 fn with_module(
     alloc: Global,
-    sources: &[SourceFile],
-    files: &[ResolvedFile],
+    parts: &[FileParts],
     kind: Kind,
     depth: u32,
     templates: Vec<Option<Template>>,
-) -> Result<Vec<Option<Template>>, EmitFault>
-    requires { spec.IsRead sources.now files.now }
-    ensures added { spec.IfOk result (spec.HasModule sources.now files.now kind templates.items) }
-    ensures fault { spec.IfErr result (spec.IsFaultBy sources.now files.now kind depth) }
+) -> Result<Vec<Option<Template>>, OutOfMemory>
+    requires { spec.CanBeModule parts.now kind depth }
+    ensures { spec.IfOk result (spec.HasModule parts.now kind templates.items) }
 {
-    match module(alloc, sources, files, kind, depth) {
+    match module(alloc, parts, kind, depth) {
         Ok(template) => with_last(templates, template),
-        Err(fault) => refuse(fault, templates),
+        Err(_) => run_out(templates),
     }
 }
 
@@ -202,17 +139,15 @@ fn with_module(
 #[cycle(files)]
 fn module(
     alloc: Global,
-    sources: &[SourceFile],
-    files: &[ResolvedFile],
+    parts: &[FileParts],
     kind: Kind,
     depth: u32,
-) -> Result<Option<Template>, EmitFault>
-    requires { spec.IsRead sources.now files.now }
-    ensures module { spec.IfOk result (spec.IsModuleFor sources.now files.now kind) }
-    ensures fault { spec.IfErr result (spec.IsFaultBy sources.now files.now kind depth) }
+) -> Result<Option<Template>, OutOfMemory>
+    requires { spec.CanBeModule parts.now kind depth }
+    ensures { spec.IfOk result (spec.IsModuleFor parts.now kind) }
 {
-    match module_of(kind) {
-        Some(number) => deeper(alloc, sources, files, number, depth),
+    match module_number(kind) {
+        Some(number) => deeper(alloc, parts, number, depth),
         None => Ok(None),
     }
 }
@@ -221,21 +156,19 @@ fn module(
 #[cycle(files)]
 fn deeper(
     alloc: Global,
-    sources: &[SourceFile],
-    files: &[ResolvedFile],
+    parts: &[FileParts],
     number: usize,
     depth: u32,
-) -> Result<Option<Template>, EmitFault>
-    requires { spec.IsRead sources.now files.now }
-    ensures module { spec.IfOk result (spec.IsInner sources.now files.now number) }
-    ensures fault { spec.IfErr result (spec.IsFaultInside sources.now files.now number depth) }
+) -> Result<Option<Template>, OutOfMemory>
+    requires { spec.CanBeInner parts.now number depth }
+    ensures { spec.IfOk result (spec.IsInner parts.now number) }
 {
     match below(depth) {
-        Some(less) => match whole_file(alloc, sources, files, number, less) {
+        Some(less) => match whole_file(alloc, parts, number, less) {
             Ok(template) => Ok(Some(template)),
-            Err(fault) => Err(fault),
+            Err(error) => Err(error),
         },
-        None => Err(EmitFault::Limit(Which::Nesting, 121)),
+        None => unreachable!(),
     }
 }
 
@@ -262,6 +195,49 @@ fn within(template: Template) -> Result<Template, EmitFault>
     }
 }
 
+// The template of a program that is beyond no limit, by what its files are made of.
+fn built(alloc: Global, parts: &[FileParts]) -> Result<Template, EmitFault>
+    requires known { spec.AreOfProgram parts.now }
+    requires within { spec.IsWholeWithin parts.now }
+    ensures whole { spec.IfOk result (spec.IsWholeAndWithin parts.now) }
+    ensures fault { spec.IfErr result (spec.IsBuiltFault parts.now) }
+{
+    match whole_file(alloc, parts, 0, MAX_MODULE_DEPTH) {
+        Ok(template) => within(template),
+        Err(_) => Err(EmitFault::OutOfMemory),
+    }
+}
+
+// The template of a program, by what its files are made of.
+fn limited(alloc: Global, parts: &[FileParts]) -> Result<Template, EmitFault>
+    requires { spec.AreOfProgram parts.now }
+    ensures whole { spec.IfOk result (spec.IsWholeAndWithin parts.now) }
+    ensures fault { spec.IfErr result (spec.IsPartsFault parts.now) }
+{
+    match whole_limits(alloc, parts) {
+        Ok(()) => built(alloc, parts),
+        Err(fault) => Err(fault),
+    }
+}
+
+// The template of a program, with the orders of the declarations of its files.
+fn ordered(
+    alloc: Global,
+    sources: &[SourceFile],
+    files: &[ResolvedFile],
+    orders: &[FileOrder],
+) -> Result<Template, EmitFault>
+    requires read { spec.IsRead sources.now files.now }
+    requires orders { spec.AreOrdersOfAll sources.now files.now orders.now }
+    ensures whole { spec.IfOk result (spec.IsWholeProgram sources.now files.now) }
+    ensures fault { spec.IfErr result (spec.IsEmissionFault sources.now files.now) }
+{
+    match program_parts(alloc, sources, files, orders) {
+        Ok(parts) => limited(alloc, parts.as_slice()),
+        Err(fault) => Err(fault),
+    }
+}
+
 /// The template of a program in the first form: that of its main file, in which each module is a nested deployment with
 /// the template of its own file. `program` is what `load` of `bicep_program` returned, and `checked` what `check` of
 /// `bicep_types` returned for it.
@@ -269,8 +245,8 @@ fn within(template: Template) -> Result<Template, EmitFault>
 /// # Errors
 ///
 /// - `Limit`: a quantity of the template is beyond its limit, with its number.
-///   The nesting of a template in which modules are in one another above 29 deep has the number 121.
-/// - `TooDeep`: an expression nests above 64.
+///   Modules that are in one another above 30 deep count as 31 deep.
+/// - `TooDeep`: an expression nests above 64, and no other limit is passed.
 /// - `OutOfMemory`.
 pub fn emit(alloc: Global, program: &Program, checked: &Checked) -> Result<Template, EmitFault>
     requires loaded { spec.IsLoaded program.now }
@@ -282,8 +258,8 @@ pub fn emit(alloc: Global, program: &Program, checked: &Checked) -> Result<Templ
     whole_templates_are_emitted();
     let sources = program.files.as_slice();
     let files = checked.resolved.files.as_slice();
-    match whole_file(alloc, sources, files, 0, MAX_MODULE_DEPTH) {
-        Ok(template) => within(template),
+    match file_orders(alloc, sources, files) {
+        Ok(orders) => ordered(alloc, sources, files, orders.as_slice()),
         Err(fault) => Err(fault),
     }
 }

@@ -1,16 +1,14 @@
--- The faults of a file whose template is beyond a limit.
-use Rattle.std.proofs.Common.{◌≡◌, inl, inr, ℕ, List, Option, Result, Ok, Err, refl, sym, subst}
-use Rattle.std.specs.Prelude.{IfOk, IfErr, OnOk}
-use Rattle.template_parts.specs.declared.parameter.Parameter.{Parameter}
+-- The faults of a file whose batches or lists are too large.
+use Rattle.std.proofs.Common.{◌≡◌, inl, inr, List, Result, Ok, Err, refl, sym, subst}
+use Rattle.std.specs.Prelude.{IfOk, IfErr}
 use Rattle.bicep_tree.specs.Tree.{FileTree}
+use Rattle.resolved_program.specs.declared.resolved.ResolvedFile.{ResolvedFile}
 use Rattle.symbol_decorators.specs.Limits.{IsFault}
 use Rattle.symbol_decorators.specs.declared.fault.BatchFault.{BatchFault}
 use Rattle.symbol_decorators.specs.declared.fault.BatchFault.TheVariants as batch
-use Rattle.parameter_rules.specs.Files.{IsParameterAt}
-use Rattle.emitted_templates.specs.Seen.{Shape, file_in}
-use Rattle.emitted_templates.specs.Lists.{rule_at}
-use Rattle.file_templates.specs.Faults.{IsMemoryFault, IsFaultOf, IsBatchFault, IsBeyondLimit}
-use Rattle.file_templates.specs.Faults.{IsMeasuredFault, IsPartsFault}
+use Rattle.emitted_templates.specs.Seen.{Shape}
+use Rattle.file_templates.specs.Faults.{IsMemoryFault, IsFaultOf, IsBatchFault, IsCountOrMemory, IsFileFault}
+use Rattle.file_templates.specs.Texts.{IsTabled}
 use Rattle.file_templates.specs.declared.fault.EmitFault.{EmitFault}
 use Rattle.file_templates.specs.declared.fault.EmitFault.TheVariants as fault
 
@@ -31,20 +29,11 @@ pub of_memory : {A : Type 0} (Q : EmitFault → Type 0) → Q fault.OutOfMemory 
     → IfErr res IsMemoryFault → IfErr res Q
 of_memory Q h res e = other_fault IsMemoryFault Q (λ x i. subst Q (sym i) h) res e
 
-pub other_ok : {A E P Q : Type 0} → (P → Q) → (res : Result A E) → OnOk res P → OnOk res Q
-other_ok more (Ok a) h = more h
-other_ok more (Err x) h = tt
-
 pub of_batch : (t : FileTree) (b : BatchFault) (x : EmitFault) → IsFaultOf b x → IsFault t b → IsBatchFault t x
 of_batch t (batch.TooLarge n) x e h = subst (λ y. IsBatchFault t y) (sym e) (refl, h)
 of_batch t batch.OutOfMemory x e h = subst (λ y. IsBatchFault t y) (sym e) tt
 
-pub of_limit : (s : Shape) (rs : List (Option Parameter)) (x : EmitFault) → IsBeyondLimit s rs x
-    → IsMeasuredFault s rs x
-of_limit s rs x h = inr h
-
-pub of_measure : (t : FileTree) (s : Shape) (rs : List (Option Parameter))
-    → ((n : ℕ) → IsParameterAt t (file_in s) n (rule_at s rs n)) → (x : EmitFault) → IsMeasuredFault s rs x
-    → IsPartsFault t s x
-of_measure t s rs rules x (inl e) = inl e
-of_measure t s rs rules x (inr h) = inr (inr (rs, (rules, h)))
+pub of_table : (t : FileTree) (r : ResolvedFile) (rs : List ResolvedFile) (s : Shape) → IsTabled t r rs s
+    → (x : EmitFault) → IsCountOrMemory s x → IsFileFault t r rs x
+of_table t r rs s h x (inl e) = inl e
+of_table t r rs s h x (inr e) = inr (s, (h, e))

@@ -1,3 +1,3 @@
 mod FaultLemmas
 mod MadeLemmas
-mod TextLemmas
+pub mod TextLemmas

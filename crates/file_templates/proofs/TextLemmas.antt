@@ -28,23 +28,30 @@ use Rattle.symbol_decorators.specs.Batches.{batches_of}
 use Rattle.symbol_decorators.specs.Limits.{IsSmall}
 use Rattle.parameter_rules.specs.Files.{IsParameterAt}
 use Rattle.emitted_templates.specs.Seen.{Shape, file_of, file_in, files_of}
-use Rattle.emitted_templates.specs.Lists.{rule_at}
+use Rattle.emitted_templates.specs.Lists.{AreRules, rule_at}
 use Rattle.emitted_templates.specs.Fits.{IsReady, AreMentioned}
 use Rattle.foundation.proofs.Comparisons.{le_true}
 use Rattle.template_tree.specs.declared.resource.Template.{Template}
 use Rattle.template_written.specs.Keeps.{KeepsBatches}
 use Rattle.placed_files.specs.Laws.{CheckedFilesArePlaced}
 use Rattle.kept_templates.specs.Kept.{AreBatchesSmall}
+use Rattle.measured_trees.specs.Limits.{IsBeyond}
+use Rattle.file_metadata.specs.Files.{IsMetadataOf}
+use Rattle.file_metadata.specs.declared.files.FileMetadata.{FileMetadata}
+use Rattle.file_counts.specs.Counts.{first_beyond}
+use Rattle.file_limits.specs.Laws.{FilesWithinLimitsFit}
 use Rattle.file_limits.specs.Limited.{AllIsPrintable}
 use Rattle.file_tables.specs.Orders as tables
 use Rattle.file_tables.specs.Tables.{IsTableOf, IsOfProgram}
 use Rattle.file_tables.specs.declared.order.FileOrder.{FileOrder}
 use Rattle.program_templates.specs.Laws.{CheckedFilesHaveKinds, CheckedNamesDiffer}
 use Rattle.source_templates.specs.Texts.{IsOfText}
-use Rattle.file_templates.specs.Made.{CanBeMade, AreGiven, AreGivenIn, AreGivenTo, IsKeptBy, KeepsRules}
-use Rattle.file_templates.specs.Parts.{AreRulesOf, AreMentionsOf, AreParts, AreMentionedParts, ArePartsOf}
-use Rattle.file_templates.specs.Texts.{text_of, HasLoops, IsTabledIn, IsOfFile}
+use Rattle.file_templates.specs.Made.{CanBeFilled, IsKeptBy, KeepsRules}
+use Rattle.file_templates.specs.Parts.{AreCountedParts, AreMentionedParts, AreMentionsOf, AreParts, ArePartsFor}
+use Rattle.file_templates.specs.Parts.{ArePartsOf, AreRuledParts, AreRulesOf, AreWithTable, IsMeasureOf, extremes_of, unmeasured}
+use Rattle.file_templates.specs.Texts.{text_of, HasLoops, IsTabled, IsTabledIn, IsOfFile}
 use Rattle.file_templates.specs.declared.fault.EmitFault.{EmitFault}
+use Rattle.file_templates.specs.declared.file.FileParts.{FileParts}
 use Rattle.file_templates.specs.declared.file.Parts.{Parts}
 use Rattle.emitted_templates.specs.Built.{Templates}
 
@@ -109,10 +116,6 @@ module _ (r : ResolvedFile) (s : Shape) where
     differ = h.1.differ;
   }
 
-  pub given_in : (t : FileTree) → IsTabledIn t r s → (us : Templates) → AreGivenTo r us → AreGivenIn s us
-  given_in t h us given =
-      subst (λ (f : SourceFile). AreGiven f.declared.declarations us) (sym h.1.table.file) given
-
   pub of_text : (t : FileTree) → IsTabledIn t r s → (rules : List (Option Parameter))
       → ((n : ℕ) → IsParameterAt t (file_in s) n (rule_at s rules n)) → IsOfText t r s rules
   of_text t h rules are = record {
@@ -127,40 +130,39 @@ module _ (r : ResolvedFile) (s : Shape) where
 pub tabled_by : (t : FileTree) (r : ResolvedFile) (rs : List ResolvedFile) → IsOfProgram rs r → (x : FileOrder)
     → tables.IsOrderFor r x → HasLoops t r x → CheckedFilesHaveKinds → CheckedNamesDiffer → CheckedFilesArePlaced
     → (s : Shape)
-    → IsTableOf (file_of r x.marks.items) (files_of rs) s → IsTabledIn t r s
+    → IsTableOf (file_of r x.marks.items) (files_of rs) s → IsTabled t r rs s
 tabled_by t r rs h x order loops have_kinds differ are_placed s table =
     let views = map file_view rs in
     let symbols = ap (λ (f : SourceFile). f.symbols) table.file in
     let declared = ap (λ (f : SourceFile). f.declared) table.file in
-    let outputs = ap (λ (f : SourceFile). f.outputs) table.file in (
-      rs,
-      record {
-        marks = x.marks.items;
-        table = table;
-        names = order.entries;
-        batches = loops.batches;
-        small = loops.small;
-        kinds = have_kinds h.files views h.resolved h.number (file_view r) h.is (file_in s) symbols declared;
-        differ = differ h.files views h.resolved h.none h.number (file_view r) h.is (file_in s) symbols outputs;
-        placed = are_placed h.files views h.resolved h.none h.number (file_view r) h.is (file_in s) symbols declared;
-      },
-    )
+    let outputs = ap (λ (f : SourceFile). f.outputs) table.file in
+    record {
+      marks = x.marks.items;
+      table = table;
+      names = order.entries;
+      batches = loops.batches;
+      small = loops.small;
+      kinds = have_kinds h.files views h.resolved h.number (file_view r) h.is (file_in s) symbols declared;
+      differ = differ h.files views h.resolved h.none h.number (file_view r) h.is (file_in s) symbols outputs;
+      placed = are_placed h.files views h.resolved h.none h.number (file_view r) h.is (file_in s) symbols declared;
+    }
 
 -- batches that are small are so in a template
 small_batches : (b : Batches) → IsSmall b → KeepsBatches b
 small_batches Parallel h = tt
 small_batches (Serial n) h = le_true n 800 h
 
-pub all_small : (t : FileTree) (r : ResolvedFile) (s : Shape) → IsTabledIn t r s → AreBatchesSmall (file_in s)
-all_small t r s h n =
+pub all_small : (t : FileTree) (r : ResolvedFile) (rs : List ResolvedFile) (s : Shape) → IsTabled t r rs s
+    → AreBatchesSmall (file_in s)
+all_small t r rs s h n =
     subst (λ (b : Batches). KeepsBatches b)
-    (sym (ap (λ (f : SourceFile). f.batches n) h.1.table.file ∙ h.1.batches n))
-    (small_batches (batches_of t n) (h.1.small n))
+    (sym (ap (λ (f : SourceFile). f.batches n) h.table.file ∙ h.batches n))
+    (small_batches (batches_of t n) (h.small n))
 
-pub keeps_rules : (t : FileTree) (r : ResolvedFile) (s : Shape) (us : Templates) → IsTabledIn t r s
-    → (res : Result Template EmitFault) → IfOk res (IsKeptBy s us) → IfOk res (KeepsRules us)
-keeps_rules t r s us h (Ok u) k = k h.1.placed (all_small t r s h)
-keeps_rules t r s us h (Err x) k = tt
+pub keeps_rules : (t : FileTree) (r : ResolvedFile) (rs : List ResolvedFile) (s : Shape) (us : Templates)
+    → IsTabled t r rs s → (res : Result Template AllocError) → IfOk res (IsKeptBy s us) → IfOk res (KeepsRules us)
+keeps_rules t r rs s us h (Ok u) k = k h.placed (all_small t r rs s h)
+keeps_rules t r rs s us h (Err x) k = tt
 
 pub is_ready : (s : Shape) → IsOfFile s → IsReady s
 is_ready s h = record {
@@ -180,21 +182,85 @@ all_printable s h =
 
 -- ---- parts
 
-pub with_mentions : (s : Shape) (rules : List (Option Parameter)) (sets : List (BTreeSet ℕ)) → AreMentioned s sets
-    → (res : Result Parts EmitFault) → IfOk res (AreParts s rules sets) → IfOk res (AreMentionedParts s rules)
-with_mentions s rules sets m (Ok p) h = (sets, (m, h))
-with_mentions s rules sets m (Err x) h = tt
+pub with_mentions : (s : Shape) (rules : List (Option Parameter)) (x : FileMetadata) (sets : List (BTreeSet ℕ))
+    → AreMentioned s sets → (res : Result Parts EmitFault) → IfOk res (AreParts s rules x sets)
+    → IfOk res (AreMentionedParts s rules x)
+with_mentions s rules x sets m (Ok p) h = (sets, (m, h))
+with_mentions s rules x sets m (Err e) h = tt
+
+pub with_metadata : (t : FileTree) (s : Shape) (rules : List (Option Parameter)) (x : FileMetadata)
+    → IsMetadataOf t x → (res : Result Parts EmitFault) → IfOk res (AreMentionedParts s rules x)
+    → IfOk res (AreRuledParts t s rules)
+with_metadata t s rules x m (Ok p) h = (x, (m, h))
+with_metadata t s rules x m (Err e) h = tt
+
+pub metadata_are : (x : Text) (ss : List Statement) → ss ≡ x.file.items → (res : Result FileMetadata AllocError)
+    → IfOk res (IsMetadataOf (view.file_of ss)) → IfOk res (IsMetadataOf (text_of x))
+metadata_are x ss e (Ok m) h = subst (λ (l : List Statement). IsMetadataOf (view.file_of l) m) e h
+metadata_are x ss e (Err y) h = tt
 
 pub all_parts : (t : FileTree) (s : Shape) (rules : List (Option Parameter))
-    → ((n : ℕ) → IsParameterAt t (file_in s) n (rule_at s rules n)) → (res : Result Parts EmitFault)
-    → IfOk res (AreMentionedParts s rules) → IfOk res (ArePartsOf t s)
-all_parts t s rules are (Ok p) h =
-    let x = h.1.1 in
+    → ((n : ℕ) → IsParameterAt t (file_in s) n (rule_at s rules n)) → AreRules s rules
+    → (res : Result Parts EmitFault) → IfOk res (AreRuledParts t s rules) → IfOk res (ArePartsOf t s)
+all_parts t s rules are there (Ok p) h =
+    let x = h.1.1.1.1 in
     record {
       rules =
           λ n. subst (λ (l : List (Option Parameter)). IsParameterAt t (file_in s) n (rule_at s l n))
           (sym x.rules_are) (are n);
-      mentioned = subst (λ (l : List (BTreeSet ℕ)). AreMentioned s l) (sym x.mentioned_are) h.1.0;
-      fits = subst (λ (l : List (Option Parameter)). CanBeMade s l) (sym x.rules_are) x.fits;
+      there = subst (λ (l : List (Option Parameter)). AreRules s l) (sym x.rules_are) there;
+      metadata = subst (λ (m : FileMetadata). IsMetadataOf t m) (sym x.metadata_is) h.1.0;
+      mentioned = subst (λ (l : List (BTreeSet ℕ)). AreMentioned s l) (sym x.mentioned_are) h.1.1.1.0;
+      measure = subst (λ (l : List (Option Parameter)). IsMeasureOf s l p.measure) (sym x.rules_are) x.measure;
     }
-all_parts t s rules are (Err x) h = tt
+all_parts t s rules are there (Err x) h = tt
+
+pub counted : (t : FileTree) (s : Shape) → first_beyond (file_in s) ≡ None → (res : Result Parts EmitFault)
+    → IfOk res (ArePartsOf t s) → IfOk res (AreCountedParts t s)
+counted t s e (Ok p) h = (h, e)
+counted t s e (Err x) h = tt
+
+pub with_table : (t : FileTree) (r : ResolvedFile) (rs : List ResolvedFile) (s : Shape) → IsTabled t r rs s
+    → (res : Result FileParts EmitFault) → IfOk res (AreWithTable t s) → IfOk res (ArePartsFor t r rs)
+with_table t r rs s h (Ok x) w = record {
+  table = subst (λ (z : Shape). IsTabled t r rs z) (sym w.table) h;
+  parts = subst (λ (z : Shape). AreCountedParts t z x.parts) (sym w.table) w.parts;
+}
+with_table t r rs s h (Err e) w = tt
+
+-- ---- templates of parts
+
+module _ (t : FileTree) (r : ResolvedFile) (rs : List ResolvedFile) (x : FileParts) (h : ArePartsFor t r rs x) where
+  pub of_parts : (rules : List (Option Parameter)) → rules ≡ x.parts.rules.items → IsOfText t r x.table rules
+  of_parts rules e =
+      of_text r x.table t (rs, h.table) rules
+      (λ n. subst (λ (l : List (Option Parameter)). IsParameterAt t (file_in x.table) n (rule_at x.table l n)) (sym e)
+      (h.parts.0.rules n))
+
+-- what is beyond no limit can be filled with templates of modules
+pub can_be_filled : FilesWithinLimitsFit → (t : FileTree) (r : ResolvedFile) (rs : List ResolvedFile) (x : FileParts)
+    → ArePartsFor t r rs x → IsBeyond 0 (extremes_of x) None → CanBeFilled x
+can_be_filled fit t r rs x h k =
+    let s = x.table in
+    let rules = x.parts.rules.items in
+    let file = of_file r s t (rs, h.table) in
+    let a = fit s rules unmeasured 0 (all_printable s file) k in
+    record {
+      ready = is_ready s file;
+      kinds = h.table.kinds;
+      mentioned = h.parts.0.mentioned;
+      fits =
+          record {
+            listed =
+                record {
+                  symbols = h.table.differ.symbols;
+                  output_names = h.table.differ.outputs;
+                  rules = h.parts.0.there;
+                  variables = a.variables;
+                  outputs = a.outputs;
+                  defaults = a.defaults;
+                };
+            fits = a.bodies;
+            within = a.within;
+          };
+    }

@@ -1,5 +1,9 @@
 pub mod Clauses
 pub mod Faults
+pub mod Laws
 pub mod Made
 pub mod Parts
 pub mod Texts
+pub use Rattle.file_tables.specs.Orders
+pub use Rattle.file_tables.specs.Tables
+pub use Rattle.file_tables.specs.declared.order.FileOrder

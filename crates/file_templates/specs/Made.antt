@@ -1,5 +1,6 @@
 -- The template of a file that is made, with the templates of its modules.
-use Rattle.std.specs.Prelude.{◌≡◌, ℕ, List, length, Option, Some, is_some, slice_get}
+use Rattle.std.specs.Prelude.{◌≡◌, ℕ, List, length, Option, Some, is_some, slice_get, Result, IfOk}
+use Rattle.std.specs.declared.alloc.AllocError.{AllocError}
 use Rattle.template_parts.specs.declared.mode.Form.TheVariants.{One}
 use Rattle.template_parts.specs.declared.parameter.Parameter.{Parameter}
 use Rattle.template_tree.specs.Tree.{TemplateTree}
@@ -17,19 +18,32 @@ use Rattle.emitted_templates.specs.Seen.{Shape, file_in, files_in, files_of}
 use Rattle.emitted_templates.specs.Files.{IsFile}
 use Rattle.source_files.specs.Sources.{source_file}
 use Rattle.emitted_templates.specs.Built.{Templates, template_of}
-use Rattle.emitted_templates.specs.Fits.{FitsBy, HasTemplate}
+use Rattle.emitted_templates.specs.Fits.{AreMentioned, FitsBy, HasTemplate, IsReady}
 use Rattle.emitted_templates.specs.Within.{IsWithin}
 use Rattle.emitted_templates.specs.Templates.{CanBeListed}
+use Rattle.emitted_templates.specs.Metadata.{HasMetadata}
+use Rattle.file_metadata.specs.Files.{IsMetadataOf, output_metadata, symbol_metadata}
+use Rattle.file_metadata.specs.declared.files.FileMetadata.{FileMetadata}
 use Rattle.template_written.specs.Keeps.{Keeps}
 use Rattle.placed_files.specs.Placed.{IsPlaced}
 use Rattle.kept_templates.specs.Kept.{AllKept, AreBatchesSmall}
 use Rattle.source_templates.specs.Texts.{IsOfText}
+use Rattle.program_templates.specs.Kinds.{HasKinds}
+use Rattle.file_templates.specs.Parts.{ArePartsFor}
+use Rattle.file_templates.specs.declared.file.FileParts.{FileParts}
 
 -- the template of the file of a table is beyond no limit
 pub record CanBeMade (s : Shape) (rs : List (Option Parameter)) : Type 0 where
   pub listed : CanBeListed s rs
   pub fits : (n : ℕ) → FitsBy s n (declaration (file_in s) n)
   pub within : (n : ℕ) → IsWithin s n
+
+-- a template can be made of the parts, with templates of its modules
+pub record CanBeFilled (x : FileParts) : Type 0 where
+  pub ready : IsReady x.table
+  pub kinds : HasKinds (file_in x.table)
+  pub mentioned : AreMentioned x.table x.parts.mentioned.items
+  pub fits : CanBeMade x.table x.parts.rules.items
 
 -- there is a template for each module among these declarations
 pub record AreGiven (ds : List DeclaredTree) (us : Templates) : Type 0 where
@@ -38,14 +52,6 @@ pub record AreGiven (ds : List DeclaredTree) (us : Templates) : Type 0 where
 
 abbrev pub AreGivenIn : Shape → Templates → Type 0
 AreGivenIn s us = AreGiven (file_in s).declared.declarations us
-
--- the same of the declarations of a file whose names are found
-abbrev pub AreGivenTo : ResolvedFile → Templates → Type 0
-AreGivenTo r us = AreGiven (file_view r).declared.declarations us
-
--- the table has the files of a program
-abbrev pub HasOutputs : List ResolvedFile → Shape → Type 0
-HasOutputs rs s = files_in s ≡ files_of rs
 
 -- the template is that of a file, with the templates that were given for its modules
 pub record IsWith (fs : List SourceFile) (f : SourceFile) (us : Templates) (u : TemplateTree) : Type 0 where
@@ -72,3 +78,31 @@ KeepsRules us u = AllKept us → Keeps (template_tree u)
 -- so it is for a file with names in their places and small batches
 abbrev pub IsKeptBy : Shape → Templates → Template → Type 0
 IsKeptBy s us u = IsPlaced (file_in s) → AreBatchesSmall (file_in s) → KeepsRules us u
+
+-- the template is that of each file of a program whose parts these are
+abbrev pub IsMadeForEach : FileParts → Templates → Result Template AllocError → Type 0
+IsMadeForEach x us result =
+    (t : FileTree) (r : ResolvedFile) (rs : List ResolvedFile) → ArePartsFor t r rs x
+    → IfOk result (IsMadeFor t r rs us)
+
+-- and keeps the rules, where those of the modules do
+abbrev pub KeepsForEach : FileParts → Templates → Result Template AllocError → Type 0
+KeepsForEach x us result =
+    (t : FileTree) (r : ResolvedFile) (rs : List ResolvedFile) → ArePartsFor t r rs x → IfOk result (KeepsRules us)
+
+-- ---- metadata
+
+-- the template has the metadata of the text's decorators
+abbrev pub HasMetadataOf : FileTree → ResolvedFile → Template → Type 0
+HasMetadataOf t r u =
+    HasMetadata One (source_file One t (file_view r)) (symbol_metadata t) (output_metadata t) (template_tree u)
+
+-- it has that of each text whose table, rules and metadata these are
+abbrev pub IsNotedForEach : Shape → List (Option Parameter) → FileMetadata → Template → Type 0
+IsNotedForEach s rs x u =
+    (t : FileTree) (r : ResolvedFile) → IsOfText t r s rs → IsMetadataOf t x → HasMetadataOf t r u
+
+-- and that of each file of a program whose parts these are
+abbrev pub HasMetadataForEach : FileParts → Result Template AllocError → Type 0
+HasMetadataForEach x result =
+    (t : FileTree) (r : ResolvedFile) (rs : List ResolvedFile) → ArePartsFor t r rs x → IfOk result (HasMetadataOf t r)

@@ -1,4 +1,4 @@
--- What a template is made of, beside the table of its file and the templates of its modules.
+-- What a template is made of: the table of its file, and other parts.
 use Rattle.std.specs.Prelude.{◌≡◌, ℕ, List, Option, None, slice_index_or}
 use Rattle.std.specs.BTreeSet.{BTreeSet}
 use Rattle.std.specs.declared.alloc.Global.{Global}
@@ -12,10 +12,18 @@ use Rattle.resolved_program.specs.View.{file_view}
 use Rattle.bicep_checks.specs.Faults.{kinds_of}
 use Rattle.bicep_meaning.specs.Files.{SourceFile}
 use Rattle.parameter_rules.specs.Files.{IsParameterAt}
+use Rattle.measured_trees.specs.Extremes.{Extremes, nothing}
+use Rattle.measured_trees.specs.Measures.{IsOf}
+use Rattle.measured_trees.specs.declared.measure.Measure.{Measure}
 use Rattle.emitted_templates.specs.Seen.{Shape, file_in}
-use Rattle.emitted_templates.specs.Lists.{rule_at}
+use Rattle.emitted_templates.specs.Lists.{AreRules, rule_at}
 use Rattle.emitted_templates.specs.Fits.{AreMentioned}
-use Rattle.file_templates.specs.Made.{CanBeMade}
+use Rattle.file_counts.specs.Counts.{first_beyond}
+use Rattle.file_limits.specs.Extremes.{file_extremes}
+use Rattle.file_metadata.specs.Files.{IsMetadataOf}
+use Rattle.file_metadata.specs.declared.files.FileMetadata.{FileMetadata}
+use Rattle.file_templates.specs.Texts.{IsTabled}
+use Rattle.file_templates.specs.declared.file.FileParts.{FileParts}
 use Rattle.file_templates.specs.declared.file.Parts.{Parts}
 
 -- the parameters that the text gives to the symbols of the file
@@ -30,18 +38,56 @@ abbrev pub AreMentionsOf : ResolvedFile → Vec (BTreeSet ℕ) Global → Type 0
 AreMentionsOf r sets =
     AreDependencies (kinds_of (file_view r)) (file_view r).declared.declarations (keys_of_each sets.items)
 
--- these parts, of which the template of the file of a table is beyond no limit
-pub record AreParts (s : Shape) (rules : List (Option Parameter)) (sets : List (BTreeSet ℕ)) (p : Parts) : Type 0 where
+-- ---- what the template takes of the limits
+
+-- nothing is asked of what is inside modules
+abbrev pub unmeasured : ℕ → Extremes
+unmeasured n = nothing
+
+-- the measure is that of the template of the file of a table, without those of its modules
+abbrev pub IsMeasureOf : Shape → List (Option Parameter) → Measure → Type 0
+IsMeasureOf s rs m = IsOf (file_extremes s rs unmeasured) m
+
+-- what the template of a file takes, without those of its modules
+abbrev pub extremes_of : FileParts → Extremes
+extremes_of x = file_extremes x.table x.parts.rules.items unmeasured
+
+-- ---- parts
+
+-- these parts, and what the template of the file of a table takes with them
+pub record AreParts (s : Shape) (rules : List (Option Parameter)) (x : FileMetadata) (sets : List (BTreeSet ℕ))
+    (p : Parts) : Type 0 where
   pub rules_are : p.rules.items ≡ rules
+  pub metadata_is : p.metadata ≡ x
   pub mentioned_are : p.mentioned.items ≡ sets
-  pub fits : CanBeMade s rules
+  pub measure : IsMeasureOf s rules p.measure
 
 -- the same with what the declarations of the file mention
-abbrev pub AreMentionedParts : Shape → List (Option Parameter) → Parts → Type 0
-AreMentionedParts s rules p = (sets : List (BTreeSet ℕ)) × (AreMentioned s sets × AreParts s rules sets p)
+abbrev pub AreMentionedParts : Shape → List (Option Parameter) → FileMetadata → Parts → Type 0
+AreMentionedParts s rules x p = (sets : List (BTreeSet ℕ)) × (AreMentioned s sets × AreParts s rules x sets p)
 
--- the parts are those of the file of a table, whose template is beyond no limit
+-- and with the metadata of a text
+abbrev pub AreRuledParts : FileTree → Shape → List (Option Parameter) → Parts → Type 0
+AreRuledParts t s rules p = (x : FileMetadata) × (IsMetadataOf t x × AreMentionedParts s rules x p)
+
+-- the parts are those of the file of a table, with what its template takes of the limits
 pub record ArePartsOf (t : FileTree) (s : Shape) (p : Parts) : Type 0 where
   pub rules : (n : ℕ) → IsParameterAt t (file_in s) n (rule_at s p.rules.items n)
+  pub there : AreRules s p.rules.items
+  pub metadata : IsMetadataOf t p.metadata
   pub mentioned : AreMentioned s p.mentioned.items
-  pub fits : CanBeMade s p.rules.items
+  pub measure : IsMeasureOf s p.rules.items p.measure
+
+-- and none of the lists of its template is too long
+abbrev pub AreCountedParts : FileTree → Shape → Parts → Type 0
+AreCountedParts t s p = ArePartsOf t s p × (first_beyond (file_in s) ≡ None)
+
+-- the same with the table
+pub record AreWithTable (t : FileTree) (s : Shape) (x : FileParts) : Type 0 where
+  pub table : x.table ≡ s
+  pub parts : AreCountedParts t s x.parts
+
+-- the parts are those of the file of a text in a checked program
+pub record ArePartsFor (t : FileTree) (r : ResolvedFile) (rs : List ResolvedFile) (x : FileParts) : Type 0 where
+  pub table : IsTabled t r rs x.table
+  pub parts : AreCountedParts t x.table x.parts

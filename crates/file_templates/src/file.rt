@@ -1,4 +1,4 @@
-//! The template of a file: its order, its table, what it is made of, its limits, and the template.
+//! The template of a file: its order, its table, what it is made of, what it takes of the limits, and the template.
 ghost use Rattle.file_templates.specs.Clauses as spec;
 
 use crate::fault::{EmitFault, refuse};
@@ -8,11 +8,10 @@ use bicep_program::SourceFile;
 use emitted_templates::laws::templates_have_the_parts_of_the_file;
 use emitted_templates::{Measure, Table, template};
 use file_counts::first_beyond;
-use file_limits::laws::files_within_the_limits_fit;
 use file_limits::measured_file;
+use file_metadata::{FileMetadata, metadata_of_file};
 use file_tables::{FileOrder, file_order, file_table};
 use kept_templates::laws::templates_keep_the_rules;
-use measured_trees::Beyond;
 use parameter_rules::parameters;
 use placed_files::laws::checked_files_are_placed;
 use program_templates::laws::{
@@ -20,7 +19,10 @@ use program_templates::laws::{
     parameters_are_there,
 };
 use resolved_program::ResolvedFile;
-use source_templates::laws::{symbols_have_the_same_numbers, templates_are_of_their_texts};
+use source_templates::laws::{
+    symbols_have_the_same_numbers, templates_are_of_their_texts,
+    templates_have_the_metadata_of_texts,
+};
 use std::alloc::Global;
 use std::collections::BTreeSet;
 use symbol_decorators::{BatchFault, batches};
@@ -54,8 +56,18 @@ fn order_with(
     }
 }
 
-/// The order of the declarations of a file, with the batches that its decorators give.
-fn loops(alloc: Global, source: &SourceFile, file: &ResolvedFile) -> Result<FileOrder, EmitFault>
+/// The order of the declarations of a file of a checked program, with the batches that its decorators give. `source` is
+/// its text, and `file` what its names are.
+///
+/// # Errors
+///
+/// - `Limit`: a batch has more than 800 instances.
+/// - `OutOfMemory`.
+pub fn file_loops(
+    alloc: Global,
+    source: &SourceFile,
+    file: &ResolvedFile,
+) -> Result<FileOrder, EmitFault>
     requires { spec.IsOfChecked file.now }
     ensures order { spec.IfOk result (spec.IsOrderFor file.now) }
     ensures loops { spec.IfOk result (spec.HasLoops (spec.text_of source.now) file.now) }
@@ -67,40 +79,26 @@ fn loops(alloc: Global, source: &SourceFile, file: &ResolvedFile) -> Result<File
     }
 }
 
-/// The template of the file of a table, which is beyond no limit.
-fn made(
-    alloc: Global,
-    table: &Table,
-    rules: &[Option<Parameter>],
-    mentioned: &[BTreeSet<usize>],
-    templates: Vec<Option<Template>>,
-) -> Result<Template, EmitFault>
-    requires ready { spec.IsReady table.now }
-    requires fits { spec.CanBeMade table.now rules.now }
-    requires mentioned { spec.AreMentioned table.now mentioned.now }
-    requires given { spec.AreGivenIn table.now (spec.templates_of templates.items) }
-    ensures text { spec.IfOk result (spec.IsOfEachText table.now rules.now (spec.templates_of templates.items)) }
-    ensures keeps { spec.IfOk result (spec.IsKeptBy table.now (spec.templates_of templates.items)) }
-    ensures fault { spec.IfErr result spec.IsMemoryFault }
-{
-    templates_keep_the_rules();
-    templates_have_the_parts_of_the_file();
-    templates_are_of_their_texts();
-    symbols_have_the_same_numbers();
-    nested_templates_are_given();
-    match template(alloc, table, rules, &[], &[], mentioned, templates) {
-        Ok(template) => Ok(template),
-        Err(_) => Err(EmitFault::OutOfMemory),
-    }
-}
-
 /// What a template is made of, beside the table of its file and the templates of its modules.
 #[derive(Drop)]
-pub(crate) struct Parts {
+pub struct Parts {
     /// By the number of each symbol its parameter, without the default.
     pub rules: Vec<Option<Parameter>>,
+    /// The metadata of the symbols and of the outputs, by their numbers.
+    pub metadata: FileMetadata,
     /// By the number of each symbol the resources and modules that its declaration mentions.
     pub mentioned: Vec<BTreeSet<usize>>,
+    /// What the template takes of the limits, without the templates of its modules.
+    pub measure: Measure,
+}
+
+/// What the template of a file is made of, beside the templates of its modules.
+#[derive(Drop)]
+pub struct FileParts<'a> {
+    /// What the declarations of the file become.
+    pub table: Table<'a>,
+    /// The other parts.
+    pub parts: Parts,
 }
 
 // The parameters of a file.
@@ -137,26 +135,12 @@ fn mentions_of(
     )
 }
 
-// The fault of a template that is beyond a limit.
-fn beyond_fault(beyond: Beyond) -> EmitFault
-    ensures { spec.IsOfBeyond beyond result }
+// The metadata of a file.
+fn metadata_of(alloc: Global, source: &SourceFile) -> Result<FileMetadata, OutOfMemory>
+    requires { spec.IsShallow source.now }
+    ensures { spec.IfOk result (spec.IsMetadataOf (spec.text_of source.now)) }
 {
-    match beyond {
-        Beyond::Characters(count) => EmitFault::Limit(Which::Expression, count),
-        Beyond::Depth(depth) => EmitFault::Limit(Which::Nesting, depth),
-        Beyond::TooDeep => EmitFault::TooDeep,
-    }
-}
-
-// Nothing, where what takes so much is beyond no limit.
-fn limits(measure: Measure) -> Result<(), EmitFault>
-    ensures fits { spec.IsBeyondNone measure result }
-    ensures fault { spec.HasLimitFault measure result }
-{
-    match measure.beyond(0) {
-        None => Ok(()),
-        Some(beyond) => Err(beyond_fault(beyond)),
-    }
+    metadata_of_file(alloc, source.file.as_slice())
 }
 
 // What the template of the file takes, without those of its modules.
@@ -173,42 +157,27 @@ fn measure_of(
     measured_file(alloc, table, rules, mentioned, &[])
 }
 
-// Nothing, where the template of the file is beyond no limit.
-fn measured(
-    alloc: Global,
-    table: &Table,
-    rules: &[Option<Parameter>],
-    mentioned: &[BTreeSet<usize>],
-) -> Result<(), EmitFault>
-    requires table { spec.IsOfFile table.now }
-    requires rules { spec.AreRules table.now rules.now }
-    requires mentioned { spec.AreMentioned table.now mentioned.now }
-    ensures fits { spec.OnOk result (spec.CanBeMade table.now rules.now) }
-    ensures fault { spec.IfErr result (spec.IsMeasuredFault table.now rules.now) }
-{
-    files_within_the_limits_fit();
-    match measure_of(alloc, table, rules, mentioned) {
-        Ok(measure) => limits(measure),
-        Err(_) => Err(EmitFault::OutOfMemory),
-    }
-}
-
-// These parts, where the template of the file is beyond no limit.
+// These parts, with what the template takes of the limits.
 fn measured_parts(
     alloc: Global,
     table: &Table,
     rules: Vec<Option<Parameter>>,
+    metadata: FileMetadata,
     mentioned: Vec<BTreeSet<usize>>,
 ) -> Result<Parts, EmitFault>
     requires table { spec.IsOfFile table.now }
-    requires rules { spec.AreRules table.now rules.items }
     requires mentioned { spec.AreMentioned table.now mentioned.items }
-    ensures parts { spec.IfOk result (spec.AreParts table.now rules.items mentioned.items) }
-    ensures fault { spec.IfErr result (spec.IsMeasuredFault table.now rules.items) }
+    ensures parts { spec.IfOk result (spec.AreParts table.now rules.items metadata mentioned.items) }
+    ensures fault { spec.IfErr result spec.IsMemoryFault }
 {
-    match measured(alloc, table, rules.as_slice(), mentioned.as_slice()) {
-        Ok(()) => Ok(Parts { rules, mentioned }),
-        Err(fault) => refuse(fault, (rules, mentioned)),
+    match measure_of(alloc, table, rules.as_slice(), mentioned.as_slice()) {
+        Ok(measure) => Ok(Parts {
+            rules,
+            metadata,
+            mentioned,
+            measure,
+        }),
+        Err(_) => refuse(EmitFault::OutOfMemory, (rules, metadata, mentioned)),
     }
 }
 
@@ -219,20 +188,41 @@ fn mentioned_parts(
     order: &[u32],
     table: &Table,
     rules: Vec<Option<Parameter>>,
+    metadata: FileMetadata,
 ) -> Result<Parts, EmitFault>
     requires order { spec.HasOrder file.now order.now }
     requires table { spec.IsTabledBySome file.now table.now }
-    requires rules { spec.AreRules table.now rules.items }
-    ensures parts { spec.IfOk result (spec.AreMentionedParts table.now rules.items) }
-    ensures fault { spec.IfErr result (spec.IsMeasuredFault table.now rules.items) }
+    ensures parts { spec.IfOk result (spec.AreMentionedParts table.now rules.items metadata) }
+    ensures fault { spec.IfErr result spec.IsMemoryFault }
 {
     match mentions_of(alloc, file, order) {
-        Ok(mentioned) => measured_parts(alloc, table, rules, mentioned),
+        Ok(mentioned) => measured_parts(alloc, table, rules, metadata, mentioned),
+        Err(_) => refuse(EmitFault::OutOfMemory, (rules, metadata)),
+    }
+}
+
+// The same with the metadata of the file.
+fn ruled_parts(
+    alloc: Global,
+    source: &SourceFile,
+    file: &ResolvedFile,
+    order: &[u32],
+    table: &Table,
+    rules: Vec<Option<Parameter>>,
+) -> Result<Parts, EmitFault>
+    requires text { spec.IsShallow source.now }
+    requires order { spec.HasOrder file.now order.now }
+    requires table { spec.IsTabledBySome file.now table.now }
+    ensures parts { spec.IfOk result (spec.AreRuledParts (spec.text_of source.now) table.now rules.items) }
+    ensures fault { spec.IfErr result spec.IsMemoryFault }
+{
+    match metadata_of(alloc, source) {
+        Ok(metadata) => mentioned_parts(alloc, file, order, table, rules, metadata),
         Err(_) => refuse(EmitFault::OutOfMemory, rules),
     }
 }
 
-/// What the template of the file of a table is made of, where it is beyond no limit.
+// What the template of the file of a table is made of.
 fn parts_of(
     alloc: Global,
     source: &SourceFile,
@@ -244,11 +234,11 @@ fn parts_of(
     requires order { spec.HasOrder file.now order.now }
     requires table { spec.IsTabledIn (spec.text_of source.now) file.now table.now }
     ensures parts { spec.IfOk result (spec.ArePartsOf (spec.text_of source.now) table.now) }
-    ensures fault { spec.IfErr result (spec.IsPartsFault (spec.text_of source.now) table.now) }
+    ensures fault { spec.IfErr result spec.IsMemoryFault }
 {
     parameters_are_there();
     match rules_of(alloc, source, file) {
-        Ok(rules) => mentioned_parts(alloc, file, order, table, rules),
+        Ok(rules) => ruled_parts(alloc, source, file, order, table, rules),
         Err(_) => Err(EmitFault::OutOfMemory),
     }
 }
@@ -271,8 +261,8 @@ fn counted_parts(
     requires text { spec.IsShallow source.now }
     requires order { spec.HasOrder file.now order.now }
     requires table { spec.IsTabledIn (spec.text_of source.now) file.now table.now }
-    ensures parts { spec.IfOk result (spec.ArePartsOf (spec.text_of source.now) table.now) }
-    ensures fault { spec.IfErr result (spec.IsPartsFault (spec.text_of source.now) table.now) }
+    ensures parts { spec.IfOk result (spec.AreCountedParts (spec.text_of source.now) table.now) }
+    ensures fault { spec.IfErr result (spec.IsCountOrMemory table.now) }
 {
     match first_beyond(table) {
         Some(beyond) => Err(count_fault(beyond)),
@@ -280,99 +270,114 @@ fn counted_parts(
     }
 }
 
-// The template of a file with that table.
-fn tabled(
+// The same with the table.
+fn tabled<'a>(
     alloc: Global,
     source: &SourceFile,
     file: &ResolvedFile,
     order: &[u32],
-    table: &Table,
-    templates: Vec<Option<Template>>,
-) -> Result<Template, EmitFault>
+    table: Table<'a>,
+) -> Result<FileParts<'a>, EmitFault>
     requires text { spec.IsShallow source.now }
     requires order { spec.HasOrder file.now order.now }
-    requires table { spec.IsTabledIn (spec.text_of source.now) file.now table.now }
-    requires given { spec.AreGivenTo file.now (spec.templates_of templates.items) }
-    ensures made { spec.IsMadeForEach source.now file.now table.now (spec.templates_of templates.items) result }
-    ensures keeps { spec.IfOk result (spec.KeepsRules (spec.templates_of templates.items)) }
-    ensures fault { spec.IfErr result (spec.IsPartsFault (spec.text_of source.now) table.now) }
+    requires table { spec.IsTabledIn (spec.text_of source.now) file.now table }
+    ensures parts { spec.IfOk result (spec.AreWithTable (spec.text_of source.now) table.entry) }
+    ensures fault { spec.IfErr result (spec.IsCountOrMemory table.entry) }
 {
-    match counted_parts(alloc, source, file, order, table) {
-        Ok(parts) => made(
-            alloc,
-            table,
-            parts.rules.as_slice(),
-            parts.mentioned.as_slice(),
-            templates,
-        ),
-        Err(fault) => refuse(fault, templates),
+    match counted_parts(alloc, source, file, order, &table) {
+        Ok(parts) => Ok(FileParts { table, parts }),
+        Err(fault) => refuse(fault, table),
     }
 }
 
-// The template of a file whose declarations are in that order.
-fn ordered(
+/// What the template of a file of a checked program is made of, beside the templates of its modules. `source` is its
+/// text, `file` what its names are, `files` are all files of the program, and `order` is what `file_loops` returned.
+///
+/// # Errors
+///
+/// - `Limit`: there are more than 256 parameters, 512 variables, 64 outputs or 800 resources, with their number.
+/// - `OutOfMemory`.
+pub fn file_parts<'a>(
     alloc: Global,
     source: &SourceFile,
-    file: &ResolvedFile,
-    files: &[ResolvedFile],
-    order: &FileOrder,
-    templates: Vec<Option<Template>>,
-) -> Result<Template, EmitFault>
+    file: &'a ResolvedFile,
+    files: &'a [ResolvedFile],
+    order: &'a FileOrder,
+) -> Result<FileParts<'a>, EmitFault>
     requires text { spec.IsShallow source.now }
     requires checked { spec.IsOfProgram files.now file.now }
     requires order { spec.IsOrderFor file.now order.now }
     requires loops { spec.HasLoops (spec.text_of source.now) file.now order.now }
-    requires given { spec.AreGivenTo file.now (spec.templates_of templates.items) }
-    ensures made { spec.IfOk result (spec.IsMadeFor (spec.text_of source.now) file.now files.now
-        (spec.templates_of templates.items)) }
-    ensures keeps { spec.IfOk result (spec.KeepsRules (spec.templates_of templates.items)) }
-    ensures fault { spec.IfErr result (spec.IsFileFault (spec.text_of source.now) file.now) }
+    ensures parts { spec.IfOk result (spec.ArePartsFor (spec.text_of source.now) file.now files.now) }
+    ensures fault { spec.IfErr result (spec.IsFileFault (spec.text_of source.now) file.now files.now) }
 {
     checked_files_are_placed();
     checked_files_have_kinds();
     checked_names_differ();
     match file_table(alloc, file, files, order) {
-        Ok(table) => tabled(
-            alloc,
-            source,
-            file,
-            order.order.as_slice(),
-            &table,
-            templates,
-        ),
-        Err(_) => refuse(EmitFault::OutOfMemory, templates),
+        Ok(table) => tabled(alloc, source, file, order.order.as_slice(), table),
+        Err(_) => Err(EmitFault::OutOfMemory),
     }
 }
 
-/// The template of a file of a checked program, in the first form. `source` is its text, `file` what its names are, and
-/// `files` are all files of the program. `templates` has by the number of each symbol the template of the file of its
+// The template of the file of a table, which is beyond no limit.
+fn made(
+    alloc: Global,
+    table: &Table,
+    rules: &[Option<Parameter>],
+    metadata: &FileMetadata,
+    mentioned: &[BTreeSet<usize>],
+    templates: Vec<Option<Template>>,
+) -> Result<Template, OutOfMemory>
+    requires ready { spec.IsReady table.now }
+    requires fits { spec.CanBeMade table.now rules.now }
+    requires mentioned { spec.AreMentioned table.now mentioned.now }
+    requires given { spec.AreGivenIn table.now (spec.templates_of templates.items) }
+    ensures text { spec.IfOk result (spec.IsOfEachText table.now rules.now (spec.templates_of templates.items)) }
+    ensures keeps { spec.IfOk result (spec.IsKeptBy table.now (spec.templates_of templates.items)) }
+    ensures metadata { spec.IfOk result (spec.IsNotedForEach table.now rules.now metadata.now) }
+{
+    templates_keep_the_rules();
+    templates_have_the_parts_of_the_file();
+    templates_are_of_their_texts();
+    symbols_have_the_same_numbers();
+    nested_templates_are_given();
+    templates_have_the_metadata_of_texts();
+    template(
+        alloc,
+        table,
+        rules,
+        metadata.symbols.as_slice(),
+        metadata.outputs.as_slice(),
+        mentioned,
+        templates,
+    )
+}
+
+/// The template of a file of a checked program, in the first form. `parts` are what `file_parts` returned, which take no
+/// more than the limits of templates. `templates` has by the number of each symbol the template of the file of its
 /// module, where it is that of a module.
 ///
 /// # Errors
 ///
-/// Each of these only where it holds (`specs/Faults`); where several do, any of them is returned.
-/// - `Limit`: a batch has more than 800 instances, there are more than 256 parameters, 512 variables, 64 outputs or 800
-///   resources, the text of an expression has more than 24,576 characters, or arrays and objects nest above 120; with
-///   the number that is beyond the limit.
-/// - `TooDeep`: an expression nests above 64.
-/// - `OutOfMemory`.
+/// `OutOfMemory`.
 pub fn file_template(
     alloc: Global,
-    source: &SourceFile,
-    file: &ResolvedFile,
-    files: &[ResolvedFile],
+    parts: &FileParts,
     templates: Vec<Option<Template>>,
-) -> Result<Template, EmitFault>
-    requires text { spec.IsShallow source.now }
-    requires checked { spec.IsOfProgram files.now file.now }
-    requires given { spec.AreGivenTo file.now (spec.templates_of templates.items) }
-    ensures made { spec.IfOk result (spec.IsMadeFor (spec.text_of source.now) file.now files.now
-        (spec.templates_of templates.items)) }
-    ensures keeps { spec.IfOk result (spec.KeepsRules (spec.templates_of templates.items)) }
-    ensures fault { spec.IfErr result (spec.IsFileFault (spec.text_of source.now) file.now) }
+) -> Result<Template, OutOfMemory>
+    requires parts { spec.CanBeFilled parts.now }
+    requires given { spec.AreGivenIn parts.now.table (spec.templates_of templates.items) }
+    ensures made { spec.IsMadeForEach parts.now (spec.templates_of templates.items) result }
+    ensures keeps { spec.KeepsForEach parts.now (spec.templates_of templates.items) result }
+    ensures metadata { spec.HasMetadataForEach parts.now result }
 {
-    match loops(alloc, source, file) {
-        Ok(order) => ordered(alloc, source, file, files, &order, templates),
-        Err(fault) => refuse(fault, templates),
-    }
+    made(
+        alloc,
+        &parts.table,
+        parts.parts.rules.as_slice(),
+        &parts.parts.metadata,
+        parts.parts.mentioned.as_slice(),
+        templates,
+    )
 }

@@ -1,153 +1,121 @@
-use Rattle.std.proofs.Common.{◌+◌, suc, List, drop, inl, inr, refl, sym, ◌∙◌, subst, arith}
-use Rattle.std.specs.Prelude.{None}
-use Rattle.bicep_symbols.specs.declared.entry.Entry.{Entry}
-use Rattle.bicep_emit.specs.Clauses.{IsBelow}
-use Rattle.bicep_emit.specs.Faults.{AreDeep, IsDeepAmong, IsDeepBy, IsFaultAmong, IsFaultBy, IsFaultInside}
-use Rattle.bicep_emit.specs.Modules.{AreGiven, IsGiven, HasModule}
-use Rattle.bicep_emit.specs.Programs.{sources_in}
-use Rattle.bicep_emit.proofs.ModuleLemmas.{Goes, begins, goes_on, ends, with_module}
-use Rattle.bicep_emit.proofs.RefusedLemmas.{refused, no_value, of_memory, given_as, other_deep, each_deep, no_deep}
-use Rattle.bicep_emit.proofs.FileLemmas.{deep_from}
+use Rattle.std.proofs.Common.{◌+◌, List, drop, refl, sym, ◌∙◌, ap, subst, arith}
+use Rattle.std.specs.Prelude.{None, IfOk}
 use Rattle.foundation.proofs.Lists.{next_item}
+use Rattle.bicep_symbols.specs.declared.entry.Entry.{Entry}
+use Rattle.resolved_program.specs.declared.resolved.ResolvedFile.{ResolvedFile}
+use Rattle.program_parts.specs.Measures.{by_file, whole}
+use Rattle.bicep_emit.specs.Clauses.{IsBelow}
+use Rattle.bicep_emit.specs.Modules.{AreModules, CanBe, CanBeModules, HasModule, IsGiven, IsGivenIn}
+use Rattle.bicep_emit.specs.Programs.{sources_in}
+use Rattle.bicep_emit.proofs.FileLemmas.{can_fill, given_in, whole_at}
+use Rattle.bicep_emit.proofs.FitLemmas.{own_fits, modules_can, module_can, file_can, none_can}
+use Rattle.bicep_emit.proofs.ModuleLemmas.{Goes, begins, goes_on, ends, with_module}
+use Rattle.bicep_emit.proofs.RefusedLemmas.{no_memory}
 use Rattle.bicep_emit.proofs.programs.+files.Goals as goal
 
-pub whole_file-with_source-requires : goal.whole_file-with_source-requires
-whole_file-with_source-requires t c =
-    (omega (arith, c.decreases), record { read = c.requires; text = c.in-Some.ensures })
-
-pub with_source-whole_of-requires : goal.with_source-whole_of-requires
-with_source-whole_of-requires t c = (
+pub whole_file-whole_of-requires : goal.whole_file-whole_of-requires
+whole_file-whole_of-requires t c = (
   omega (arith, c.decreases),
-  record {
-    read = c.requires.read;
-    pair = (c.args.number, record { text = c.requires.text; file = c.in-Some.ensures });
-  },
+  record { number = c.args.number; is = c.in-Some.ensures; can = c.requires },
 )
 
-pub with_source-returns-in-Some-clause-whole : goal.with_source-returns-in-Some-clause-whole
-with_source-returns-in-Some-clause-whole t c =
-    c.whole_of.ensures.whole c.args.number (record { text = c.requires.text; file = c.in-Some.ensures })
-
-pub with_source-returns-in-Some-clause-fault : goal.with_source-returns-in-Some-clause-fault
-with_source-returns-in-Some-clause-fault t c =
-    c.whole_of.ensures.fault c.args.number (record { text = c.requires.text; file = c.in-Some.ensures })
-
-pub whole_of-returns-in-Ok-clause-fault : goal.whole_of-returns-in-Ok-clause-fault
-whole_of-returns-in-Ok-clause-fault t c = λ k p.
-    each_deep c.args.sources.now c.args.files.now
-    (no_deep (AreDeep (sources_in c.args.sources.now c.args.files.now) (suc c.args.depth) k)) c.with_modules.result
-    c.with_modules.ensures.fault
-
-pub whole_of-returns-in-Err-clause-fault : goal.whole_of-returns-in-Err-clause-fault
-whole_of-returns-in-Err-clause-fault t c = λ k p.
-    let ss = c.args.sources.now in
-    let rs = c.args.files.now in
-    let r = c.args.file.now in
-    let depth = c.args.depth in
-    other_deep (IsDeepAmong ss rs r.entries.items depth) (AreDeep (sources_in ss rs) (suc depth) k) ss rs
-    (deep_from ss rs c.requires.read k c.args.source.now r p depth) c.in-Err.fault
-    (subst (λ (es : List Entry). IsFaultAmong ss rs es depth c.in-Err.fault) c.as_slice.ensures.value
-    c.in-Err.ensures.fault)
+pub whole_file-returns-in-Some : goal.whole_file-returns-in-Some
+whole_file-returns-in-Some t c = c.whole_of.ensures c.args.number c.in-Some.ensures
 
 pub whole_of-modules-requires : goal.whole_of-modules-requires
-whole_of-modules-requires t c = (omega (arith, c.decreases), c.requires.read)
+whole_of-modules-requires t c = (
+  omega (arith, c.decreases),
+  subst (λ (es : List Entry). CanBeModules c.args.parts.now es c.args.depth)
+      (sym (c.as_slice.ensures.value ∙ ap (λ (r : ResolvedFile). r.entries.items) c.file.ensures))
+      (modules_can c.args.parts.now c.args.depth c.requires.number c.args.part.now c.requires.is c.requires.can),
+)
 
-pub whole_of-with_modules-requires-clause-modules : goal.whole_of-with_modules-requires-clause-modules
-whole_of-with_modules-requires-clause-modules t c =
-    subst (λ (es : List Entry). AreGiven (sources_in c.args.sources.now c.args.files.now) es c.in-Ok.templates.items)
-    c.as_slice.ensures.value c.in-Ok.ensures.modules
+pub whole_of-file_template-requires-clause-parts : goal.whole_of-file_template-requires-clause-parts
+whole_of-file_template-requires-clause-parts t c =
+    can_fill c.parts_within_the_limits_can_be_filled.ensures c.args.parts.now c.requires.number c.args.part.now
+    c.requires.is c.requires.can.known
+    (own_fits c.args.parts.now c.args.depth c.requires.number c.args.part.now c.requires.is c.requires.can)
+
+pub whole_of-file_template-requires-clause-given : goal.whole_of-file_template-requires-clause-given
+whole_of-file_template-requires-clause-given t c =
+    let ps = c.args.parts.now in
+    let p = c.args.part.now in
+    given_in ps p
+    (can_fill c.parts_within_the_limits_can_be_filled.ensures ps c.requires.number p c.requires.is
+    c.requires.can.known (own_fits ps c.args.depth c.requires.number p c.requires.is c.requires.can))
+    c.in-Ok.templates.items c.requires.can.known
+    (subst (λ (es : List Entry). AreModules ps es c.in-Ok.templates.items)
+    (c.as_slice.ensures.value ∙ ap (λ (r : ResolvedFile). r.entries.items) c.file.ensures) c.in-Ok.ensures)
+
+pub whole_of-returns-in-Ok : goal.whole_of-returns-in-Ok
+whole_of-returns-in-Ok t c = λ k at.
+    let ps = c.args.parts.now in
+    whole_at c.checked_files_have_kinds.ensures c.outputs_are_of_the_program.ensures ps k c.args.part.now at
+    c.in-Ok.templates.items
+    (subst (λ (es : List Entry). AreModules ps es c.in-Ok.templates.items)
+    (c.as_slice.ensures.value ∙ ap (λ (r : ResolvedFile). r.entries.items) c.file.ensures) c.in-Ok.ensures)
+    c.file_template.result c.file_template.ensures.made c.file_template.ensures.keeps
 
 pub modules-loop-entry-init : goal.modules-loop-entry-init
-modules-loop-entry-init t c =
-    subst (Goes (sources_in c.args.sources.now c.args.files.now) c.args.entries.now 0) (sym c.new-all.ensures.items)
-    (begins (sources_in c.args.sources.now c.args.files.now) c.args.entries.now)
+modules-loop-entry-init t c = λ ss rs read are.
+    subst (Goes (sources_in ss rs) c.args.entries.now 0) (sym c.new-all.ensures.items)
+    (begins (sources_in ss rs) c.args.entries.now)
 
 pub modules-with_module-requires : goal.modules-with_module-requires
-modules-with_module-requires t c = (omega (arith, c.decreases), c.requires)
-
-pub modules-loop-entry-preserved : goal.modules-loop-entry-preserved
-modules-loop-entry-preserved t c =
-    goes_on (sources_in c.args.sources.now c.args.files.now) c.args.entries.now c.loop-entry.entry-index
-    c.loop-entry.all.items c.in-Ok.more.items c.entry-item.result c.in-Ok.ensures.added.0 c.loop-entry-test.true
-    c.entry-item.is c.in-Ok.ensures.added.1.0 c.in-Ok.ensures.added.1.1 c.loop-entry.invariant
-
-pub modules-returns-in-Err-clause-fault : goal.modules-returns-in-Err-clause-fault
-modules-returns-in-Err-clause-fault t c =
-    let ss = c.args.sources.now in
-    let rs = c.args.files.now in
+modules-with_module-requires t c =
     let es = c.args.entries.now in
     let i = c.loop-entry.entry-index in
-    let e = c.entry-item.result in
-    let depth = c.args.depth in
-    other_deep (IsDeepBy ss rs e.kind depth) (IsDeepAmong ss rs es depth) ss rs
-    (λ h. record {
-      number = i;
-      entry = e;
-      rest = drop (i + 1) es;
-      is = next_item es i e c.loop-entry-test.true c.entry-item.is;
-      deep = h;
-    }) c.in-Err.fault c.in-Err.ensures.fault
+    let e = c.entry-item.result in (
+      omega (arith, c.decreases),
+      module_can c.args.parts.now c.args.depth es i e (drop (i + 1) es)
+          (next_item es i e c.loop-entry-test.true c.entry-item.is) c.requires,
+    )
 
-pub modules-returns-clause-modules : goal.modules-returns-clause-modules
-modules-returns-clause-modules t c =
-    ends (sources_in c.args.sources.now c.args.files.now) c.args.entries.now c.loop-entry.entry-index
-    c.loop-entry.all.items c.loop-entry-test.false c.loop-entry.invariant
+pub modules-loop-entry-preserved : goal.modules-loop-entry-preserved
+modules-loop-entry-preserved t c = λ ss rs read are.
+    goes_on (sources_in ss rs) c.args.entries.now c.loop-entry.entry-index c.loop-entry.all.items c.in-Ok.more.items
+    c.entry-item.result c.in-Ok.ensures.0 c.loop-entry-test.true c.entry-item.is
+    (c.in-Ok.ensures.1.0 ss rs read are) c.in-Ok.ensures.1.1 (c.loop-entry.invariant ss rs read are)
+
+pub modules-returns : goal.modules-returns
+modules-returns t c = λ ss rs read are.
+    ends (sources_in ss rs) c.args.entries.now c.loop-entry.entry-index c.loop-entry.all.items
+    c.loop-entry-test.false (c.loop-entry.invariant ss rs read are)
 
 pub with_module-module-requires : goal.with_module-module-requires
 with_module-module-requires t c = (omega (arith, c.decreases), c.requires)
 
-pub with_module-returns-in-Ok-clause-added : goal.with_module-returns-in-Ok-clause-added
-with_module-returns-in-Ok-clause-added t c =
-    with_module c.args.sources.now c.args.files.now c.args.kind c.args.templates.items c.in-Ok.template
-    c.in-Ok.ensures.module c.with_last.result c.with_last.ensures.added
+pub with_module-returns-in-Ok : goal.with_module-returns-in-Ok
+with_module-returns-in-Ok t c =
+    with_module c.args.parts.now c.args.kind c.args.templates.items c.in-Ok.template c.in-Ok.ensures
+    c.with_last.result c.with_last.ensures
 
-pub with_module-returns-in-Ok-clause-fault : goal.with_module-returns-in-Ok-clause-fault
-with_module-returns-in-Ok-clause-fault t c =
-    of_memory (IsFaultBy c.args.sources.now c.args.files.now c.args.kind c.args.depth) (λ x e. inl e)
-    c.with_last.result c.with_last.ensures.fault
-
-pub with_module-returns-in-Err-clause-added : goal.with_module-returns-in-Err-clause-added
-with_module-returns-in-Err-clause-added t c =
-    no_value (HasModule c.args.sources.now c.args.files.now c.args.kind c.args.templates.items) c.refuse.result
-    c.in-Err.fault c.refuse.ensures
-
-pub with_module-returns-in-Err-clause-fault : goal.with_module-returns-in-Err-clause-fault
-with_module-returns-in-Err-clause-fault t c =
-    refused (IsFaultBy c.args.sources.now c.args.files.now c.args.kind c.args.depth) c.refuse.result c.in-Err.fault
-    c.refuse.ensures c.in-Err.ensures.fault
+pub with_module-returns-in-Err : goal.with_module-returns-in-Err
+with_module-returns-in-Err t c =
+    no_memory (HasModule c.args.parts.now c.args.kind c.args.templates.items) c.run_out.result c.run_out.ensures
 
 pub module-deeper-requires : goal.module-deeper-requires
-module-deeper-requires t c = (omega (arith, c.decreases), c.requires)
+module-deeper-requires t c = (
+  omega (arith, c.decreases),
+  subst (λ o. CanBe c.args.parts.now (by_file (whole c.args.parts.now c.args.depth) o) c.args.depth)
+      (sym c.module_number.ensures ∙ c.in-Some.is) c.requires,
+)
 
-pub module-returns-in-Some-clause-module : goal.module-returns-in-Some-clause-module
-module-returns-in-Some-clause-module t c =
-    given_as (sources_in c.args.sources.now c.args.files.now) c.in-Some.number c.args.kind
-    (sym c.in-Some.is ∙ c.module_of.ensures) c.deeper.result c.deeper.ensures.module
+pub module-returns-in-Some : goal.module-returns-in-Some
+module-returns-in-Some t c =
+    subst (λ o. IfOk c.deeper.result (IsGivenIn c.args.parts.now o)) (sym c.in-Some.is ∙ c.module_number.ensures)
+    c.deeper.ensures
 
-pub module-returns-in-Some-clause-fault : goal.module-returns-in-Some-clause-fault
-module-returns-in-Some-clause-fault t c =
-    each_deep c.args.sources.now c.args.files.now
-    (λ h. (c.in-Some.number, (sym c.module_of.ensures ∙ c.in-Some.is, h))) c.deeper.result c.deeper.ensures.fault
-
-pub module-returns-in-None-clause-module : goal.module-returns-in-None-clause-module
-module-returns-in-None-clause-module t c =
-    subst (λ j. IsGiven (sources_in c.args.sources.now c.args.files.now) j None)
-    (sym c.in-None.is ∙ c.module_of.ensures) refl
+pub module-returns-in-None : goal.module-returns-in-None
+module-returns-in-None t c = λ ss rs read are.
+    subst (λ o. IsGiven (sources_in ss rs) o None) (sym c.in-None.is ∙ c.module_number.ensures) refl
 
 pub deeper-whole_file-requires : goal.deeper-whole_file-requires
 deeper-whole_file-requires t c =
     let e = subst (IsBelow c.args.depth) c.in-Some.is c.below.ensures in
-    (omega (arith, c.decreases, e), c.requires)
+    (omega (arith, c.decreases, e), file_can c.args.parts.now c.args.number c.args.depth c.in-Some.less e c.requires)
 
-pub deeper-returns-in-Err-clause-fault : goal.deeper-returns-in-Err-clause-fault
-deeper-returns-in-Err-clause-fault t c =
-    let e = subst (IsBelow c.args.depth) c.in-Some.is c.below.ensures in
-    subst
-    (λ n. IsFaultInside c.args.sources.now c.args.files.now c.args.number n c.in-Err.fault) (sym e)
-    c.in-Err.ensures.fault
-
-pub deeper-returns-in-None-clause-fault : goal.deeper-returns-in-None-clause-fault
-deeper-returns-in-None-clause-fault t c =
-    let e = subst (IsBelow c.args.depth) c.in-None.is c.below.ensures in
-    inr
-    (inr (refl, subst (λ n. AreDeep (sources_in c.args.sources.now c.args.files.now) n c.args.number) (sym e) tt))
+pub deeper-unreachable-requires : goal.deeper-unreachable-requires
+deeper-unreachable-requires t c =
+    none_can c.args.parts.now c.args.number c.args.depth (subst (IsBelow c.args.depth) c.in-None.is c.below.ensures)
+    c.requires

@@ -1,7 +1,6 @@
 use Rattle.std.proofs.Common.{◌<◌, sym, subst, ◌∙◌}
 use Rattle.bicep_emit.specs.Clauses.{IsAbove}
-use Rattle.bicep_emit.specs.Faults.{IsNestingFault}
-use Rattle.bicep_emit.specs.Programs.{IsWithin}
+use Rattle.bicep_emit.specs.Faults.{IsNestingFault, IsWithin}
 use Rattle.bicep_emit.proofs.RefusedLemmas.{refused, no_value, nesting_fault, within_nesting, deep}
 use Rattle.bicep_emit.proofs.programs.within.Goals as goal
 

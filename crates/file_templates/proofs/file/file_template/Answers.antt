@@ -1,26 +1,41 @@
-use Rattle.std.proofs.Common.{inl, map}
-use Rattle.resolved_program.specs.View.{file_view}
+use Rattle.std.proofs.Common.{ℕ, List, Option, sym, subst}
+use Rattle.std.specs.BTreeSet.{BTreeSet}
+use Rattle.template_parts.specs.declared.parameter.Parameter.{Parameter}
 use Rattle.emitted_templates.specs.Built.{templates_of}
-use Rattle.file_templates.specs.Faults.{IsFileFault}
-use Rattle.file_templates.specs.Made.{IsMadeFor, KeepsRules}
-use Rattle.file_templates.specs.Texts.{text_of}
-use Rattle.file_templates.proofs.FaultLemmas.{refused, no_value}
+use Rattle.emitted_templates.specs.Fits.{AreMentioned}
+use Rattle.file_templates.specs.Made.{CanBeMade}
+use Rattle.file_templates.proofs.MadeLemmas.{for_text, noted_for}
+use Rattle.file_templates.proofs.TextLemmas.{keeps_rules, of_parts}
 use Rattle.file_templates.proofs.file.file_template.Goals as goal
 
-pub loops-requires : goal.loops-requires
-loops-requires c = (map file_view c.args.files.now, c.requires.checked)
+pub made-requires-clause-ready : goal.made-requires-clause-ready
+made-requires-clause-ready c = c.requires.parts.ready
 
-pub returns-in-Err-clause-made : goal.returns-in-Err-clause-made
-returns-in-Err-clause-made c =
-    no_value
-    (IsMadeFor (text_of c.args.source.now) c.args.file.now c.args.files.now (templates_of c.args.templates.items))
-    c.refuse.result c.in-Err.fault c.refuse.ensures
+pub made-requires-clause-fits : goal.made-requires-clause-fits
+made-requires-clause-fits c =
+    subst (λ (l : List (Option Parameter)). CanBeMade c.args.parts.now.table l) (sym c.as_slice.ensures.value)
+    c.requires.parts.fits
 
-pub returns-in-Err-clause-keeps : goal.returns-in-Err-clause-keeps
-returns-in-Err-clause-keeps c =
-    no_value (KeepsRules (templates_of c.args.templates.items)) c.refuse.result c.in-Err.fault c.refuse.ensures
+pub made-requires-clause-mentioned : goal.made-requires-clause-mentioned
+made-requires-clause-mentioned c =
+    subst (λ (l : List (BTreeSet ℕ)). AreMentioned c.args.parts.now.table l) (sym c.as_slice-2.ensures.value)
+    c.requires.parts.mentioned
 
-pub returns-in-Err-clause-fault : goal.returns-in-Err-clause-fault
-returns-in-Err-clause-fault c =
-    refused (IsFileFault (text_of c.args.source.now) c.args.file.now) c.refuse.result c.in-Err.fault
-    c.refuse.ensures (inl c.in-Err.ensures.fault)
+pub returns-clause-made : goal.returns-clause-made
+returns-clause-made c = λ t r rs h.
+    let x = c.args.parts.now in
+    for_text t r x.table c.as_slice.result.now (templates_of c.args.templates.items)
+    (of_parts t r rs x h c.as_slice.result.now c.as_slice.ensures.value) rs h.table.table.files c.made.result
+    c.made.ensures.text
+
+pub returns-clause-keeps : goal.returns-clause-keeps
+returns-clause-keeps c = λ t r rs h.
+    keeps_rules t r rs c.args.parts.now.table (templates_of c.args.templates.items) h.table c.made.result
+    c.made.ensures.keeps
+
+pub returns-clause-metadata : goal.returns-clause-metadata
+returns-clause-metadata c = λ t r rs h.
+    let x = c.args.parts.now in
+    noted_for t r x.table c.as_slice.result.now x.parts.metadata
+    (of_parts t r rs x h c.as_slice.result.now c.as_slice.ensures.value) h.parts.0.metadata c.made.result
+    c.made.ensures.metadata

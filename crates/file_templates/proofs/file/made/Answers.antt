@@ -1,5 +1,5 @@
 use Rattle.emitted_templates.specs.Built.{templates_of}
-use Rattle.file_templates.proofs.MadeLemmas.{is_of_each}
+use Rattle.file_templates.proofs.MadeLemmas.{all_of_each, all_kept, all_noted}
 use Rattle.file_templates.proofs.file.made.Goals as goal
 
 pub template-requires-clause-listed : goal.template-requires-clause-listed
@@ -11,14 +11,20 @@ template-requires-clause-built c = record {
   all = c.requires.given.all;
 }
 
-pub returns-in-Ok-clause-text : goal.returns-in-Ok-clause-text
-returns-in-Ok-clause-text c =
-    is_of_each c.templates_have_the_parts_of_the_file.ensures c.templates_are_of_their_texts.ensures
+pub returns-clause-text : goal.returns-clause-text
+returns-clause-text c =
+    all_of_each c.templates_have_the_parts_of_the_file.ensures c.templates_are_of_their_texts.ensures
     c.symbols_have_the_same_numbers.ensures c.nested_templates_are_given.ensures c.args.table.now c.args.rules.now
-    (templates_of c.args.templates.items) c.requires.ready c.requires.fits.within c.in-Ok.template
-    c.in-Ok.ensures.template
+    (templates_of c.args.templates.items) c.requires.ready c.requires.fits.within c.template.result c.template.ensures.template
 
-pub returns-in-Ok-clause-keeps : goal.returns-in-Ok-clause-keeps
-returns-in-Ok-clause-keeps c = λ placed small kept.
-    c.templates_keep_the_rules.ensures c.args.table.now c.args.rules.now (templates_of c.args.templates.items)
-    c.in-Ok.template c.in-Ok.ensures.template c.requires.ready.sound placed small kept
+pub returns-clause-keeps : goal.returns-clause-keeps
+returns-clause-keeps c =
+    all_kept c.templates_keep_the_rules.ensures c.args.table.now c.args.rules.now
+    (templates_of c.args.templates.items) c.requires.ready c.template.result c.template.ensures.template
+
+pub returns-clause-metadata : goal.returns-clause-metadata
+returns-clause-metadata c =
+    all_noted c.templates_have_the_metadata_of_texts.ensures c.args.table.now c.args.rules.now
+    (templates_of c.args.templates.items) c.args.metadata.now c.as_slice.result.now c.as_slice-2.result.now
+    c.as_slice.ensures.value c.as_slice-2.ensures.value c.template.result c.template.ensures.template
+    c.template.ensures.metadata

@@ -1,5 +1,5 @@
 use Rattle.std.proofs.Common.{refl}
-use Rattle.file_templates.specs.Faults.{unmeasured}
+use Rattle.file_templates.specs.Parts.{unmeasured}
 use Rattle.file_templates.proofs.TextLemmas.{is_ready}
 use Rattle.file_templates.proofs.file.measure_of.Goals as goal
 

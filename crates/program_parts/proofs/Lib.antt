@@ -1,0 +1,4 @@
+mod FaultLemmas
+pub mod ItemLemmas
+mod MeasureLemmas
+mod PartLemmas

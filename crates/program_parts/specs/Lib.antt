@@ -1,0 +1,11 @@
+pub mod Clauses
+pub mod Faults
+pub mod Files
+pub mod Measures
+pub mod Parts
+pub use Rattle.file_templates.specs.Laws
+pub use Rattle.file_templates.specs.Made
+pub use Rattle.file_templates.specs.Texts
+pub use Rattle.file_templates.specs.declared.fault.EmitFault
+pub use Rattle.file_templates.specs.declared.file.FileParts
+pub use Rattle.file_templates.specs.FileOrder

@@ -116,13 +116,13 @@ within w limit n rest h = by_test (nat_lt limit n) refl h
     by_test false e h = (le_of_false limit n e, h)
 
 module _ (f : SourceFile) (none : first_beyond f ≡ None) where
-  after_outputs : Option (Which × ℕ)
+  abbrev after_outputs : Option (Which × ℕ)
   after_outputs = beyond which.Resources 800 (counts.resources f) None
 
-  after_variables : Option (Which × ℕ)
+  abbrev after_variables : Option (Which × ℕ)
   after_variables = beyond which.Outputs 64 (counts.outputs f) after_outputs
 
-  after_parameters : Option (Which × ℕ)
+  abbrev after_parameters : Option (Which × ℕ)
   after_parameters = beyond which.Variables 512 (counts.variables f) after_variables
 
   first : (counts.parameters f ≤ 256) × (after_parameters ≡ None)

@@ -7,3 +7,4 @@
 mod deploying;
 
 pub use deploying::deploy_bytes;
+pub use template_deployments::refused;

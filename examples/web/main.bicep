@@ -1,42 +1,52 @@
-// A web site with its plan, its network and its storage account. All members are literals.
-resource network 'Microsoft.Network/virtualNetworks@2023-04-01' = {
-  name: 'hub'
-  location: 'westeurope'
-  properties: {
-    addressSpace: { addressPrefixes: [ '10.0.0.0/16' ] }
-    subnets: [
-      { name: 'web', properties: { addressPrefix: '10.0.0.0/24' } }
-      { name: 'data', properties: { addressPrefix: '10.0.1.0/24' } }
+// Web sites on plans of their own, their common store and, in production, a backup.
+@allowed([ 'dev', 'prod' ])
+param stage string
+param apps array
+@secure()
+param password string
+
+var isProd = stage == 'prod'
+var tags = {
+  stage: stage
+  by: deployment().name
+}
+
+// The store of the site is declared in a module, and its state is read here.
+resource files 'Microsoft.Storage/storageAccounts@2023-01-01' existing = {
+  name: 'shopfiles'
+}
+
+module store 'modules/store.bicep' = {
+  name: 'store'
+  params: {
+    name: files.name
+    tags: tags
+  }
+}
+
+module sites 'modules/site.bicep' = [for (app, i) in apps: {
+  name: 'site-${app.name}'
+  params: {
+    name: app.name
+    isLarge: isProd && i == 0
+    settings: [
+      { name: 'STAGE', value: stage }
+      { name: 'FILES', value: store.outputs.files }
+      { name: 'PASSWORD', value: password }
     ]
   }
-}
+}]
 
-resource account 'Microsoft.Storage/storageAccounts@2023-01-01' = {
-  name: 'shopfiles'
-  location: 'westeurope'
-  kind: 'StorageV2'
-  sku: { name: 'Standard_LRS' }
+resource backup 'Demo.Lab/backups@2024-01-01' = if (isProd) {
+  name: 'nightly'
+  tags: tags
   properties: {
-    minimumTlsVersion: 'TLS1_2'
-    allowBlobPublicAccess: false
+    of: [for (app, i) in apps: sites[i].outputs.id]
   }
 }
 
-resource plan 'Microsoft.Web/serverfarms@2022-09-01' = {
-  name: 'plan'
-  location: 'westeurope'
-  sku: { name: 'B1', tier: 'Basic', capacity: 1 }
-}
-
-resource site 'Microsoft.Web/sites@2022-09-01' = {
-  name: 'shop'
-  location: 'westeurope'
-  properties: {
-    httpsOnly: true
-    siteConfig: {
-      appSettings: [
-        { name: 'STAGE', value: 'prod' }
-      ]
-    }
-  }
-}
+output backup string = isProd ? backup.properties.of[0] : 'none'
+output files string = files.properties.primaryEndpoints.blob
+output hosts array = [for (app, i) in apps: sites[i].outputs.host]
+output kind string = files.kind
+output plans array = [for (app, i) in apps: sites[i].outputs.size]

@@ -3,15 +3,18 @@
 //! Nothing is decided here. Where the words are not all text, `run` is called with none.
 #![tactic(auto)]
 
-ghost use Rattle.std.specs.Prelude.{◌≡◌, length, IfOk};
+ghost use Rattle.deploy_cli.specs.Clauses as spec;
 
 use arm_edges::{RealDisk, RealLink, RealOut, RealTree, Sink};
 use deploy_cli::run;
-use provider_trait::{Catalog, Seat};
+use provider_trait::Catalog;
 use std::alloc::{AllocError, Global};
 use std::env;
 use std::process::ExitCode;
 use std::rt::Env;
+use worker_crew::Seat;
+
+const SEATS: u32 = 4;
 
 // The parts that take memory.
 #[derive(Drop)]
@@ -25,12 +28,12 @@ struct Parts {
 
 // The words, four seats over the catalogue, and the names of the folder and of the journal's two files.
 fn made<R: Env + Alloc<A = Global>>(rt: &R) -> Result<Parts, AllocError>
-    ensures { IfOk result (λ parts. length parts.crew.items ≡ 4) }
+    ensures { spec.IfOk result (λ parts. spec.HasSeats 4 parts.crew) }
 {
     let alloc = rt.alloc();
     Ok(Parts {
         words: words(rt)?,
-        crew: crew(alloc)?,
+        crew: crew(alloc, SEATS)?,
         folder: String::from_str(alloc, ".")?,
         journal_a: String::from_str(alloc, "armdeploy.journal")?,
         journal_b: String::from_str(alloc, "armdeploy.journal.b")?,
@@ -45,16 +48,16 @@ fn words<R: Env + Alloc<A = Global>>(rt: &R) -> Result<Vec<String>, AllocError> 
     }
 }
 
-// A seat over the catalogue.
-fn seat(alloc: Global) -> Seat<Catalog> {
-    Seat::new(Catalog::new(alloc))
-}
-
-// Four seats over the catalogue.
-fn crew(alloc: Global) -> Result<Vec<Seat<Catalog>>, AllocError>
-    ensures { IfOk result (λ crew. length crew.items ≡ 4) }
+// So many seats over the catalogue.
+#[tactic(auto, using(deploy_cli::proofs::SeatLemmas::fresh))]
+fn crew(alloc: Global, count: u32) -> Result<Vec<Seat<Catalog>>, AllocError>
+    ensures { spec.IfOk result (spec.HasSeats count) }
 {
-    Ok(vec![in alloc; seat(alloc), seat(alloc), seat(alloc), seat(alloc)]?)
+    let mut seats = Vec::with_capacity(alloc, count as usize)?;
+    for number in 0..count {
+        seats.push(Seat::new(Catalog::new(alloc)))?;
+    }
+    Ok(seats)
 }
 
 fn main(rt: HostRuntime) -> ExitCode {

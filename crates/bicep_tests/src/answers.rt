@@ -1,12 +1,9 @@
 // What the crates answer, as a text.
 
 use crate::groupings::say_grouping;
-use crate::listing::{say_count, say_resources};
 use crate::rows::letting_go;
 use crate::shapes::{say_first_and_last, say_last, say_shapes};
-use crate::stating::{say_in_template, say_stated, say_stated_by_these, say_written};
 use bicep_lexer::{LexFault, Token, tokens};
-use bicep_literal::resources;
 use bicep_parser::{File, ParseFault, parse};
 use std::alloc::{AllocError, Global};
 
@@ -23,20 +20,6 @@ pub enum Question {
     Statements,
     /// How the operators of an expression bind.
     Grouping,
-    /// The template of one resource, of which type, version, name and body are given.
-    Written,
-    /// How a name is written in a template, and what is read of that template.
-    InTemplate,
-    /// The resources of a template.
-    Stated,
-    /// The resources of a template of these.
-    StatedByThese,
-    /// The resources that a source declares.
-    Declared,
-    /// The resource of a source, of which all is given that follows its name.
-    Body,
-    /// How many resources a source with so many declares.
-    Count,
 }
 
 // Adds the number of statements or how an operator binds, or why there is no file.
@@ -97,22 +80,6 @@ fn say_operators(out: &mut String, alloc: Global, expression: &str) -> Result<()
     say_source(out, alloc, Question::Grouping, source.as_str())
 }
 
-// Adds the resources of a source, or why it has none.
-fn say_declared(out: &mut String, alloc: Global, source: &str) -> Result<(), AllocError> {
-    match resources(alloc, source) {
-        Ok(found) => say_resources(out, alloc, found),
-        Err(fault) => write!(out, "{fault}"),
-    }
-}
-
-// Adds the resources of a source with one, whose members these are after its name.
-fn say_body(out: &mut String, alloc: Global, body: &str) -> Result<(), AllocError> {
-    let source = format!(in alloc;
-        "resource a 'Demo.Lab/things@2024-01-01' = {{ name: 'a'{body}}}"
-    )?;
-    say_declared(out, alloc, source.as_str())
-}
-
 /// Adds the answer to the question.
 pub fn say(
     out: &mut String,
@@ -122,13 +89,6 @@ pub fn say(
 ) -> Result<(), AllocError> {
     match question {
         Question::Grouping => say_operators(out, alloc, text),
-        Question::Written => say_written(out, alloc, text),
-        Question::InTemplate => say_in_template(out, alloc, text),
-        Question::Stated => say_stated(out, alloc, text),
-        Question::StatedByThese => say_stated_by_these(out, alloc, text),
-        Question::Declared => say_declared(out, alloc, text),
-        Question::Body => say_body(out, alloc, text),
-        Question::Count => say_count(out, alloc, text),
         _ => say_source(out, alloc, question, text),
     }
 }

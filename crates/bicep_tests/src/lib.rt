@@ -1,4 +1,4 @@
-//! What the crates of Bicep answer to sources and templates, compared with answers worked out by hand.
+//! What the crates of Bicep answer to sources, compared with answers worked out by hand.
 //!
 //! A table is one text of rows (`rows`): a source, and what is answered of it. Each question is put
 //! to a public function of the crates below (`answers`), and no crate below has tests of its own.
@@ -15,10 +15,6 @@ mod groupings;
 #[cfg(test)]
 mod lexing;
 #[cfg(test)]
-mod listing;
-#[cfg(test)]
-mod literals;
-#[cfg(test)]
 mod nesting;
 #[cfg(test)]
 mod parsing;
@@ -26,7 +22,3 @@ mod parsing;
 mod rows;
 #[cfg(test)]
 mod shapes;
-#[cfg(test)]
-mod stating;
-#[cfg(test)]
-mod templates;

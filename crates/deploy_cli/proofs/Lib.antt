@@ -1,6 +1,2 @@
-mod Parts
-mod PutLemmas
-mod Placing
-mod Printing
-mod Theorem
-mod Programs
+pub mod CliLemmas
+pub mod SeatLemmas

@@ -1,19 +1,10 @@
-//! The command line of `armdeploy`: from the words of a command to the line that is printed and the status.
+//! The command line: what the words of a command say is done, and printed.
 //!
-//! A caller may rely on the deployment theorem, the contract of `run`. Its parts are in `specs/Run.antt`, over the
-//! puts of `specs/Puts.antt`, the desired states of `specs/Desired.antt` and the lines of `specs/Report.antt`.
+//! A caller may rely on the contract of `run`, the deployment theorem. Its definitions are in the crate
+//! `deployment_theorem`; `specs/Clauses.antt` says what the functions of this crate require and ensure.
 #![tactic(auto)]
 
-mod command;
-mod deploy;
-mod job;
-mod outcome;
-mod prepare;
-mod program;
-mod puts;
-mod report;
+mod commands;
 mod running;
-mod status;
-mod words;
 
 pub use running::{Ran, run};

@@ -9,11 +9,7 @@ mod calls;
 #[cfg(test)]
 mod checks;
 #[cfg(test)]
-mod first_path;
-#[cfg(test)]
 mod graphs;
 pub mod plain_graph;
 #[cfg(test)]
 mod providers;
-#[cfg(test)]
-mod real_files;

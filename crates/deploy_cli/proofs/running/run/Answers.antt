@@ -1,26 +1,26 @@
-use Rattle.std.proofs.Common.{◌≡◌, List, ◌∷◌, map, string_bytes, slice_set, slice_index_or, ◌∙◌, ap, subst}
-use Rattle.provider_trait.specs.declared.seat.Seat.{Seat}
-use Rattle.deploy_cli.specs.Prepared.{folder_of}
-use Rattle.deploy_cli.specs.Run.{outside, moment, DeploymentTheorem}
-use Rattle.deploy_cli.proofs.Theorem.{theorem}
+use Rattle.deploy_cli.specs.Clauses as spec
+use Rattle.deploy_cli.proofs.CliLemmas.{ran_by}
 use Rattle.deploy_cli.proofs.running.run.Goals as goal
 
-pub returns-clause-theorem : goal.returns-clause-theorem
-returns-clause-theorem g c = λ seat others is.
-    let lent = c.index_mut-seat.result.now in
-    let first : lent ≡ seat = c.index_mut-seat.ensures.value
-    ∙ ap (λ (l : List (Seat g.row.P.Denot)). slice_index_or l 0 lent) is in (
-      c.command-status.new.provider,
-      ap (λ (l : List (Seat g.row.P.Denot)). slice_set l 0 (record lent { provider = c.command-status.new.provider }))
-          is ∙ ap (λ (s : Seat g.row.P.Denot). record s { provider = c.command-status.new.provider } ∷ others) first,
-      subst (λ (s : Seat g.row.P.Denot). DeploymentTheorem
-          (outside (folder_of g.T.Tree.tells_files (g.T.Tree.file c.args.tree.now)) g.P.Provider.may g.P.Provider.tells
-          g.O.Sink.tells_written)
-          (moment (g.T.Tree.faults c.args.tree.now) (g.P.Provider.faults s.provider)
-          (g.P.Provider.calls s.provider) (g.O.Sink.faults c.args.out.now) (g.O.Sink.written c.args.out.now))
-          (moment (g.T.Tree.faults c.command-status.new.tree) (g.P.Provider.faults c.command-status.new.provider)
-          (g.P.Provider.calls c.command-status.new.provider) (g.O.Sink.faults c.command-status.new.out)
-          (g.O.Sink.written c.command-status.new.out))
-          (map string_bytes c.args.words.now) c.command-status.result) first
-          (theorem _ _ _ _ _ c.command-status.ensures),
-    )
+pub returns : goal.returns
+returns g c =
+    let tree = g.T.Tree in
+    let out = g.O.Sink in
+    let k = c.command_of-command in
+    let done = c.carried_out-outcome in
+    let seats = spec.seats_in g.P.Provider.faults g.P.Provider.calls in
+    record {
+      theorem =
+          ran_by
+          (spec.outside (tree.file c.args.tree.now) tree.tells_files g.P.Provider.may g.P.Provider.tells
+          out.tells_written)
+          (spec.moment (tree.faults c.args.tree.now) (seats c.args.seats.now) (out.faults c.args.out.now)
+          (out.written c.args.out.now))
+          (spec.moment (tree.faults done.new.tree) (seats done.new.seats) (out.faults c.ended.new.out)
+          (out.written c.ended.new.out))
+          (spec.bytes_of c.args.words.now) k.result done.result c.ended.result k.ensures
+          (done.ensures.does out.tells_written (tree.faults c.args.tree.now) (tree.faults done.new.tree)
+          (out.faults c.args.out.now) (out.faults c.ended.new.out) (out.written c.args.out.now)
+          (out.written c.ended.new.out))
+          done.ensures.tree c.ended.ensures.says c.ended.ensures.handed;
+    }

@@ -1,0 +1,3 @@
+pub mod OrderlyLemmas
+pub mod SourceLemmas
+pub use Rattle.request_deployments.proofs.RunLemmas

@@ -1,0 +1,12 @@
+pub mod Sides
+pub mod Counts
+pub mod Commands
+pub mod Theorem
+pub mod Laws
+pub use Rattle.source_builds.specs.Builds
+pub use Rattle.source_builds.specs.Refusals
+pub use Rattle.source_builds.specs.declared.building.NotBuilt
+pub use Rattle.request_deployments.specs.Deployed
+pub use Rattle.request_deployments.specs.Deploying
+pub use Rattle.request_deployments.specs.Refused
+pub use Rattle.request_deployments.specs.Requested

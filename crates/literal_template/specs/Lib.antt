@@ -1,5 +1,0 @@
-pub mod Brackets
-pub mod Literals
-pub mod Resources
-pub mod Template
-pub mod Whole

@@ -1,5 +1,5 @@
 -- What a board's run has done, by the sides of the seats.
-use Rattle.std.proofs.Common.{◌≡◌, ◌<◌, ℕ, Bool, List, [], length, Option, Result, Ok, Err, refl, sym, ap, subst, ◌∙◌, get_or}
+use Rattle.std.proofs.Common.{◌≡◌, ◌<◌, ℕ, Bool, List, [], length, map, Option, Result, Ok, Err, refl, sym, ap, subst, ◌∙◌, get_or}
 use Rattle.std.specs.Prelude.{IfOk}
 use Rattle.std.specs.declared.alloc.AllocError.{AllocError}
 use Rattle.arm_edges.specs.Faults.{Rose}
@@ -27,8 +27,7 @@ use Rattle.deployment_runs.specs.Runs.{HasRun, by_seat}
 use Rattle.deployment_runs.specs.declared.fault.RunFault.{RunFault}
 use Rattle.deployment_runs.specs.declared.fault.RunFault.TheVariants.{Provider, OutOfMemory}
 use Rattle.deployment_runs.proofs.GivenLemmas.{one_of}
-use Rattle.run_reports.specs.Sides.{ProviderSide, MadeCalls, side, sides}
-use Rattle.run_reports.specs.Deployments.{DeploymentRun, Ran}
+use Rattle.run_reports.specs.Sides.{ProviderSide, sides}
 use Rattle.run_reports.specs.declared.outcome.Outcome.{Outcome}
 use Rattle.run_reports.specs.Reported.{SaysRun, HasFailed, IsReported, surroundings}
 use Rattle.run_reports.proofs.SideLemmas.{sides_ran, side_at, as_many}

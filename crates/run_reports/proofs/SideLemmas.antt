@@ -1,5 +1,5 @@
 -- What was run of seats was run of what their providers have counted and reported.
-use Rattle.std.proofs.Common.{◌≡◌, ◌<◌, ◌≤◌, ℕ, Bool, List, [], ◌∷◌, length, map, None, sym, ap, subst, ◌∙◌, arith, get_or}
+use Rattle.std.proofs.Common.{◌≡◌, ◌<◌, ◌≤◌, ℕ, Bool, List, length, sym, subst, ◌∙◌, get_or}
 use Rattle.std.proofs.lemmas.List.{get_or-map, length-map}
 use Rattle.dealer_trait.specs.declared.dealer_step.DealerStep.{DealerStep}
 use Rattle.driver_loop.specs.Actions.{dones_of}

@@ -1,7 +1,7 @@
 // A board is run, and it is reported how the deployment has ended.
 
 ghost use Rattle.std.specs.Prelude.{◌≡◌, ◌<◌, ◌≤◌, [], map, vec_len, vec_items};
-ghost use Rattle.board_history.specs.Past.{event_of};
+ghost use Rattle.deploy_core.specs.Past.{event_of};
 ghost use Rattle.worker_crew.specs.Driven.{HasNoJobs};
 ghost use Rattle.deploy_core.specs.Names.{name_of};
 ghost use Rattle.run_reports.specs.Sides.{sides};

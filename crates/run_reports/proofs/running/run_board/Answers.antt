@@ -23,7 +23,7 @@ returns-in-Ok-clause-reported g c =
     c.in-Ok.ensures.ending)
     (λ k i. never_by c.in-Ok.ending k _ i)
     (says_ended g.S.Standings.titled x (g.S.Standings.planned c.run_to_end.new.board.0) c.args.name.now c.in-Ok.ending
-    c.report.result c.outcome.result.report e.planned c.outcome.ensures.report c.report.ensures.says c.report.ensures.status)
+    c.report-report.result c.outcome.result.report e.planned c.outcome.ensures.report c.report-report.ensures.says c.report-report.ensures.status)
 
 pub returns-in-Err-Provider-clause-reported : goal.returns-in-Err-Provider-clause-reported
 returns-in-Err-Provider-clause-reported g c =

@@ -1,5 +1,6 @@
 -- What a board's run has done, by the sides of the seats.
-use Rattle.std.proofs.Common.{◌≡◌, ◌<◌, ℕ, Bool, List, [], length, map, Option, Result, Ok, Err, refl, sym, ap, subst, ◌∙◌, get_or}
+use Rattle.std.proofs.Common.{◌≡◌, ◌<◌, ℕ, Bool, List, [], length, map, Option, Result, Ok, Err, refl, sym, ap}
+use Rattle.std.proofs.Common.{subst, ◌∙◌, get_or}
 use Rattle.std.specs.Prelude.{IfOk}
 use Rattle.std.specs.declared.alloc.AllocError.{AllocError}
 use Rattle.arm_edges.specs.Faults.{Rose}
@@ -42,7 +43,8 @@ module _ {P : Type 0} (may : Kind) (tells : Bool) (calls : P → List Call) (fau
       let a = one_of old k f.0 in (
         subst (λ (n : ℕ). k < n) (sym (as_many may tells calls faults old)) f.0,
         λ s t.
-            subst (λ (q : Seat ProviderSide). Rose (get_or (sides faults calls old) k s).provider.faults q.provider.faults)
+            subst
+            (λ (q : Seat ProviderSide). Rose (get_or (sides faults calls old) k s).provider.faults q.provider.faults)
             (side_at may tells calls faults new k t a (subst (λ (n : ℕ). k < n) (sym same) f.0))
             (subst (λ (q : Seat ProviderSide). Rose q.provider.faults (faults (get_or new k a).provider))
             (side_at may tells calls faults old k s a f.0) (f.1 a a)),
@@ -75,7 +77,8 @@ pub only_ended : (f : Ending → Type 0) (e : Ending) → f e → (d : Ending)
     → ◌≡◌ {A = Result Ending RunFault} (Ok e) (Ok d) → f d
 only_ended f e h d i = let g : ◌≡◌ {A = Result Ending RunFault} (Ok e) (Ok d) = i in let j : e ≡ d = cc in subst f j h
 
-pub not_ended : (f : Ending → Type 0) (q : RunFault) (d : Ending) → ◌≡◌ {A = Result Ending RunFault} (Err q) (Ok d) → f d
+pub not_ended : (f : Ending → Type 0) (q : RunFault) (d : Ending) → ◌≡◌ {A = Result Ending RunFault} (Err q) (Ok d)
+    → f d
 not_ended f q d i = let g : ◌≡◌ {A = Result Ending RunFault} (Err q) (Ok d) = i in absurd (cc)
 
 pub never_by : (e : Ending) (k : ℕ) (A : Type 0) → ◌≡◌ {A = Result Ending RunFault} (Ok e) (by_seat k) → A

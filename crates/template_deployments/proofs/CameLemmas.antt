@@ -8,7 +8,6 @@ use Rattle.std.specs.declared.vec.Vec.{Vec}
 use Rattle.arm_ids.specs.Held.{HeldResource, IsInOrder, HaveKeys}
 use Rattle.arm_ids.specs.declared.id.Place.{Place}
 use Rattle.plan_boards.specs.Accepted.{IsAccepted}
-use Rattle.arm_value.specs.Json.{Json}
 use Rattle.arm_value.specs.View.{json}
 use Rattle.arm_value.specs.declared.value.Value.{Value}
 use Rattle.arm_template.specs.States.{States}
@@ -17,7 +16,7 @@ use Rattle.provider_trait.specs.declared.call.Call.{Call}
 use Rattle.seat_calls.specs.Called.{Kind}
 use Rattle.seat_calls.specs.declared.seat.Seat.{Seat}
 use Rattle.deploy_histories.specs.Planned.{Planned}
-use Rattle.deployment_requests.specs.Requests.{Request, IsPlanOf, IsPlanBy, deployment_in}
+use Rattle.deployment_requests.specs.Requests.{Request, IsPlanOf, IsPlanBy}
 use Rattle.plan_boards.specs.Planned.{planned_by}
 use Rattle.plan_outcomes.specs.PlanOutcomes.{HaveHistories, HaveOutcomes}
 use Rattle.plan_faults.specs.Faults.{IsFault}
@@ -35,7 +34,6 @@ use Rattle.plan_boards.specs.Plan.{Plan}
 use Rattle.plan_cells.specs.Meaning.{Deployment}
 use Rattle.plan_boards.specs.Plans.{deployment_of}
 use Rattle.plan_boards.specs.Titles.{title}
-use Rattle.template_deployments.specs.Came.{Came}
 use Rattle.template_deployments.proofs.RunLemmas.{came_more, came_out, came_run}
 use Rattle.template_tree.specs.Tree.{TemplateTree}
 use Rattle.template_parts.specs.declared.given.BoundParameter.{BoundParameter}

@@ -4,16 +4,11 @@ use Rattle.std.specs.Prelude.{IfOk}
 use Rattle.std.specs.declared.alloc.AllocError.{AllocError}
 use Rattle.command_reports.specs.declared.report.Report.{Report}
 use Rattle.deploy_histories.specs.Planned.{Planned}
-use Rattle.deploy_histories.specs.Events.{progress}
-use Rattle.deploy_histories.specs.Legal.{HasSucceeded}
-use Rattle.deploy_core.specs.Endings.{IsTrueEnding}
-use Rattle.deploy_core.specs.declared.ending.Ending.{Ending}
 use Rattle.deploy_core.specs.declared.ending.Ending.TheVariants.{Succeeded}
-use Rattle.task_standings.specs.declared.standing.RootOutput.{RootOutput}
-use Rattle.run_reports.specs.Deployments.{DeploymentRun, Surroundings, Ran, Success, Deployed, LeadsToStates}
-use Rattle.run_reports.specs.Reported.{SaysRun, HasFailed, IsReported}
+use Rattle.run_reports.specs.Deployments.{DeploymentRun, Surroundings, Ran, Deployed, LeadsToStates}
+use Rattle.run_reports.specs.Reported.{SaysRun, IsReported}
 use Rattle.run_reports.specs.declared.outcome.Outcome.{Outcome}
-use Rattle.template_deployments.specs.Came.{Terms, TurnedDown, WasRun, Came}
+use Rattle.template_deployments.specs.Came.{Terms, Came}
 
 -- a run of a plan whose successes lead to desired states
 pub deployed_by : (IsSource : Planned → Type 0) (s : Surroundings) (r : DeploymentRun) → LeadsToStates s.may r.planned

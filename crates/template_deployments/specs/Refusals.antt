@@ -1,5 +1,5 @@
 -- Why the deployment of a template is refused, and what is reported of it.
-use Rattle.std.specs.Prelude.{◌≡◌, ◌⊎◌, List, None, Option}
+use Rattle.std.specs.Prelude.{◌≡◌, ◌⊎◌, None}
 use Rattle.arm_value.specs.Json.{Json}
 use Rattle.arm_template.specs.States as template
 use Rattle.arm_template.specs.States.{States}

@@ -1,4 +1,4 @@
-use Rattle.std.proofs.Common.{inl, inr, refl}
+use Rattle.std.proofs.Common.{inl}
 use Rattle.command_refusals.specs.Templates.{bind_report}
 use Rattle.template_deployments.specs.Requests.{request_of}
 use Rattle.template_deployments.specs.Refusals.{IsUnrun}

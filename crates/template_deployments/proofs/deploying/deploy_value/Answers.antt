@@ -1,4 +1,4 @@
-use Rattle.std.proofs.Common.{inl, inr}
+use Rattle.std.proofs.Common.{inl}
 use Rattle.arm_value.specs.View.{json}
 use Rattle.command_refusals.specs.Templates.{template_report}
 use Rattle.template_deployments.specs.Requests.{request_of}

@@ -1,6 +1,5 @@
 use Rattle.std.proofs.Common.{◌<◌, ◌≤◌, subst, sym}
 use Rattle.plan_boards.specs.Kept.{planned_of}
-use Rattle.plan_boards.specs.Planned.{planned_by}
 use Rattle.template_deployments.proofs.CameLemmas.{ran_plan, turned_down}
 use Rattle.template_deployments.proofs.running.run_plan.Goals as goal
 

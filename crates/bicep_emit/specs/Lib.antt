@@ -3,4 +3,4 @@ pub mod Clauses
 pub mod Faults
 pub mod Modules
 pub mod Programs
-pub use Rattle.file_templates.specs.declared.fault.EmitFault
+pub use Rattle.program_parts.specs.EmitFault

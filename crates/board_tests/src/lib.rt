@@ -4,4 +4,6 @@
 #[cfg(test)]
 mod replays;
 #[cfg(test)]
+mod reports;
+#[cfg(test)]
 mod scripts;

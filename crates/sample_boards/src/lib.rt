@@ -4,6 +4,7 @@
 //! `follow_all` gives jobs and answers, and compares what the board does.
 #![tactic(auto)]
 
+pub mod ending;
 pub mod following;
 pub mod parts;
 pub mod plans;

@@ -6,6 +6,6 @@ use Rattle.sample_boards.proofs.ending.ended.Goals as goal
 
 pub report-requires : goal.report-requires
 report-requires g c =
-    let e = c.end-ending.ensures in
+    let e = c.end.ensures in
     subst (λ (y : Planned × List Event). IsTrueEnding g.S.Standings.tells y.0 (progress y.1) c.in_ok-ending.ending)
     (λ i. (sym e.planned i, (sym e.past i).events)) c.in_ok-ending.ensures.ending

@@ -1,0 +1,35 @@
+// Templates that are printed.
+
+use crate::rows::check_rows;
+use std::test::Fail;
+
+const TEMPLATES: &str = r#"build main.bicep
+=> 0 {"$schema":"https://schema.management.azure.com/schemas/2019-04-01/deploymentTemplate.json#",\
+"contentVersion":"1.0.0.0","resources":[]}
+
+build main.bicep
+resource a 'Demo.Lab/things@2024-01-01' = {
+  name: 'a'
+  size: 2
+}
+=> 0 {"$schema":"https://schema.management.azure.com/schemas/2019-04-01/deploymentTemplate.json#",\
+"contentVersion":"1.0.0.0",\
+"resources":[{"apiVersion":"2024-01-01","name":"a","size":2,"type":"Demo.Lab/things"}]}
+
+build --language=1.0 main.bicep
+output o string = '[x]'
+=> 0 {"$schema":"https://schema.management.azure.com/schemas/2019-04-01/deploymentTemplate.json#",\
+"contentVersion":"1.0.0.0",\
+"outputs":{"o":{"type":"string","value":"[[x]"}},"resources":[]}
+
+build main.bicep
+var a = 5 5
+=> 1 error NotAFile: main.bicep:10
+
+build no.bicep
+=> 1 error ModuleMissing: no.bicep"#;
+
+#[test]
+fn templates_are_printed(rt: HostRuntime) -> Result<(), Fail> {
+    check_rows(&rt, rt.alloc(), TEMPLATES)
+}

@@ -12,7 +12,7 @@ use Rattle.bicep_dependencies.specs.Dependencies.{depends_on}
 use Rattle.bicep_meaning.specs.Files.{SourceFile, Typed, declaration, type_of}
 use Rattle.bicep_meaning.specs.Instances.{symbol_folded, variable_by, variable_named, Put, put_by, put_of}
 use Rattle.bicep_meaning.specs.Instances.{unless_existing}
-use Rattle.source_needs.specs.Dependencies.{kinds_of, dependencies}
+use Rattle.emitted_files.specs.Dependencies.{kinds_of, dependencies}
 use Rattle.source_worlds.specs.Numbers.{is_put, is_resource, name_of, if_put, inserted, by_name, passing}
 use Rattle.source_worlds.specs.Numbers.{in_template, symbol_of, place_in, number_of}
 

@@ -20,16 +20,13 @@ use Rattle.bicep_meaning.specs.Files.{SourceFile, declaration, type_of}
 use Rattle.bicep_meaning.specs.Instances as source
 use Rattle.bicep_meaning.specs.Instances.{Put, put_of, body_fields}
 use Rattle.bicep_emission.specs.Emitted.{Frame}
-use Rattle.source_needs.specs.Dependencies.{dependencies}
-use Rattle.source_needs.specs.Needs.{is_looped}
+use Rattle.emitted_files.specs.Dependencies.{dependencies}
+use Rattle.emitted_files.specs.Needs.{is_looped}
 use Rattle.source_worlds.specs.Numbers.{symbol_of}
 use Rattle.emitted_declarations.specs.Declared.{Emission, whole}
 use Rattle.emitted_trees.specs.EmittedTrees.{members_of, value_of, count_of}
 use Rattle.emitted_trees.specs.Templates as t
-use Rattle.emitted_files.specs.Files.{IsVariable, IsOutput, IsLoop, IsArgument, IsBody, IsResource, IsDependent}
-use Rattle.emitted_files.specs.Files.{argument_named}
-use Rattle.emitted_files.specs.Files.{AreElements, HasSymbol, NoneExist, frames_around, id_by, element_by}
-use Rattle.emitted_files.specs.Files.{module_id}
+use Rattle.emitted_files.specs.Files.{IsVariable, IsOutput, IsLoop, IsArgument, IsBody, IsResource, IsDependent, argument_named, AreElements, HasSymbol, NoneExist, frames_around, id_by, element_by, module_id}
 use Rattle.emitted_files.specs.Values.{AreBoth, IsTree, IsExpression, IsContent, IsCondition, plain_or_expression}
 use Rattle.alike_files.specs.Rest.{HasRest}
 use Rattle.alike_files.proofs.NumberLemmas.{with_rest, variable_named_same, put_at, dependencies_same}

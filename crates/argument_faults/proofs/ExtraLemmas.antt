@@ -1,9 +1,10 @@
 -- What nested deployments give for parameters that their templates lack, by the names of parameters.
 use Rattle.std.proofs.Common.{◌≡◌, inl, inr, ℕ, zero, suc, ◌+◌, ◌<◌, ◌≤◌, Bool, true, false, true≢false, ◌||◌}
-use Rattle.std.proofs.Common.{List, [], ◌∷◌, map, length, get_or, Option, Some, None}
+use Rattle.std.proofs.Common.{List, [], ◌∷◌, map, length, get_or, Some, None}
 use Rattle.std.proofs.Common.{refl, sym, ap, subst, ◌∙◌, arith}
 use Rattle.std.proofs.lemmas.List.{length-map}
 use Rattle.std.specs.Prelude.{bytes_eq, is_some, slice_get, option_and_then, if◌then◌else◌}
+use Rattle.foundation.proofs.Options.{none_there}
 use Rattle.foundation.proofs.Comparisons.{lt_or_is}
 use Rattle.arm_value.specs.Look.{fold}
 use Rattle.arm_ids.specs.Held.{HeldResource}
@@ -22,7 +23,7 @@ use Rattle.deploy_cells.specs.Cells.{Step, step, Position}
 use Rattle.plan_cells.specs.Children.{Has}
 use Rattle.plan_cells.specs.Meaning.{is_own}
 use Rattle.plan_cells.specs.Resources as cells
-use Rattle.plan_cells.specs.Resources.{Nested, nested_in, nested_at, header_in}
+use Rattle.plan_cells.specs.Resources.{Nested, nested_in, header_in}
 use Rattle.plan_cells.specs.Scopes.{template_at, nested_of}
 use Rattle.plan_cells.specs.Sites.{first_with, parameter_named}
 use Rattle.plan_cells.specs.Start.{IsStart}
@@ -60,14 +61,10 @@ named_test x (p ∷ ps) = by_test (bytes_eq (fold x) (fold p.name)) (named_test 
     by_test true e = refl
     by_test false e = e
 
-none_of : {A : Type 0} (o : Option A) → is_some o ≡ false → o ≡ None
-none_of None e = refl
-none_of (Some x) e = absurd (true≢false e)
-
 not_named : (x : List ℕ) (u : TemplateTree) → is_named (parameter_titles u) x ≡ false
     → parameter_named (fold x) u ≡ None
 not_named x u e =
-    none_of (parameter_named (fold x) u) (sym (named_test x (header_in u).parameters) ∙ e)
+    none_there (parameter_named (fold x) u) (sym (named_test x (header_in u).parameters) ∙ e)
 
 named_not : (x : List ℕ) (u : TemplateTree) → is_named (parameter_titles u) x ≡ true
     → parameter_named (fold x) u ≡ None → ⊥

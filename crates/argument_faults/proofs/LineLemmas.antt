@@ -1,5 +1,5 @@
 -- Conditions and names that have a value at the start have lines.
-use Rattle.std.proofs.Common.{◌≡◌, inl, inr, ℕ, suc, ◌<◌, true, true≢false, List, [], ◌∷◌, length, Option, Some, None}
+use Rattle.std.proofs.Common.{◌≡◌, ℕ, suc, ◌<◌, true, true≢false, List, [], ◌∷◌, length, Option, Some, None}
 use Rattle.std.proofs.Common.{refl, sym, ap, subst, ◌∙◌, arith}
 use Rattle.std.specs.Prelude.{option_and_then}
 use Rattle.arm_value.specs.Json.{Json}
@@ -8,12 +8,10 @@ use Rattle.arm_value.specs.View.{json}
 use Rattle.reading.specs.Knowledge.{known, known_value}
 use Rattle.template_tree.specs.Tree.{TemplateTree}
 use Rattle.deploy_cells.specs.Cells.{Step, step, Position, Cell, included, name}
-use Rattle.deploy_cells.proofs.SameLemmas.{cell_is}
 use Rattle.plan_cells.specs.Resources.{Listed, Nested, nested_in, nested_at, resource_at}
 use Rattle.plan_cells.specs.Scopes.{template_at, nested_of}
 use Rattle.plan_filling.specs.Rows.{Status, New, Open, Value, Empty, Late, Row, row_at, status_of}
 use Rattle.plan_filling.specs.Final.{or_unlisted}
-use Rattle.plan_filling.proofs.RowLemmas.{by_same, found_first, found_later}
 use Rattle.plan_table.specs.declared.line.Line.{Line}
 use Rattle.plan_table.specs.declared.line.Spot.{Spot}
 use Rattle.plan_table.specs.declared.line.Spot.TheVariants as spotted
@@ -29,39 +27,9 @@ use Rattle.plan_table.specs.Found.{scope_at}
 use Rattle.plan_table.proofs.LaidLemmas.{row_here, length_rows}
 use Rattle.plan_tasks.specs.InOrder.{is_in}
 use Rattle.plan_tasks.specs.Start.{start_of, IsStartTable}
-use Rattle.plan_openers.proofs.NestedLemmas.{HasScope}
-
-some_is : {A : Type 0} (x y : A) → Some x ≡ Some y → x ≡ y
-some_is x y e = cc
+use Rattle.plan_openers.proofs.NestedLemmas.{HasScope, row_of_status}
 
 -- ---- rows
-
-record HasRow (rows : List Row) (c : Cell) (s : Status) : Type 0 where
-  number : ℕ
-  listed : number < length rows
-  cell : (row_at rows number).cell ≡ c
-  status : (row_at rows number).status ≡ s
-
-row_later : (r : Row) (rows : List Row) (c : Cell) (s : Status) → HasRow rows c s → HasRow (r ∷ rows) c s
-row_later r rows c s h = record {
-  number = suc h.number;
-  listed = (let l = h.listed in omega (arith, l));
-  cell = h.cell;
-  status = h.status;
-}
-
-row_of_status : (rows : List Row) (c : Cell) (s : Status) → status_of rows c ≡ Some s → HasRow rows c s
-row_of_status [] c s e = absurd (cc)
-row_of_status (r ∷ rs) c s e =
-    elim (by_same r.cell c) [
-      | inl x ↦ (let at = cell_is r.cell c x in record {
-        number = 0;
-        listed = omega arith;
-        cell = at;
-        status = some_is r.status s (sym (found_first r rs c at) ∙ e);
-      })
-      | inr x ↦ row_later r rs c s (row_of_status rs c s (sym (found_later r rs c x) ∙ e))
-    ]
 
 record HasLine (t : Table) (c : Cell) (v : Json) : Type 0 where
   number : ℕ

@@ -1,10 +1,8 @@
 -- What is held, and the outputs of nested deployments.
-use Rattle.std.proofs.Common.{◌≡◌, ℕ, List, [], ◌∷◌, ◌++◌, codes, map, Option, Some, None}
+use Rattle.std.proofs.Common.{◌≡◌, ℕ, List, [], ◌∷◌, codes, map, Option, Some, None}
 use Rattle.std.proofs.Common.{option_map, true, Result, Ok, Err, refl, sym, ap, ◌∙◌, subst}
 use Rattle.std.specs.Str.{chars}
-use Rattle.std.specs.Prelude.{if◌then◌else◌}
 use Rattle.arm_value.specs.Json.{Json, object, pairs, Member, put, put_each}
-use Rattle.arm_value.specs.Look.{fold, is_same_folded}
 use Rattle.arm_ids.specs.declared.id.ResourceId.{ResourceId}
 use Rattle.reading.specs.Reading.{done, pure}
 use Rattle.reading.specs.Knowledge.{Known, Told, value, no_value, waits, told, finished, and_then}
@@ -30,11 +28,6 @@ typed_put k v ms ns a b =
     b ∙ (λ i. put (word_value i) v (a i))
     ∙ (λ i. put (codes "value") v (put (word_type i) k [])) in
     ap (λ ns. object (pairs ns)) all
-
-pub put_each-more : (ns : List Member) (ms : List Member) (m : Member)
-    → put_each ns (ms ++ m ∷ []) ≡ put m.0 m.1 (put_each ns ms)
-put_each-more ns [] m = refl
-put_each-more ns (x ∷ ms) m = put_each-more (put x.0 x.1 ns) ms m
 
 -- a member is there where its value is
 member_told : (p : Look → Known Fact) (k : ResourceId) (x : Declared) (t : Told Look Json)

@@ -2,6 +2,7 @@
 use Rattle.std.proofs.Common.{◌≡◌, ◌↔◌, ℕ, List, [], ◌∷◌, Bool, true, IsTrue, bytes_eq}
 use Rattle.std.proofs.Common.{refl, sym, ap, ◌∙◌}
 use Rattle.std.proofs.lemmas.Slice.Eq.{bytes_eq-Decides}
+use Rattle.foundation.proofs.Words.{itself}
 use Rattle.arm_ids.specs.declared.id.ResourceId.{ResourceId}
 use Rattle.arm_env.specs.Find.{are_same, is_same_key}
 use Rattle.foundation.proofs.TruthValues.{both, and_true, both_ways}
@@ -21,17 +22,14 @@ texts_same [] = refl
 texts_same (x ∷ xs) = and_true (bytes_eq x x) (are_same xs xs) ((bytes_eq-Decides x x).1 refl)
     (texts_same xs)
 
-text_same : (x : List ℕ) → bytes_eq x x ≡ true
-text_same x = (bytes_eq-Decides x x).1 refl
-
 record_same : (i j : ResourceId) → i.subscription ≡ j.subscription → i.group ≡ j.group
     → i.types ≡ j.types → i.names ≡ j.names → i ≡ j
 record_same i j s g t n = λ k. record { subscription = s k; group = g k; types = t k; names = n k }
 
 pub key_same : (i : ResourceId) → is_same_key i i ≡ true
 key_same i =
-    and_true _ _ (text_same i.subscription)
-    (and_true _ _ (text_same i.group) (and_true _ _ (texts_same i.types) (texts_same i.names)))
+    and_true _ _ (itself i.subscription)
+    (and_true _ _ (itself i.group) (and_true _ _ (texts_same i.types) (texts_same i.names)))
 
 pub one_key : (i j : ResourceId) → is_same_key i j ≡ true → i ≡ j
 one_key i j e =

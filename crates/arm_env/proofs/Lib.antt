@@ -5,3 +5,5 @@ pub mod Turns
 pub mod Words
 pub mod HeldLemmas
 pub mod IdLemmas
+pub use Rattle.foundation.proofs.Comparisons
+pub use Rattle.foundation.proofs.Lists

@@ -10,3 +10,9 @@ pub mod Held
 pub mod Known
 pub mod Answer
 pub mod Sight
+pub use Rattle.function_numbers.specs.Kinds
+pub use Rattle.function_numbers.specs.Logic
+pub use Rattle.function_numbers.specs.Numbers
+pub use Rattle.reading.specs.Knowledge
+pub use Rattle.reading.specs.Reading
+pub use Rattle.foundation.specs.declared.limits.TheConstants

@@ -4,13 +4,13 @@ ghost use Rattle.std.specs.Prelude.{string_bytes, map, option_map, IfOk, OnOk};
 ghost use Rattle.std.specs.List.{list_any};
 ghost use Rattle.arm_value.specs.Json.{text};
 ghost use Rattle.arm_value.specs.View.{json};
-ghost use Rattle.arm_ids.specs.Segments.{segments, slashed, by_turns, is_empty, has_slash};
+ghost use Rattle.arm_ids.specs.Segments.{segments, slashed, by_turns, has_slash};
 ghost use Rattle.arm_ids.specs.Id.{path};
 ghost use Rattle.arm_env.specs.Id.{are_paired, id_in_group, id_in_subscription, with_both};
 ghost use Rattle.arm_env.specs.Id.{with_group, resource_id, with_subscription, subscription_id};
 
 use crate::stop::let_go;
-use arm_ids::Place;
+use arm_ids::{Place, has_empty_segment};
 use arm_value::{OutOfMemory, Text, Texts, Value};
 use std::alloc::Global;
 
@@ -102,23 +102,6 @@ fn segments(alloc: Global, text: &Text) -> Result<Texts, OutOfMemory>
     segments
 }
 
-fn is_blank(text: &Text) -> bool
-    ensures { result ≡ is_empty text.now }
-{
-    text.as_str().is_empty()
-}
-
-fn has_blank(texts: &[Text]) -> bool
-    ensures { result ≡ list_any is_empty texts.now }
-{
-    for text in texts {
-        if is_blank(text) {
-            return true;
-        }
-    }
-    false
-}
-
 fn has_slash(text: &str) -> bool
     ensures { result ≡ has_slash (chars text.now) }
 {
@@ -153,7 +136,10 @@ fn is_one_more(types: &[Text], names: &[Text]) -> bool
 fn are_paired(types: &[Text], names: &[Text]) -> bool
     ensures { result ≡ are_paired types.now names.now }
 {
-    is_one_more(types, names) && !has_blank(types) && !has_blank(names) && !have_slash(names)
+    is_one_more(types, names)
+        && !has_empty_segment(types)
+        && !has_empty_segment(names)
+        && !have_slash(names)
 }
 
 // The text of an id in a group.
@@ -186,7 +172,7 @@ fn id_in_group(
         kind.now names.now)) }
 {
     let types = segments(alloc, kind)?;
-    if is_blank(subscription) || is_blank(group) || !are_paired(types.as_slice(), names) {
+    if subscription.is_empty() || group.is_empty() || !are_paired(types.as_slice(), names) {
         return Ok(None);
     }
     let id = group_path(alloc, subscription, group, types.as_slice(), names)?;
@@ -219,7 +205,7 @@ fn id_in_subscription(
         ≡ option_map text (id_in_subscription subscription.now kind.now names.now)) }
 {
     let types = segments(alloc, kind)?;
-    if is_blank(subscription) || !are_paired(types.as_slice(), names) {
+    if subscription.is_empty() || !are_paired(types.as_slice(), names) {
         return Ok(None);
     }
     let id = subscription_path(alloc, subscription, types.as_slice(), names)?;

@@ -22,3 +22,5 @@ pub mod loops;
 pub mod objects;
 pub mod outputs;
 pub mod stop;
+
+pub use function_numbers::kinds::{text_of, truth_of};

@@ -7,8 +7,7 @@ use Rattle.reading.specs.Knowledge.{Known, known, absent, missing, Told, value, 
 use Rattle.reading.specs.Knowledge.{by_entry, and_then, IsAwaited, Means}
 use Rattle.reading.proofs.Completion.{told_means}
 use Rattle.std.proofs.Common.{subst}
-use Rattle.arm_env.specs.Look.{Look, parameter, variable, output, state, named, deployment, outputs, Fact, a_key}
-use Rattle.arm_env.specs.Look.{Looking, seen, key_in}
+use Rattle.arm_env.specs.Look.{Look, parameter, variable, output, state, named, deployment, outputs, Fact, a_key, Looking, seen, key_in}
 use Rattle.arm_env.specs.Answer.{told_of, outcome_told, Stops}
 use Rattle.arm_env.specs.declared.stop.Stop.{Stop}
 use Rattle.arm_env.specs.declared.stop.Stop.TheVariants as stop

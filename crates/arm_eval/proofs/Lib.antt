@@ -12,3 +12,4 @@ mod OutputLemmas
 pub mod TitleLemmas
 mod CellLemmas
 mod LoopedLemmas
+pub use Rattle.expression_values.proofs.Equations

@@ -8,19 +8,17 @@ use Rattle.arm_value.specs.Json.{Json, null, bool, int, text, array, object, Row
 use Rattle.arm_value.specs.Json.{nesting, members_nesting}
 use Rattle.arm_value.specs.View.{json}
 use Rattle.arm_value.specs.declared.value.Value.{Value}
-use Rattle.arm_env.specs.Answer.{Gives, outcome_of}
+use Rattle.arm_env.specs.Answer.{Gives, outcome_of, outcome_told}
 use Rattle.arm_env.specs.declared.stop.Stop.{Stop}
 use Rattle.arm_env.specs.declared.stop.Stop.TheVariants as stop
 use Rattle.reading.specs.Reading.{done, pure, none, continued, both}
 use Rattle.reading.specs.Knowledge.{Known}
-use Rattle.arm_env.specs.Look.{Look, Fact, Looking, Surroundings}
+use Rattle.arm_env.specs.Look.{Look, Fact, Looking, Surroundings, all}
 use Rattle.arm_env.specs.Part.{kept}
 use Rattle.arm_env.specs.Held.{capped, forced}
 use Rattle.expression_values.specs.Meaning.{used, held}
-use Rattle.arm_env.specs.Look.{all}
 use Rattle.arm_expr.specs.Brackets.{Meaning, plain, an_expression, meaning as text_meaning, is_copy}
 use Rattle.arm_eval.specs.Text.{expression_of}
-use Rattle.arm_env.specs.Answer.{outcome_told}
 use Rattle.arm_eval.specs.Trees.{Copy, said_value, tree_value, given_members, copies, row_copies, copied}
 use Rattle.arm_eval.specs.Trees.{copy_in, turns, counting, counted, array_of}
 use Rattle.arm_expr.specs.Tree.{Tree}

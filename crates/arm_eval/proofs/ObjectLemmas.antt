@@ -6,19 +6,18 @@ use Rattle.std.proofs.Common.{option_map, refl, sym, ap, ◌∙◌, subst, add-o
 use Rattle.std.proofs.lemmas.List.{append_assoc, append-nil}
 use Rattle.std.specs.Prelude.{if◌then◌else◌, ◌&&◌, option_and_then}
 use Rattle.std.specs.List.{range_with_len}
+use Rattle.arm_value.proofs.MemberLemmas.{put_each-append}
 use Rattle.arm_value.specs.Json.{Json, null, bool, int, text, array, object, row, pairs}
-use Rattle.arm_value.specs.Json.{Member, put_each, put, pair_keys}
+use Rattle.arm_value.specs.Json.{Member, put_each, pair_keys}
 use Rattle.arm_value.specs.View.{json, member}
 use Rattle.arm_value.specs.declared.value.Value.{Value}
 use Rattle.arm_value.specs.declared.value.Field.{Field}
 use Rattle.reading.specs.Reading.{done, pure, none, continued, both}
 use Rattle.reading.specs.Knowledge.{Known}
-use Rattle.arm_env.specs.Look.{Look, Fact, Looking, Surroundings}
+use Rattle.arm_env.specs.Look.{Look, Fact, Looking, Surroundings, all}
 use Rattle.arm_env.specs.Part.{kept}
 use Rattle.arm_env.specs.Held.{capped}
-use Rattle.arm_env.specs.Look.{all}
-use Rattle.arm_env.specs.Answer.{outcome_told, gathered}
-use Rattle.arm_env.specs.Answer.{Stops}
+use Rattle.arm_env.specs.Answer.{outcome_told, gathered, Stops}
 use Rattle.arm_env.specs.declared.stop.Stop.{Stop}
 use Rattle.arm_env.specs.declared.stop.Stop.TheVariants as stop
 use Rattle.arm_eval.specs.Trees.{Copy, tree_value, row_values, own_member, own_members, given_members}
@@ -26,8 +25,7 @@ use Rattle.arm_eval.specs.Trees.{copies, row_copies, copied, copy_in, turns, cou
 use Rattle.arm_eval.specs.Trees.{names_of, are_new, differ, object_by}
 use Rattle.arm_eval.specs.Words.{values_of, owns_of, copies_of, put_all, kept_array, kept_object, whole_object}
 use Rattle.arm_eval.specs.Words.{trees_in, copy_tree}
-use Rattle.arm_env.proofs.Answers.{told-done, told-continued, told-both, told-capped}
-use Rattle.arm_env.proofs.Answers.{stops}
+use Rattle.arm_env.proofs.Answers.{told-done, told-continued, told-both, told-capped, stops}
 use Rattle.arm_eval.proofs.TurnLemmas.{turn_at, array_given, array_stops}
 use Rattle.arm_env.proofs.Turns.{given_in}
 use Rattle.arm_value.proofs.TreeLemmas.{row-items}
@@ -69,10 +67,6 @@ object_is here ms fs e =
 concat-more : (mss : List (List Member)) (ms : List Member) → concat (mss ++ ms ∷ []) ≡ concat mss ++ ms
 concat-more [] ms = append-nil ms
 concat-more (ns ∷ mss) ms = ap (λ r. ns ++ r) (concat-more mss ms) ∙ sym (append_assoc ns (concat mss) ms)
-
-pub put_each-append : (ns ms more : List Member) → put_each ns (ms ++ more) ≡ put_each (put_each ns ms) more
-put_each-append ns [] more = refl
-put_each-append ns (m ∷ ms) more = put_each-append (put m.0 m.1 ns) ms more
 
 pub put_all-more : (mss : List (List Member)) (ms : List Member) → put_all (mss ++ ms ∷ []) ≡ put_each (put_all mss) ms
 put_all-more mss ms = ap (put_each []) (concat-more mss ms) ∙ put_each-append [] (concat mss) ms

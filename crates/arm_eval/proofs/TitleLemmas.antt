@@ -6,7 +6,7 @@ use Rattle.std.specs.Str.{IsAscii}
 use Rattle.std.proofs.lemmas.List.{drop_all, length_push}
 use Rattle.std.proofs.lemmas.Str.{chars-append, chars-IsAscii, IsAscii-append}
 use Rattle.std.proofs.lemmas.Fmt.{IsAscii-decimal}
-use Rattle.std.proofs.lemmas.Bool.Decides.{nat_tests}
+use Rattle.foundation.proofs.Comparisons.{eq_false}
 use Rattle.foundation.proofs.Lists.{next_item}
 use Rattle.foundation.proofs.AsciiWords.{one_ascii}
 use Rattle.arm_value.specs.Json.{text}
@@ -74,11 +74,8 @@ module _ (place : Place) (kind name k n : List ℕ) (f : chars k ≡ kind) (g : 
   differ : (a b : Bool) → a ≡ false → b ≡ false → (c : Bool) → (not a && (b && c)) ≡ false
   differ a b e h c = ap (λ a. not a && (b && c)) e ∙ ap (λ b. b && c) h
 
-  unpaired : (m n : ℕ) → (m ≡ n → ⊥) → (m == n) ≡ false
-  unpaired m n h = grind (arith, nat_tests)
-
   pub unpaired_form_none : Refuses (resource_at place k n) SegmentsDiffer → None ≡ key_at place kind (text name)
   unpaired_form_none h =
       let i = resource_at place k n in
       not_formed (differ (has_empty_segment i) (length i.types == suc (length i.names)) h.0
-      (unpaired (length i.types) (suc (length i.names)) h.1) (nat_lt 0 (length i.names)))
+      (eq_false (length i.types) (suc (length i.names)) h.1) (nat_lt 0 (length i.names)))

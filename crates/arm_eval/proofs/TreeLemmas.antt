@@ -7,7 +7,7 @@ use Rattle.std.specs.Prelude.{if◌then◌else◌, ◌==◌}
 use Rattle.std.proofs.lemmas.Bool.Decides.{nat_tests}
 use Rattle.arm_value.specs.Json.{Json, text, Member, pairs}
 use Rattle.arm_value.specs.Look.{is_same_folded}
-use Rattle.function_numbers.specs.Kinds.{text_of}
+use Rattle.arm_env.specs.Kinds.{text_of}
 use Rattle.arm_eval.specs.Words.{tree_in}
 use Rattle.arm_expr.specs.Tree.{Tree}
 use Rattle.reading.specs.Reading.{done}

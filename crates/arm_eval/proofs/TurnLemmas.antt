@@ -5,12 +5,10 @@ use Rattle.std.proofs.Common.{◌≡◌, ℕ, List, Option, Some, None, refl, ap
 use Rattle.arm_value.specs.Json.{Json, array, row}
 use Rattle.reading.specs.Reading.{pure, continued}
 use Rattle.reading.specs.Knowledge.{Known}
-use Rattle.arm_env.specs.Look.{Look, Fact, Looking, Surroundings}
+use Rattle.arm_env.specs.Look.{Look, Fact, Looking, Surroundings, all}
 use Rattle.arm_env.specs.Part.{kept}
 use Rattle.arm_env.specs.Held.{capped}
-use Rattle.arm_env.specs.Look.{all}
-use Rattle.arm_env.specs.Answer.{outcome_told, gathered}
-use Rattle.arm_env.specs.Answer.{Stops}
+use Rattle.arm_env.specs.Answer.{outcome_told, gathered, Stops}
 use Rattle.arm_env.specs.declared.stop.Stop.{Stop}
 use Rattle.arm_eval.specs.Trees.{Copy, within, array_of}
 use Rattle.arm_eval.specs.Words.{kept_array}

@@ -19,3 +19,6 @@ pub mod Titles
 pub mod Words
 pub mod Free
 pub mod Plain
+pub use Rattle.arm_env.specs.declared.env.Looping
+pub use Rattle.arm_env.specs.declared.env.Spelled
+pub use Rattle.expression_values.specs.Meaning

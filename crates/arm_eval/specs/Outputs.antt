@@ -1,7 +1,7 @@
 -- The value of an output of a template, with its condition or its loop (Microsoft Learn, "Outputs in ARM templates").
 use Rattle.std.specs.Prelude.{ℕ, zero, suc, Bool, true, false, List, [], ◌∷◌, Option, Some, None}
 use Rattle.arm_value.specs.Json.{Json}
-use Rattle.function_numbers.specs.Kinds.{truth_of}
+use Rattle.arm_env.specs.Kinds.{truth_of}
 use Rattle.reading.specs.Reading.{pure, none, continued}
 use Rattle.arm_env.specs.declared.env.Looping.{Looping}
 use Rattle.arm_env.specs.Look.{Looking, Surroundings}

@@ -6,13 +6,12 @@ use Rattle.std.specs.List.{list_any}
 use Rattle.arm_value.specs.Json.{Json, null, bool, int, text, array, object, Row, no_items, item, Pairs, no_pairs}
 use Rattle.arm_value.specs.Json.{pair, row, Member, pair_keys}
 use Rattle.arm_value.specs.Look.{is_same_folded}
-use Rattle.function_numbers.specs.Kinds.{text_of}
+use Rattle.arm_env.specs.Kinds.{text_of}
 use Rattle.reading.specs.Reading.{done, pure, none, continued, both}
 use Rattle.arm_env.specs.declared.env.Looping.{Looping}
-use Rattle.arm_env.specs.Look.{Looking, Surroundings}
+use Rattle.arm_env.specs.Look.{Looking, Surroundings, all}
 use Rattle.arm_expr.specs.Brackets.{Meaning, plain, an_expression, meaning as text_meaning, is_copy}
 use Rattle.arm_eval.specs.Text.{expression_of}
-use Rattle.arm_env.specs.Look.{all}
 use Rattle.arm_env.specs.Held.{capped}
 use Rattle.arm_env.specs.Object.{object_of}
 use Rattle.expression_values.specs.Meaning as meaning

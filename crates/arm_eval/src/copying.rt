@@ -12,9 +12,9 @@ ghost use Rattle.arm_expr.specs.Brackets.{is_copy};
 
 use arm_env::env::Looping;
 use arm_env::stop::let_go;
+use arm_env::text_of;
 use arm_value::{Field, OutOfMemory, Text, Value};
 use foundation::limits::MAX_COPY_COUNT;
-use function_numbers::kinds::text_of;
 use std::alloc::Global;
 
 /// Whether it is the name of the member that holds loops.

@@ -5,7 +5,7 @@ ghost use Rattle.arm_value.specs.View.{json};
 ghost use Rattle.reading.specs.Knowledge.{told};
 ghost use Rattle.arm_env.specs.Answer.{outcome_told, gathered, Gives};
 ghost use Rattle.arm_env.specs.Sight.{here};
-ghost use Rattle.function_numbers.specs.Kinds.{truth_of};
+ghost use Rattle.arm_env.specs.Kinds.{truth_of};
 ghost use Rattle.arm_eval.specs.Outputs.{inputs, content_value, a_copy, where_true, output_value};
 ghost use Rattle.arm_eval.specs.Trees.{tree_value};
 ghost use Rattle.arm_eval.specs.Words.{content_of};
@@ -14,10 +14,9 @@ use crate::copying::{loops_in_output, turn_to};
 use crate::tree::{counting, tree_value};
 use crate::whole::{array_of, with_value};
 use arm_env::entries::{Around, Entries};
-use arm_env::stop;
 use arm_env::stop::{Stop, let_go, stopped};
+use arm_env::{stop, truth_of};
 use arm_value::{Items, Value};
-use function_numbers::kinds::truth_of;
 use std::alloc::Global;
 
 /// What gives an output its value.

@@ -5,7 +5,7 @@ use Rattle.std.proofs.Common.{false}
 use Rattle.arm_value.specs.View.{json}
 use Rattle.arm_value.specs.declared.value.Value.{Value}
 use Rattle.function_numbers.proofs.RowLemmas.{none_left, next_in}
-use Rattle.function_texts.specs.Cuts.{texts_in}
+use Rattle.function_prints.specs.Cuts.{texts_in}
 use Rattle.std.specs.Prelude.{option_and_then, if◌then◌else◌}
 use Rattle.function_numbers.specs.Kinds.{text_of}
 use Rattle.arm_value.specs.Json.{Json}

@@ -12,7 +12,7 @@ use Rattle.arm_value.specs.Json.{members, keys, key_cmp, put, put_each, IsInOrde
 use Rattle.arm_value.specs.Look.{or_else}
 use Rattle.arm_value.proofs.SetLemmas.{equal_keys}
 use Rattle.function_numbers.specs.Kinds.{members_of}
-use Rattle.function_lists.specs.Members.{value_at, under, updated, united, united_all, union}
+use Rattle.function_prints.specs.Members.{value_at, under, updated, united, united_all, union}
 use Rattle.arm_functions.specs.Laws.{united_values, later_value}
 use Rattle.arm_value.proofs.TreeLemmas.{pairs-members, members-pairs}
 

@@ -1,7 +1,7 @@
 -- What holds of the functions beyond each one's own definition.
 use Rattle.std.specs.Prelude.{[], ◌∷◌, Option, Some, None}
 use Rattle.arm_value.specs.Json.{Json, object}
-use Rattle.function_lists.specs.Members.{union}
+use Rattle.function_prints.specs.Members.{union}
 
 -- the union of two objects; else the second value
 abbrev pub united_values : Json → Json → Option Json

@@ -3,13 +3,13 @@ use Rattle.std.specs.Prelude.{ℕ, nat_le, Bool, ◌&&◌, List, length, Option,
 use Rattle.arm_value.specs.Json.{Json}
 use Rattle.function_numbers.specs.Numbers as numbers
 use Rattle.function_numbers.specs.Logic as logic
-use Rattle.function_texts.specs.Letters as letters
-use Rattle.function_texts.specs.Cuts as cuts
-use Rattle.function_texts.specs.Places as places
-use Rattle.function_lists.specs.Sizes as sizes
-use Rattle.function_lists.specs.Ends as ends
-use Rattle.function_lists.specs.Items as items
-use Rattle.function_lists.specs.Members as members
+use Rattle.function_prints.specs.Letters as letters
+use Rattle.function_prints.specs.Cuts as cuts
+use Rattle.function_prints.specs.Places as places
+use Rattle.function_prints.specs.Sizes as sizes
+use Rattle.function_prints.specs.Ends as ends
+use Rattle.function_prints.specs.Items as items
+use Rattle.function_prints.specs.Members as members
 use Rattle.function_prints.specs.Printed as prints
 use Rattle.function_prints.specs.Format as formats
 use Rattle.function_prints.specs.Stated as stated

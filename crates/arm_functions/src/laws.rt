@@ -1,7 +1,7 @@
 //! What holds of the functions beyond each one's own definition. The functions here have no body.
 ghost use Rattle.std.specs.Prelude.{◌≡◌, ◌∷◌, [], Some, List, ℕ};
 ghost use Rattle.arm_value.specs.Json.{object, pairs, Member, IsInOrder};
-ghost use Rattle.function_lists.specs.Members.{union, value_at};
+ghost use Rattle.function_prints.specs.Members.{union, value_at};
 ghost use Rattle.arm_functions.specs.Laws.{later_value};
 
 /// The union of two objects has at each key what the second has there, and what the first has where

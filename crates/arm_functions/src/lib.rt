@@ -15,5 +15,6 @@ mod values;
 
 pub use counts::Arity;
 pub use fault::FunctionFault;
+pub use function_numbers::kinds::{text_of, truth_of};
 pub use table::{Row, arity};
 pub use values::call;

@@ -55,17 +55,17 @@ fn of_texts(alloc: Global, function: OnTexts, args: &[Value]) -> Result<Option<V
     ensures { IfOk result (λ value. option_map json value ≡ of_texts function (map json args.now)) }
 {
     match function {
-        OnTexts::ToLower => function_texts::to_lower(alloc, args),
-        OnTexts::ToUpper => function_texts::to_upper(alloc, args),
-        OnTexts::Trim => function_texts::trim(alloc, args),
-        OnTexts::Substring => function_texts::substring(alloc, args),
-        OnTexts::Replace => function_texts::replace(alloc, args),
-        OnTexts::Split => function_texts::split(alloc, args),
-        OnTexts::StartsWith => function_texts::starts_with(alloc, args),
-        OnTexts::EndsWith => function_texts::ends_with(alloc, args),
-        OnTexts::IndexOf => function_texts::index_of(alloc, args),
-        OnTexts::LastIndexOf => function_texts::last_index_of(alloc, args),
-        OnTexts::Contains => function_texts::contains(alloc, args),
+        OnTexts::ToLower => function_prints::to_lower(alloc, args),
+        OnTexts::ToUpper => function_prints::to_upper(alloc, args),
+        OnTexts::Trim => function_prints::trim(alloc, args),
+        OnTexts::Substring => function_prints::substring(alloc, args),
+        OnTexts::Replace => function_prints::replace(alloc, args),
+        OnTexts::Split => function_prints::split(alloc, args),
+        OnTexts::StartsWith => function_prints::starts_with(alloc, args),
+        OnTexts::EndsWith => function_prints::ends_with(alloc, args),
+        OnTexts::IndexOf => function_prints::index_of(alloc, args),
+        OnTexts::LastIndexOf => function_prints::last_index_of(alloc, args),
+        OnTexts::Contains => function_prints::contains(alloc, args),
     }
 }
 
@@ -74,21 +74,21 @@ fn of_lists(alloc: Global, function: OnLists, args: &[Value]) -> Result<Option<V
     ensures { IfOk result (λ value. option_map json value ≡ of_lists function (map json args.now)) }
 {
     match function {
-        OnLists::Size => Ok(function_lists::size(args)),
-        OnLists::Empty => Ok(function_lists::empty(args)),
-        OnLists::ToArray => function_lists::to_array(alloc, args),
-        OnLists::CreateArray => function_lists::create_array(alloc, args),
-        OnLists::First => function_lists::first(alloc, args),
-        OnLists::Last => function_lists::last(alloc, args),
-        OnLists::Skip => function_lists::skip(alloc, args),
-        OnLists::Take => function_lists::take(alloc, args),
-        OnLists::Union => function_lists::union(alloc, args),
-        OnLists::Intersection => function_lists::intersection(alloc, args),
-        OnLists::Flatten => function_lists::flatten(alloc, args),
-        OnLists::CreateObject => function_lists::create_object(alloc, args),
-        OnLists::ObjectItems => function_lists::object_items(alloc, args),
-        OnLists::ObjectKeys => function_lists::object_keys(alloc, args),
-        OnLists::TryGet => function_lists::try_get(alloc, args),
+        OnLists::Size => Ok(function_prints::size(args)),
+        OnLists::Empty => Ok(function_prints::empty(args)),
+        OnLists::ToArray => function_prints::to_array(alloc, args),
+        OnLists::CreateArray => function_prints::create_array(alloc, args),
+        OnLists::First => function_prints::first(alloc, args),
+        OnLists::Last => function_prints::last(alloc, args),
+        OnLists::Skip => function_prints::skip(alloc, args),
+        OnLists::Take => function_prints::take(alloc, args),
+        OnLists::Union => function_prints::union(alloc, args),
+        OnLists::Intersection => function_prints::intersection(alloc, args),
+        OnLists::Flatten => function_prints::flatten(alloc, args),
+        OnLists::CreateObject => function_prints::create_object(alloc, args),
+        OnLists::ObjectItems => function_prints::object_items(alloc, args),
+        OnLists::ObjectKeys => function_prints::object_keys(alloc, args),
+        OnLists::TryGet => function_prints::try_get(alloc, args),
     }
 }
 

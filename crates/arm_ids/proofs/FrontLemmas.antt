@@ -2,18 +2,12 @@
 use Rattle.std.proofs.Common.{◌≡◌, ◌<◌, ◌≤◌, ◌-◌, ℕ, length, Bool, true, false, ◌&&◌, List, [], ◌∷◌, ◌++◌, bytes_eq}
 use Rattle.std.proofs.Common.{refl, sym, ap, ap₂, ◌∙◌, arith, true≢false, append-nil}
 use Rattle.std.proofs.lemmas.List.{length-append, nil_from_length}
-use Rattle.std.proofs.lemmas.Slice.Eq.{bytes_eq-Decides}
+use Rattle.foundation.proofs.Words.{eq_word, itself}
 use Rattle.arm_ids.specs.Segments.{is_front}
 use Rattle.arm_ids.specs.Parent.{begins, IsParent}
 use Rattle.arm_ids.specs.Id.{IsKey}
 use Rattle.arm_ids.specs.declared.id.ResourceId.{ResourceId}
 use Rattle.foundation.proofs.TruthValues.{both, and_true}
-
-pub same_text : (x : List ℕ) → bytes_eq x x ≡ true
-same_text x = (bytes_eq-Decides x x).1 refl
-
-pub texts_equal : (x y : List ℕ) → bytes_eq x y ≡ true → x ≡ y
-texts_equal x y e = (bytes_eq-Decides x y).0 e
 
 -- a longer list is the front of no shorter one
 pub front_short : (xs ys : List (List ℕ)) → length ys < length xs → false ≡ is_front xs ys
@@ -31,11 +25,11 @@ front_rest (x ∷ xs) [] e = absurd (true≢false (sym e))
 front_rest (x ∷ xs) (y ∷ ys) e =
     let h = both (bytes_eq x y) (is_front xs ys) e in
     let others = front_rest xs ys h.1 in
-    (others.0, ap₂ (λ a more. a ∷ more) (sym (texts_equal x y h.0)) others.1)
+    (others.0, ap₂ (λ a more. a ∷ more) (sym (eq_word x y h.0)) others.1)
 
 pub front_of : (xs rest : List (List ℕ)) → is_front xs (xs ++ rest) ≡ true
 front_of [] rest = refl
-front_of (x ∷ xs) rest = and_true (bytes_eq x x) (is_front xs (xs ++ rest)) (same_text x) (front_of xs rest)
+front_of (x ∷ xs) rest = and_true (bytes_eq x x) (is_front xs (xs ++ rest)) (itself x) (front_of xs rest)
 
 pub front_self : (xs ys : List (List ℕ)) → xs ≡ ys → is_front xs ys ≡ true
 front_self xs ys e = ap (is_front xs) (sym e ∙ sym (append-nil xs)) ∙ front_of xs []
@@ -58,12 +52,12 @@ begun i j e =
     let h = both (bytes_eq i.subscription j.subscription) _ e in
     let g = both (bytes_eq i.group j.group) _ h.1 in
     let f = both (is_front i.types j.types) _ g.1 in
-    record { subscription = texts_equal _ _ h.0; group = texts_equal _ _ g.0; types = f.0; names = f.1 }
+    record { subscription = eq_word _ _ h.0; group = eq_word _ _ g.0; types = f.0; names = f.1 }
 
 pub begun_back : (i j : ResourceId) → Begins i j → begins i j ≡ true
 begun_back i j h =
-    and_true _ _ (ap (bytes_eq i.subscription) (sym h.subscription) ∙ same_text i.subscription)
-    (and_true _ _ (ap (bytes_eq i.group) (sym h.group) ∙ same_text i.group) (and_true _ _ h.types h.names))
+    and_true _ _ (ap (bytes_eq i.subscription) (sym h.subscription) ∙ itself i.subscription)
+    (and_true _ _ (ap (bytes_eq i.group) (sym h.group) ∙ itself i.group) (and_true _ _ h.types h.names))
 
 pub names_longer : (i j : ResourceId) → begins i j ≡ true → length i.names ≤ length j.names
 names_longer i j e = let h = front_rest i.names j.names (begun i j e).names in

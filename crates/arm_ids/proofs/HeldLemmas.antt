@@ -13,6 +13,8 @@ use Rattle.std.proofs.lemmas.Map.Keys.{Less-from_sorted}
 use Rattle.std.proofs.lemmas.Map.Lookups.{exact_bytes}
 use Rattle.std.proofs.lemmas.Str.{encodes_same}
 use Rattle.std.proofs.lemmas.Slice.Eq.{bytes_eq-Decides}
+use Rattle.foundation.proofs.Choices.{cond_false, cond_true}
+use Rattle.foundation.proofs.Words.{word_eq}
 use Rattle.arm_ids.specs.Id.{HasKey}
 use Rattle.arm_ids.specs.Held.{HeldResource, held_by, find, id_cmp, IsInOrder, HaveKeys, put, without, AllBelow}
 use Rattle.arm_ids.specs.Held.{AllAbove, IsPlaceOf}
@@ -59,24 +61,13 @@ below_apart a b e = apart a b Less e (λ h. cc)
 above_apart : (a b : List ℕ) → id_cmp a b ≡ Greater → bytes_eq a b ≡ false
 above_apart a b e = apart a b Greater e (λ h. cc)
 
-pub same_id : (a b : List ℕ) → a ≡ b → bytes_eq a b ≡ true
-same_id a b e = (bytes_eq-Decides a b).1 e
-
 -- ---- past what is before an id, and among what is after it
-
-if_no : {A : Type 0} (b : Bool) (x y : A) → b ≡ false → cond b x y ≡ y
-if_no false x y e = refl
-if_no true x y e = absurd (true≢false e)
-
-if_yes : {A : Type 0} (b : Bool) (x y : A) → b ≡ true → cond b x y ≡ x
-if_yes true x y e = refl
-if_yes false x y e = absurd (true≢false (sym e))
 
 pub find_past : (id : List ℕ) (front rest : List HeldResource) → AllBelow id (map held_by front)
     → find id (front ++ rest) ≡ find id rest
 find_past id [] rest h = refl
 find_past id (r ∷ rs) rest h =
-    if_no _ _ _ (above_apart id (held_by r) (id_after (held_by r) id h.0)) ∙ find_past id rs rest h.1
+    cond_false _ _ _ (above_apart id (held_by r) (id_after (held_by r) id h.0)) ∙ find_past id rs rest h.1
 
 pub put_past : (r : HeldResource) (front rest : List HeldResource) → AllBelow (held_by r) (map held_by front)
     → put r (front ++ rest) ≡ front ++ put r rest
@@ -89,12 +80,12 @@ pub without_past : (id : List ℕ) (front rest : List HeldResource) → AllBelow
     → without id (front ++ rest) ≡ front ++ without id rest
 without_past id [] rest h = refl
 without_past id (r ∷ rs) rest h =
-    if_no _ _ _ (above_apart id (held_by r) (id_after (held_by r) id h.0))
+    cond_false _ _ _ (above_apart id (held_by r) (id_after (held_by r) id h.0))
     ∙ ap (λ xs. r ∷ xs) (without_past id rs rest h.1)
 
 pub find_above : (id : List ℕ) (rest : List HeldResource) → AllAbove id (map held_by rest) → find id rest ≡ None
 find_above id [] h = refl
-find_above id (r ∷ rs) h = if_no _ _ _ (below_apart id (held_by r) h.0) ∙ find_above id rs h.1
+find_above id (r ∷ rs) h = cond_false _ _ _ (below_apart id (held_by r) h.0) ∙ find_above id rs h.1
 
 pub put_above : (r : HeldResource) (rest : List HeldResource) → AllAbove (held_by r) (map held_by rest)
     → put r rest ≡ r ∷ rest
@@ -103,7 +94,7 @@ put_above r (s ∷ ss) h = ap (λ o. match_ordering o (r ∷ s ∷ ss) (r ∷ ss
 
 pub without_above : (id : List ℕ) (rest : List HeldResource) → AllAbove id (map held_by rest) → without id rest ≡ rest
 without_above id [] h = refl
-without_above id (r ∷ rs) h = if_no _ _ _ (below_apart id (held_by r) h.0) ∙ ap (λ xs. r ∷ xs) (without_above id rs h.1)
+without_above id (r ∷ rs) h = cond_false _ _ _ (below_apart id (held_by r) h.0) ∙ ap (λ xs. r ∷ xs) (without_above id rs h.1)
 
 -- ---- the order stays
 
@@ -244,7 +235,7 @@ find-without_by false id x r rs e above h =
     ap (cond (bytes_eq x (held_by r)) (Some r)) h
     ∙ none_then r (find x rs) (bytes_eq x id) (bytes_eq x (held_by r))
     (λ a b. true≢false
-    (sym (same_id id (held_by r) (sym ((bytes_eq-Decides x id).0 a) ∙ (bytes_eq-Decides x (held_by r)).0 b)) ∙ e))
+    (sym (word_eq id (held_by r) (sym ((bytes_eq-Decides x id).0 a) ∙ (bytes_eq-Decides x (held_by r)).0 b)) ∙ e))
 
 nothing : (b : Bool) → let none : Option HeldResource = None in none ≡ cond b none none
 nothing true = refl
@@ -270,11 +261,11 @@ pub find_at : (id : List ℕ) (rs : List HeldResource) (i : ℕ) (x : HeldResour
 unfolding IsStrictlySortedBy
 find_at id [] i x h l e same = absurd (omega (arith, l))
 find_at id (r ∷ rs) zero x h l e same =
-    if_yes _ _ _ (same_id id (held_by r) (sym same ∙ ap held_by e)) ∙ ap Some (sym e)
+    cond_true _ _ _ (word_eq id (held_by r) (sym same ∙ ap held_by e)) ∙ ap Some (sym e)
 find_at id (r ∷ rs) (suc i) x h l e same =
     let before : id_cmp (held_by r) id ≡ Less = ap (id_cmp (held_by r)) (sym same)
     ∙ all_at (λ y. id_cmp (held_by r) y ≡ Less) rs i x (omega arith) e h.0 in
-    if_no _ _ _ (above_apart id (held_by r) (id_after (held_by r) id before))
+    cond_false _ _ _ (above_apart id (held_by r) (id_after (held_by r) id before))
     ∙ find_at id rs i x h.1 (omega arith) e same
 
 pub put_at : (r : HeldResource) (rs : List HeldResource) (i : ℕ) (x : HeldResource) → IsInOrder rs → i < length rs
@@ -294,11 +285,11 @@ pub without_at : (id : List ℕ) (rs : List HeldResource) (i : ℕ) (x : HeldRes
     → x ≡ get_or rs i x → held_by x ≡ id → without id rs ≡ take i rs ++ drop (suc i) rs
 unfolding IsStrictlySortedBy
 without_at id [] i x h l e same = absurd (omega (arith, l))
-without_at id (r ∷ rs) zero x h l e same = if_yes _ _ _ (same_id id (held_by r) (sym same ∙ ap held_by e))
+without_at id (r ∷ rs) zero x h l e same = cond_true _ _ _ (word_eq id (held_by r) (sym same ∙ ap held_by e))
 without_at id (r ∷ rs) (suc i) x h l e same =
     let before : id_cmp (held_by r) id ≡ Less = ap (id_cmp (held_by r)) (sym same)
     ∙ all_at (λ y. id_cmp (held_by r) y ≡ Less) rs i x (omega arith) e h.0 in
-    if_no _ _ _ (above_apart id (held_by r) (id_after (held_by r) id before))
+    cond_false _ _ _ (above_apart id (held_by r) (id_after (held_by r) id before))
     ∙ ap (λ xs. r ∷ xs) (without_at id rs i x h.1 (omega arith) e same)
 
 -- an id that has no place among those that are held

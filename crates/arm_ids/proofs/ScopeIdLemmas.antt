@@ -5,7 +5,8 @@ use Rattle.std.proofs.Common.{Result, Ok, Err, IfOk}
 use Rattle.std.specs.List.{list_any}
 use Rattle.std.proofs.lemmas.List.{length-map}
 use Rattle.std.proofs.lemmas.Slice.Eq.{bytes_eq-Decides}
-use Rattle.foundation.proofs.TruthValues.{both, and_true, nor}
+use Rattle.std.proofs.lemmas.Bool.{not_from_false}
+use Rattle.foundation.proofs.TruthValues.{both, and_true, nor, of_not}
 use Rattle.arm_value.specs.Look.{fold, is_same_folded}
 use Rattle.arm_ids.specs.Segments.{segments, slashed, is_empty, has_slash}
 use Rattle.arm_ids.specs.Id.{IsPlain, IsIdOf, IsNoKey}
@@ -27,14 +28,6 @@ word_cut word text e cut =
     sym (has_slash-fold text)
     ∙ ap has_slash (sym ((bytes_eq-Decides (fold word) (fold text)).0 e)) ∙ has_slash-fold word ∙ cut
 
-true_of_not : (b : Bool) → not b ≡ true → b ≡ false
-true_of_not false e = refl
-true_of_not true e = absurd (true≢false (sym e))
-
-not_of_false : (b : Bool) → b ≡ false → not b ≡ true
-not_of_false false e = refl
-not_of_false true e = absurd (true≢false e)
-
 if_true : (b : Bool) (scope : Scope) → b ≡ true → cond b (Some scope) None ≡ Some scope
 if_true true scope e = refl
 if_true false scope e = absurd (true≢false (sym e))
@@ -47,10 +40,10 @@ found_if false scope found e = cc
 pair_parts : (word a s : List ℕ) → is_pair word a s ≡ true → (is_same_folded word a ≡ true) × (is_empty s ≡ false)
 pair_parts word a s e =
     let h = both (is_same_folded word a) (not (is_empty s)) e in
-    (h.0, true_of_not (is_empty s) h.1)
+    (h.0, of_not (is_empty s) h.1)
 
 pair_of : (word a s : List ℕ) → is_same_folded word a ≡ true → is_empty s ≡ false → is_pair word a s ≡ true
-pair_of word a s e f = and_true (is_same_folded word a) (not (is_empty s)) e (not_of_false (is_empty s) f)
+pair_of word a s e f = and_true (is_same_folded word a) (not (is_empty s)) e (not_from_false (is_empty s) f)
 
 nil_of : (s : List ℕ) → is_empty s ≡ true → s ≡ []
 nil_of [] e = refl

@@ -2,6 +2,7 @@
 use Rattle.std.proofs.Common.{◌≡◌, ◌≤◌, ℕ, suc, length, Bool, true, false, List, [], ◌∷◌, ◌++◌, refl, sym, ap, ap₂}
 use Rattle.std.proofs.Common.{◌∙◌, arith, subst, IsTrue, ◌↔◌, true≢false, append-nil}
 use Rattle.std.proofs.lemmas.List.{length-append}
+use Rattle.foundation.proofs.Words.{itself}
 use Rattle.arm_value.specs.Look.{fold}
 use Rattle.arm_ids.specs.Segments.{is_front, by_turns}
 use Rattle.arm_ids.specs.Id.{path, IsKey}
@@ -10,7 +11,7 @@ use Rattle.arm_ids.specs.Scope.{key_segments, IsSame, Covers, CoversGroup, IsInG
 use Rattle.arm_ids.specs.declared.id.ResourceId.{ResourceId}
 use Rattle.arm_ids.specs.declared.scope.Scope.{Scope}
 use Rattle.arm_ids.specs.declared.scope.Scope.TheVariants.{Subscription, Group, Resource}
-use Rattle.arm_ids.proofs.FrontLemmas.{front_rest, same_text, begun, begun_back, equal_from_front}
+use Rattle.arm_ids.proofs.FrontLemmas.{front_rest, begun, begun_back, equal_from_front}
 use Rattle.foundation.proofs.TruthValues.{and_true}
 
 small_subscription : (k : ResourceId) → IsKey k → fold k.subscription ≡ k.subscription
@@ -80,8 +81,8 @@ turns_front (x ∷ xs) (y ∷ ys) (u ∷ us) (v ∷ vs) rest l m e =
     let second : v ≡ y = cc in
     let others : by_turns us vs ≡ by_turns xs ys ++ rest = cc in
     let h = turns_front xs ys us vs rest (omega (arith, l)) (omega (arith, m)) others in (
-      ap (λ z. is_front (x ∷ xs) (z ∷ us)) first ∙ and_true _ _ (same_text x) h.0,
-      ap (λ z. is_front (y ∷ ys) (z ∷ vs)) second ∙ and_true _ _ (same_text y) h.1,
+      ap (λ z. is_front (x ∷ xs) (z ∷ us)) first ∙ and_true _ _ (itself x) h.0,
+      ap (λ z. is_front (y ∷ ys) (z ∷ vs)) second ∙ and_true _ _ (itself y) h.1,
     )
 
 path_front : (xs ys us vs rest : List (List ℕ)) → length xs ≡ suc (length ys) → length us ≡ suc (length vs)
@@ -92,7 +93,7 @@ path_front (x ∷ xs) ys (u ∷ us) vs rest l m e =
     let first : u ≡ x = cc in
     let others : by_turns us vs ≡ by_turns xs ys ++ rest = cc in
     let h = turns_front xs ys us vs rest (omega (arith, l)) (omega (arith, m)) others in
-    (ap (λ z. is_front (x ∷ xs) (z ∷ us)) first ∙ and_true _ _ (same_text x) h.0, h.1)
+    (ap (λ z. is_front (x ∷ xs) (z ∷ us)) first ∙ and_true _ _ (itself x) h.0, h.1)
 
 -- a key that covers another begins it
 pub key_covered : (k key : ResourceId) → IsKey k → IsKey key → Covers (Resource k) key → begins k key ≡ true

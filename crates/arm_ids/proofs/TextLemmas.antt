@@ -1,23 +1,17 @@
--- Texts as bytes and as characters: folding, emptiness, and the segments between slashes.
-use Rattle.std.proofs.Common.{◌≡◌, ◌<◌, ◌≤◌, ℕ, suc, length, get_or, Bool, true, false, ◌&&◌, eqb, ne_eqb, List, []}
+-- Texts as bytes and as characters: folding, and the segments between slashes.
+use Rattle.std.proofs.Common.{◌≡◌, ◌<◌, ℕ, suc, length, get_or, Bool, true, false, ◌&&◌, eqb, ne_eqb, List, []}
 use Rattle.std.proofs.Common.{◌∷◌, ◌++◌, map, chars, IsUtf8, refl, sym, ap, ap₂, ◌∙◌, arith, append-nil, cond, eq-eqb}
 use Rattle.std.proofs.Common.{true≢false, lit<, Bor}
 use lib.Utf8.{scalar, scalars, encode, encodes}
 use Rattle.std.specs.List.{slice_split, onto_first}
 use Rattle.std.proofs.lemmas.List.Splits.{slice_split-cons_yes, slice_split-cons_no}
 use Rattle.std.proofs.lemmas.Str.{encodes-chars, encodes_same, encode_ascii, inside_one, chars-encodes, chars-append}
-use Rattle.std.proofs.lemmas.Str.{scalars-chars, length-le-encodes, chars-nil}
+use Rattle.std.proofs.lemmas.Str.{scalars-chars, chars-nil}
 use Rattle.std.proofs.lemmas.Bool.Decides.{nat_tests}
+use Rattle.foundation.proofs.TruthValues.{second_of_both}
 use Rattle.arm_value.specs.Look.{fold}
 use Rattle.arm_value.proofs.TextLemmas.{fold-chars}
-use Rattle.arm_ids.specs.Segments.{is_slash, segments, is_empty}
-
--- a text is empty where its bytes are none
-pub empty_by_bytes : (cs bs : List ℕ) → bs ≡ encodes cs → eqb (length bs) 0 ≡ is_empty cs
-empty_by_bytes [] bs e = rw e refl
-empty_by_bytes (c ∷ cs) bs e =
-    ne_eqb (length bs) 0 (λ none. let long : suc (length cs) ≤ length (encodes (c ∷ cs)) = length-le-encodes (c ∷ cs)
-    in omega (arith, ap length e, long, none))
+use Rattle.arm_ids.specs.Segments.{is_slash, segments}
 
 -- folding the bytes of a text folds its characters
 pub folded_chars : (cs bs : List ℕ) → IsUtf8 bs → encodes cs ≡ fold bs → cs ≡ fold (chars bs)
@@ -57,11 +51,7 @@ valid_first c cs e = valid (scalar c) (scalars cs) e
     valid false b e = e
 
 valid_rest : (c : ℕ) (cs : List ℕ) → scalars (c ∷ cs) ≡ true → scalars cs ≡ true
-valid_rest c cs e = valid (scalar c) (scalars cs) e
-  where
-    valid : (a b : Bool) → (a && b) ≡ true → b ≡ true
-    valid true b e = e
-    valid false b e = absurd (true≢false (sym e))
+valid_rest c cs e = second_of_both (scalar c) (scalars cs) e
 
 one : (c : ℕ) → encodes (c ∷ []) ≡ encode c
 one c = append-nil (encode c)

@@ -1,6 +1,7 @@
 -- The segments of a text: the parts between its slashes.
 use Rattle.std.specs.Prelude.{ℕ, ◌==◌, ◌&&◌, bytes_eq, Bool, true, false, List, [], ◌∷◌, ◌++◌}
 use Rattle.std.specs.List.{slice_split, list_any}
+pub use Rattle.arm_value.specs.Look.{is_empty}
 
 -- whether the character is a slash
 abbrev pub is_slash : ℕ → Bool
@@ -19,11 +20,6 @@ slashed (s ∷ ss) = 47 ∷ (s ++ slashed ss)
 abbrev pub joined : List (List ℕ) → List ℕ
 joined [] = []
 joined (s ∷ ss) = s ++ slashed ss
-
--- whether the segment has no character
-abbrev pub is_empty : List ℕ → Bool
-is_empty [] = true
-is_empty (c ∷ cs) = false
 
 -- whether the text has a slash in it
 abbrev pub has_slash : List ℕ → Bool

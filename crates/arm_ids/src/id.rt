@@ -9,8 +9,8 @@ ghost use Rattle.arm_ids.specs.Id.{IsPlain, IsIdOf, Refuses};
 
 use crate::fault::IdFault;
 use crate::segment::{
-    all_folded, copy_pair, folded, has_empty_segment, is_blank, is_front, names_of, push_segment,
-    same_texts, segments, slashed, types_of,
+    all_folded, copy_pair, folded, has_empty_segment, is_front, names_of, push_segment, same_texts,
+    segments, slashed, types_of,
 };
 use arm_value::{OutOfMemory, Text, Texts, copy_texts};
 use std::alloc::Global;
@@ -202,8 +202,8 @@ impl ResourceId {
     fn has_empty_segment(&self) -> bool
         ensures { result ≡ has_empty_segment self.now }
     {
-        is_blank(&self.subscription)
-            || is_blank(&self.group)
+        self.subscription.is_empty()
+            || self.group.is_empty()
             || has_empty_segment(self.types.as_slice())
             || has_empty_segment(self.names.as_slice())
     }
@@ -319,7 +319,7 @@ fn spelled(alloc: Global, segments: &[Text]) -> Result<Option<ResourceId>, OutOf
     else {
         return Ok(None);
     };
-    if !is_blank(root) || !are_words(subscriptions, groups, providers) {
+    if !root.is_empty() || !are_words(subscriptions, groups, providers) {
         return Ok(None);
     }
     let id = read_parts(alloc, subscription, group, provider, path)?;

@@ -11,7 +11,7 @@ ghost use Rattle.arm_ids.specs.declared.scope.Scope.TheVariants.{Subscription, G
 
 use crate::fault::IdFault;
 use crate::key::Key;
-use crate::segment::{is_blank, segments, slashed};
+use crate::segment::{segments, slashed};
 use arm_value::{OutOfMemory, Text, folded_eq};
 use std::alloc::Global;
 
@@ -240,7 +240,7 @@ fn read_group(
 fn is_start(root: &Text, word: &Text, name: &Text) -> bool
     ensures { result ≡ is_start root.now word.now name.now }
 {
-    if !is_blank(root) {
+    if !root.is_empty() {
         return false;
     }
     is_pair("subscriptions", word, name)
@@ -261,7 +261,7 @@ fn is_group_start(root: &Text, word: &Text, name: &Text, group_word: &Text, grou
 fn is_pair(word: &str, segment: &Text, name: &Text) -> bool
     ensures { result ≡ is_pair (chars word.now) segment.now name.now }
 {
-    segment.equals_ignore_case(word) && !is_blank(name)
+    segment.equals_ignore_case(word) && !name.is_empty()
 }
 
 fn group_copy(alloc: Global, subscription: &Text, group: &Text) -> Result<Scope, OutOfMemory>

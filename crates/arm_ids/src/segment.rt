@@ -73,18 +73,11 @@ pub fn has_empty_segment(segments: &[Text]) -> bool
     ensures { result ≡ list_any is_empty segments.now }
 {
     for segment in segments {
-        if is_blank(segment) {
+        if segment.is_empty() {
             return true;
         }
     }
     false
-}
-
-/// Whether the text is empty.
-pub(crate) fn is_blank(text: &Text) -> bool
-    ensures { result ≡ is_empty text.now }
-{
-    text.as_str().is_empty()
 }
 
 // Adds the text.

@@ -8,8 +8,7 @@ ghost use Rattle.plan_telling.specs.Symbols.{IsComplete};
 ghost use Rattle.plan_faults.specs.Faults.{IsFault};
 ghost use Rattle.fault_exactness.specs.Exact.{HaveOwnKeys, NoneExtra, NameOneKey};
 
-use argument_faults::check_arguments;
-use dependency_faults::check_dependencies;
+use dependency_faults::{check_arguments, check_dependencies};
 use key_faults::check_keys;
 use plan_faults::PlanFault;
 use plan_telling::register::Register;

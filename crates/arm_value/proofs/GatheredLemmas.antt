@@ -8,11 +8,11 @@ use Rattle.arm_value.specs.Json.{items_nesting, members_nesting}
 use Rattle.arm_value.specs.Gathered.{item_before, pair_before}
 use Rattle.std.specs.List.{AllByRecursion}
 use Rattle.std.specs.List.Sorted.{IsStrictlySortedBy}
+use Rattle.foundation.proofs.Lists.{next_item}
 use Rattle.arm_value.proofs.GatherLemmas.{front_in_order}
 use Rattle.arm_value.specs.View.{json, member}
 use Rattle.arm_value.specs.declared.value.Value.{Value}
 use Rattle.arm_value.specs.declared.value.Field.{Field}
-use Rattle.arm_value.proofs.SetLemmas.{drop_from}
 use Rattle.arm_value.proofs.JsonLemmas as parts
 
 abbrev pub ValueNests : ℕ → Option Json → Type 0
@@ -138,7 +138,7 @@ pub member_last : (found : List Member) (fs : List Field) (i : ℕ) (f : Field) 
 member_last found fs i f name k o h is e =
     subst (λ (n : List ℕ). IsInOrder (found ++ (n, k) ∷ [])) (sym e)
     (next_last found f.name (json f.value) k (map member (drop (i + 1) fs))
-    (subst (λ ds. IsInOrder (found ++ map member ds)) (drop_from fs i f h is) o))
+    (subst (λ ds. IsInOrder (found ++ map member ds)) (next_item fs i f h is) o))
 
 pub members_ordered : (found new : List Member) (fs : List Field) (i : ℕ) (f : Field) (name : List ℕ) (k : Json)
     → IsInOrder (found ++ map member (drop i fs)) → i < length fs → f ≡ get_or fs i f → name ≡ f.name
@@ -146,6 +146,6 @@ pub members_ordered : (found new : List Member) (fs : List Field) (i : ℕ) (f :
     → IsInOrder (new ++ map member (drop (i + 1) fs))
 members_ordered found new fs i f name k o h is e n =
     let last = with_value found f.name (json f.value) k (map member (drop (i + 1) fs))
-    (subst (λ ds. IsInOrder (found ++ map member ds)) (drop_from fs i f h is) o) in
+    (subst (λ ds. IsInOrder (found ++ map member ds)) (next_item fs i f h is) o) in
     subst (λ ms. IsInOrder (ms ++ map member (drop (i + 1) fs))) (ap (λ (l : List ℕ). found ++ (l, k) ∷ []) (sym e)
     ∙ sym n) last

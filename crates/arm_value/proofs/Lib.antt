@@ -11,3 +11,4 @@ pub mod SetLemmas
 pub mod TextLemmas
 pub mod TreeLemmas
 pub mod WriteLemmas
+pub mod MemberLemmas

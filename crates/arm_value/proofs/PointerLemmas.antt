@@ -3,6 +3,7 @@ use Rattle.std.proofs.Common.{◌≡◌, ◌∙◌, ℕ, List, [], ◌∷◌, �
 use Rattle.std.proofs.Common.{append_assoc}
 use Rattle.std.proofs.lemmas.List.{append-nil}
 use Rattle.std.proofs.lemmas.Str.{encodes-append, encodes-chars, encodes_same}
+use Rattle.foundation.proofs.Lists.{same_map}
 use lib.Utf8.{encode}
 use Rattle.arm_value.specs.Pointer.{token, token_character, step}
 
@@ -15,13 +16,9 @@ pub token-push : (cs : List ℕ) (c : ℕ) → encode_utf8_all (token cs) ++ enc
     ≡ encode_utf8_all (token (cs ++ c ∷ []))
 token-push cs c = sym (encodes-append (token cs) (token_character c)) ∙ ap encode_utf8_all (sym (token-last cs c))
 
-map-itself : (xs : List ℕ) → map (λ x. x) xs ≡ xs
-map-itself [] = refl
-map-itself (x ∷ xs) = ap (λ r. x ∷ r) (map-itself xs)
-
 pub whole_name : (bytes yielded all : List ℕ) → map (λ x. x) yielded ≡ all → bytes ≡ encode_utf8_all (token yielded)
     → bytes ≡ encode_utf8_all (token all)
-whole_name bytes yielded all e b = b ∙ ap (λ cs. encode_utf8_all (token cs)) (sym (map-itself yielded) ∙ e)
+whole_name bytes yielded all e b = b ∙ ap (λ cs. encode_utf8_all (token cs)) (sym (same_map yielded) ∙ e)
 
 -- texts with the same bytes are the same
 pub text_is : (text bytes wanted : List ℕ) → encode_utf8_all text ≡ bytes → bytes ≡ encode_utf8_all wanted

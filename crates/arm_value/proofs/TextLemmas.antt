@@ -1,15 +1,22 @@
 -- Texts as characters and as bytes.
-use Rattle.std.proofs.Common.{◌≡◌, ◌≤◌, ◌<◌, ℕ, suc, length, get_or, Bool, true, false, nat_lt, List, [], ◌∷◌, ◌++◌}
+use Rattle.std.proofs.Common.{◌≡◌, ◌≤◌, ◌<◌, ℕ, suc, length, get_or, Bool, true, false, nat_lt, List, [], ◌∷◌, ◌++◌, eqb, ne_eqb}
 use Rattle.std.proofs.Common.{chars, IsUtf8, bytes_eq, refl, sym, ap, ◌∙◌, arith, append-nil, ◌⊎◌, inl, inr, ap₂}
 use lib.Utf8.{encode, encodes}
 use Rattle.std.specs.Char.{to_ascii_lowercase}
-use Rattle.std.proofs.lemmas.Str.{encodes-chars, encodes_same, encode_ascii, inside_one}
+use Rattle.std.proofs.lemmas.Str.{encodes-chars, encodes_same, encode_ascii, inside_one, length-le-encodes}
 use Rattle.std.proofs.lemmas.Slice.Eq.{bytes_eq-Decides}
 use Rattle.std.proofs.lemmas.Bool.Decides.{nat_tests}
-use Rattle.arm_value.specs.Look.{fold, is_same_folded}
+use Rattle.arm_value.specs.Look.{fold, is_same_folded, is_empty}
 use Rattle.foundation.proofs.TruthValues.{both_ways}
 use Rattle.std.specs.List.{list_all}
 use Rattle.foundation.proofs.AsciiWords.{utf8_word, word}
+
+-- a text is empty where its bytes are none
+pub empty_by_bytes : (cs bs : List ℕ) → bs ≡ encodes cs → eqb (length bs) 0 ≡ is_empty cs
+empty_by_bytes [] bs e = rw e refl
+empty_by_bytes (c ∷ cs) bs e =
+    ne_eqb (length bs) 0 (λ none. let long : suc (length cs) ≤ length (encodes (c ∷ cs)) = length-le-encodes (c ∷ cs)
+    in omega (arith, ap length e, long, none))
 
 chars_same : (a b : List ℕ) → IsUtf8 a → IsUtf8 b → chars a ≡ chars b → a ≡ b
 chars_same a b u v e = sym (encodes-chars a u) ∙ ap encodes e ∙ encodes-chars b v

@@ -1,8 +1,13 @@
 -- What a name finds in a value.
-use Rattle.std.specs.Prelude.{ℕ, List, map, bytes_eq, Bool, Option, Some, None, if◌then◌else◌}
+use Rattle.std.specs.Prelude.{ℕ, List, [], ◌∷◌, map, bytes_eq, Bool, true, false, Option, Some, None, if◌then◌else◌}
 use Rattle.std.specs.Char.{to_ascii_lowercase}
 use Rattle.arm_value.specs.Json.{Json, null, bool, int, text, array, object, Pairs, no_pairs, pair}
 use Rattle.std.specs.List.{list_any}
+
+-- whether the text has no character
+abbrev pub is_empty : List ℕ → Bool
+is_empty [] = true
+is_empty (c ∷ cs) = false
 
 -- the text with small letters in place of A to Z
 abbrev pub fold : List ℕ → List ℕ

@@ -49,7 +49,7 @@ fn words<R: Env + Alloc<A = Global>>(rt: &R) -> Result<Vec<String>, AllocError> 
 }
 
 // So many seats over the catalogue.
-#[tactic(auto, using(deploy_cli::proofs::SeatLemmas::fresh))]
+#[tactic(auto, using(worker_crew::proofs::SeatLemmas::fresh))]
 fn crew(alloc: Global, count: u32) -> Result<Vec<Seat<Catalog>>, AllocError>
     ensures { spec.IfOk result (spec.HasSeats count) }
 {

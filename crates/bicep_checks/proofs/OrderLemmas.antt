@@ -1,6 +1,7 @@
 -- Faults kind by kind.
-use Rattle.std.proofs.Common.{◌≡◌, ◌<◌, ◌+◌, ◌⊎◌, inl, inr, ℕ, zero, suc, List, Some, None, refl, ap, arith}
+use Rattle.std.proofs.Common.{◌≡◌, ◌+◌, inl, inr, ℕ, zero, suc, List, Some, None, refl, arith}
 use Rattle.std.specs.Prelude.{Result, Ok, Err, IfErr, OnOk}
+use Rattle.foundation.proofs.Comparisons.{lt_or_is}
 use Rattle.bicep_program.specs.Program.{ProgramFile}
 use Rattle.bicep_arguments.specs.declared.fault.ArgumentFault.{ArgumentFault}
 use Rattle.bicep_arguments.specs.declared.fault.ArgumentFault.TheVariants as argument
@@ -17,14 +18,6 @@ use Rattle.bicep_checks.specs.declared.fault.CheckFault.TheVariants as fault
 use Rattle.bicep_checks.proofs.FaultLemmas.{of_file, of_none, none_unknown, of_unknown, of_circle, none_circle}
 use Rattle.bicep_checks.proofs.FaultLemmas.{of_place, none_place}
 
--- below the next number, or that number
-below_or_same : (a n : ℕ) → a < n + 1 → (a < n) ⊎ (a ≡ n)
-below_or_same zero zero r = inr refl
-below_or_same zero (suc n) r = inl (omega arith)
-below_or_same (suc a) zero r = absurd (omega (arith, r))
-below_or_same (suc a) (suc n) r =
-    elim (below_or_same a n (omega (arith, r))) [ inl p ↦ inl (omega (arith, p)) | inr e ↦ inr (ap suc e) ]
-
 module _ (files : List ProgramFile) where
   -- no fault of that kind holds
   abbrev NoneOf : ℕ → Type 0
@@ -36,7 +29,7 @@ module _ (files : List ProgramFile) where
   -- one kind more
   more : (n : ℕ) → HasNone n files → NoneOf n → HasNone (n + 1) files
   more n before here other r h =
-      elim (below_or_same (rank other) n r) [ inl p ↦ before other p h | inr e ↦ here other e h ]
+      elim (lt_or_is (rank other) n r) [ inl p ↦ before other p h | inr e ↦ here other e h ]
 
   -- ---- names
 

@@ -8,7 +8,7 @@ use Rattle.bicep_type_texts.specs.Files.{bad_type}
 use Rattle.bicep_found.specs.Found.{found}
 use Rattle.bicep_placed.specs.Files.{misplaced_link}
 use Rattle.bicep_circles.specs.Links.{links}
-use Rattle.bicep_mentions.specs.Entries.{misplaced_variable}
+use Rattle.bicep_states.specs.Entries.{misplaced_variable}
 use Rattle.bicep_program.specs.Circles.{IsCircle, Links}
 use Rattle.bicep_program.specs.Program.{ProgramFile}
 use Rattle.bicep_arguments.specs.Arguments.{bad_argument}

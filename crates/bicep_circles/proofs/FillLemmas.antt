@@ -1,19 +1,9 @@
 -- A table that is filled symbol by symbol, in an order in which each comes after those that its declaration mentions.
 use Rattle.std.proofs.Common.{◌≡◌, ◌<◌, ◌≤◌, ◌+◌, ◌⊎◌, inl, inr, ℕ, zero, suc, List, length, sym, ap, subst}
 use Rattle.std.proofs.Common.{arith, get_or}
-use Rattle.std.proofs.lemmas.Bool.{cases_eq}
+use Rattle.std.proofs.lemmas.Bool.{cases_eq, cases_lt}
 use Rattle.bicep_program.specs.Circles.{Links}
 use Rattle.bicep_circles.specs.Orders.{IsLinkOrder}
-
-pub by_order : (m n : ℕ) → (m < n) ⊎ (n ≤ m)
-by_order zero zero = inr (omega arith)
-by_order zero (suc n) = inl (omega arith)
-by_order (suc m) zero = inr (omega arith)
-by_order (suc m) (suc n) = by (by_order m n)
-  where
-    by : (m < n) ⊎ (n ≤ m) → (suc m < suc n) ⊎ (suc n ≤ suc m)
-    by (inl h) = inl (omega (arith, h))
-    by (inr h) = inr (omega (arith, h))
 
 -- the table is right of the first symbols of the order, and of each number that is no symbol's
 pub record IsFilled (lists : List (List ℕ)) (order : List ℕ) (T : Type 0) (IsRight : T → ℕ → Type 0) (t : T) (i : ℕ)
@@ -26,7 +16,7 @@ module _ (lists : List (List ℕ)) (order : List ℕ) (o : IsLinkOrder lists ord
   -- it is right of each symbol that the declaration of the next one mentions
   pub known_before : (t : T) (i m : ℕ) → i < length order → IsFilled lists order T IsRight t i
       → Links lists (get_or order i 0) m → IsRight t m
-  known_before t i m h f c = by (by_order m (length lists))
+  known_before t i m h f c = by (cases_lt m (length lists))
     where
       by : (m < length lists) ⊎ (length lists ≤ m) → IsRight t m
       by (inl here) =
@@ -48,7 +38,7 @@ module _ (lists : List (List ℕ)) (order : List ℕ) (o : IsLinkOrder lists ord
       by_place : (j : ℕ) → j < i + 1 → (get_or order j 0 ≡ get_or order i 0)
           ⊎ (get_or order j 0 ≡ get_or order i 0 → ⊥) → IsRight u (get_or order j 0)
       by_place j lt (inl e) = subst (IsRight u) (sym e) right
-      by_place j lt (inr ne) = stays (get_or order j 0) ne (f.same j (before (by_order j i)))
+      by_place j lt (inr ne) = stays (get_or order j 0) ne (f.same j (before (cases_lt j i)))
         where
           before : (j < i) ⊎ (i ≤ j) → j < i
           before (inl low) = low
@@ -60,7 +50,7 @@ module _ (lists : List (List ℕ)) (order : List ℕ) (o : IsLinkOrder lists ord
 
   -- once the order has ended, the table is right of every number
   pub filled_all : (t : T) (i : ℕ) → length order ≤ i → IsFilled lists order T IsRight t i → (n : ℕ) → IsRight t n
-  filled_all t i h f n = by (by_order n (length lists))
+  filled_all t i h f n = by (cases_lt n (length lists))
     where
       by : (n < length lists) ⊎ (length lists ≤ n) → IsRight t n
       by (inl here) =

@@ -5,11 +5,11 @@ use Rattle.std.specs.Prelude.{Contains}
 use Rattle.std.specs.declared.vec.Vec.{Vec}
 use Rattle.std.specs.declared.alloc.Global.{Global}
 use Rattle.std.specs.List.{AllByRecursion}
+use Rattle.std.proofs.lemmas.List.{length-map}
 use Rattle.foundation.proofs.Comparisons.{lt_of_true, le_of_false}
 use Rattle.depend_graph.specs.Shape.{Shape}
 use Rattle.bicep_program.specs.Circles.{IsCircle, Chain, Links}
 use Rattle.bicep_program.specs.Graphs.{AreWithin, with_links, unlinked}
-use Rattle.bicep_program.proofs.FileLemmas.{length-map}
 use Rattle.bicep_program.proofs.GraphLemmas.{graph_of_lists}
 use Rattle.bicep_circles.specs.Nodes.{below, all_below}
 use Rattle.foundation.proofs.Lists.{contained_further}
@@ -36,7 +36,7 @@ pub all_within : (vs : List (Vec ℕ Global)) (lists : List (List ℕ)) → map 
     → AreWithin (length vs) (map items_of vs)
 all_within vs lists e =
     let size : length vs ≡ length lists =
-    sym (length-map items_of vs) ∙ ap length e ∙ length-map (below (length lists)) lists in
+    sym (length-map vs items_of) ∙ ap length e ∙ length-map lists (below (length lists)) in
     subst (λ n. AreWithin n (map items_of vs)) (sym size)
     (subst (AreWithin (length lists)) (sym e) (lists_within (length lists) lists))
 
@@ -51,7 +51,7 @@ within_at n (x ∷ vs) (suc i) v h e w = within_at n vs i v (omega (arith, h)) e
 pub graph_is : (vs : List (Vec ℕ Global)) (g : Shape) → g ≡ with_links (unlinked (length vs)) 0 (map items_of vs)
     → g ≡ graph_of_lists (map items_of vs)
 unfolding graph_of_lists
-graph_is vs g h = h ∙ ap (λ n. with_links (unlinked n) 0 (map items_of vs)) (sym (length-map items_of vs))
+graph_is vs g h = h ∙ ap (λ n. with_links (unlinked n) 0 (map items_of vs)) (sym (length-map vs items_of))
 
 -- ---- circles stay
 

@@ -2,6 +2,7 @@
 use Rattle.std.proofs.Common.{◌≡◌, ◌+◌, ◌⊎◌, inl, inr, ℕ, true, true≢false, List, []}
 use Rattle.std.proofs.Common.{◌∷◌, length, refl, sym, subst, ◌∙◌, arith}
 use Rattle.std.specs.Prelude.{Result, Ok, Err, IfOk}
+use Rattle.std.proofs.lemmas.List.{length-map}
 use Rattle.depend_graph.specs.Shape.{Shape, is_done}
 use Rattle.depend_graph.specs.Orders.{IsOrder, IsSorted, IsAmong, marked}
 use Rattle.depend_graph.specs.declared.order.Sorted.{Sorted}
@@ -9,7 +10,6 @@ use Rattle.depend_graph.specs.declared.order.Sorted.TheVariants as sorted
 use Rattle.depend_graph.proofs.Keeping.{length-replicate}
 use Rattle.depend_graph.proofs.Walking.{none_marked}
 use Rattle.bicep_program.specs.Graphs.{with_needs, with_links, unlinked}
-use Rattle.bicep_program.proofs.FileLemmas.{length-map}
 use Rattle.bicep_program.proofs.GraphLemmas.{graph_of_lists, size_needs, circle_from}
 use Rattle.bicep_program.proofs.GraphLemmas.{need_of_link, none_done}
 use Rattle.bicep_circles.specs.Nodes.{below, all_below}
@@ -42,7 +42,7 @@ order_is lists order o = record {
 }
   where
     size : length (graph_of_lists (all_below lists)).needs ≡ length lists
-    size = size_of_graph (all_below lists) ∙ length-map (below (length lists)) lists
+    size = size_of_graph (all_below lists) ∙ length-map lists (below (length lists))
 
     unmarked : marked (graph_of_lists (all_below lists)).done ≡ 0
     unmarked = none_marked 0 (graph_of_lists (all_below lists)).done (none_done (all_below lists))

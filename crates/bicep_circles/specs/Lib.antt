@@ -2,3 +2,13 @@ pub mod Mentions
 pub mod Links
 pub mod Nodes
 pub mod Orders
+pub use Rattle.bicep_declared.specs.Declarations
+pub use Rattle.bicep_program.specs.Circles
+pub use Rattle.bicep_names.specs.Resolve
+pub use Rattle.bicep_names.specs.declared.kind.Kind
+pub use Rattle.bicep_resolved.specs.Source
+pub use Rattle.bicep_resolved.specs.Target
+pub use Rattle.bicep_resolved.specs.declared.leaf.Field
+pub use Rattle.bicep_resolved.specs.declared.leaf.Meaning
+pub use Rattle.bicep_declared.specs.Declare
+pub use Rattle.bicep_declared.specs.Sites

@@ -2,3 +2,11 @@ pub mod Declarations
 pub mod Sites
 pub mod Declare
 pub mod View
+pub use Rattle.bicep_names.specs.Functions
+pub use Rattle.bicep_names.specs.declared.kind.Kind
+pub use Rattle.bicep_resolved.specs.Source
+pub use Rattle.bicep_resolved.specs.Table
+pub use Rattle.bicep_resolved.specs.Target
+pub use Rattle.bicep_resolved.specs.declared.leaf.Field
+pub use Rattle.bicep_resolved.specs.declared.leaf.Meaning
+pub use Rattle.bicep_resolved.specs.declared.leaf.Selector

@@ -1,5 +1,5 @@
 // The decorators of a file.
-ghost use Rattle.std.specs.Prelude.{◌≡◌, bytes_eq, map};
+ghost use Rattle.std.specs.Prelude.{◌≡◌, map};
 ghost use Rattle.bicep_tree.specs.Tree as tree;
 ghost use Rattle.bicep_tree.specs.View as view;
 ghost use Rattle.bicep_decorators.specs.Decorators.{function_text, decorator_name, decorator_at, admits, is_allowed};
@@ -57,18 +57,12 @@ fn is_allowed(place: Place, decorator: &Decorator) -> bool
     admits(place, kind, decorator.arguments.as_slice())
 }
 
-fn is_same(name: &Text, other: &Text) -> bool
-    ensures { result ≡ bytes_eq name.now other.now }
-{
-    name.as_str() == other.as_str()
-}
-
 // Whether one of these decorators has the name.
 fn is_among(decorators: &[Decorator], name: &Text) -> bool
     ensures { result ≡ is_among (map (λ d. decorator_name (view.decorator_of d)) decorators.now) name.now }
 {
     for decorator in decorators {
-        if is_same(name, decorator_name(decorator)) {
+        if name.is_same(decorator_name(decorator)) {
             return true;
         }
     }

@@ -5,11 +5,11 @@ use Rattle.std.proofs.Math.ListN.{set}
 use Rattle.std.proofs.lemmas.Grind.{get_or-set_at}
 use Rattle.std.proofs.lemmas.List.{get_or-set_other, length-set}
 use Rattle.depend_graph.proofs.Keeping.{get_or-replicate, length-replicate}
-use Rattle.bicep_names.specs.declared.kind.Kind.{Kind}
+use Rattle.bicep_declared.specs.Kind.{Kind}
 use Rattle.bicep_declared.specs.Declarations.{DeclaredTree}
-use Rattle.bicep_circles.specs.Links.{links}
-use Rattle.bicep_circles.specs.Orders.{IsLinkOrder}
-use Rattle.bicep_circles.proofs.FillLemmas as fill
+use Rattle.bicep_mentions.specs.Links.{links}
+use Rattle.bicep_mentions.specs.Orders.{IsLinkOrder}
+use Rattle.bicep_mentions.proofs.FillLemmas as fill
 use Rattle.bicep_mentions.specs.Through.{mentioning}
 use Rattle.bicep_mentions.proofs.ThroughLemmas.{nothing}
 use Rattle.bicep_mentions.proofs.OrderLemmas.{mentions_settle, has_place}

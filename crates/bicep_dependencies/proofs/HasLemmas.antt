@@ -4,11 +4,8 @@ use Rattle.std.proofs.Common.{Ordering, Less, Equal, Greater, nat_cmp}
 use Rattle.std.specs.BTreeSet.{insert_key}
 use Rattle.std.specs.Ordering.{match_ordering}
 use Rattle.std.proofs.lemmas.Bool.Decides.{nat_tests}
+use Rattle.foundation.proofs.TruthValues.{or_again}
 use Rattle.bicep_dependencies.specs.Dependencies.{has}
-
-twice : (a b : Bool) → (a || b) ≡ (a || (a || b))
-twice true b = refl
-twice false b = refl
 
 pub swapped : (a b c : Bool) → (a || (b || c)) ≡ (b || (a || c))
 swapped true true c = refl
@@ -21,7 +18,7 @@ has_by : (o : Ordering) (k x : ℕ) (xs : List ℕ) (n : ℕ) → nat_cmp k x �
 has_by Less k x xs n e h = refl
 has_by Equal k x xs n e h =
     let same : k ≡ x = grind (arith, nat_tests) in
-    subst (λ y. has (x ∷ xs) n ≡ ((y == n) || has (x ∷ xs) n)) (sym same) (twice (x == n) (has xs n))
+    subst (λ y. has (x ∷ xs) n ≡ ((y == n) || has (x ∷ xs) n)) (sym same) (or_again (x == n) (has xs n))
 has_by Greater k x xs n e h = ap (λ b. (x == n) || b) h ∙ swapped (x == n) (k == n) (has xs n)
 
 -- a set with one number more

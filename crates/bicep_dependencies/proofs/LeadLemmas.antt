@@ -3,14 +3,14 @@ use Rattle.std.proofs.Common.{◌≡◌, ◌==◌, ◌&&◌, ◌||◌, ℕ, zero
 use Rattle.std.proofs.Common.{Option, Some, None, refl, sym, ap, ap₂, ◌∙◌, arith}
 use Rattle.std.specs.Prelude.{Contains, slice_get, slice_index_or}
 use Rattle.std.specs.List.{list_any}
-use Rattle.std.proofs.lemmas.Bool.Decides.{nat_tests}
+use Rattle.foundation.proofs.Comparisons.{eq_of_true}
 use Rattle.bicep_declared.specs.Declarations.{DeclaredTree}
 use Rattle.bicep_declared.specs.Declarations as d
 use Rattle.bicep_mentions.specs.Entries.{is_variable}
 use Rattle.bicep_mentions.specs.Through.{Mentioning, leads_to}
 use Rattle.bicep_dependencies.specs.Dependencies.{is_target, has}
 use Rattle.bicep_dependencies.specs.Steps.{leads_by, any_leads}
-use Rattle.foundation.proofs.TruthValues.{and_false_is}
+use Rattle.foundation.proofs.TruthValues.{and_false_is, and_shared}
 
 none_by : (t b : Bool) → (b ≡ true → t ≡ false) → false ≡ (t && (b || false))
 none_by true true h = absurd (true≢false (h refl))
@@ -28,17 +28,10 @@ target_by true false h = refl
 target_by false true h = sym (h refl)
 target_by false false h = refl
 
-same_number : (m n : ℕ) → (m == n) ≡ true → m ≡ n
-same_number m n e = grind (arith, nat_tests)
-
-shared : (t a b : Bool) → ((t && a) || (t && b)) ≡ (t && (a || b))
-shared true a b = refl
-shared false a b = refl
-
 module _ (ds : List DeclaredTree) (mentioned : Mentioning) (n : ℕ) where
   target_of : (m : ℕ) (o : Option DeclaredTree) → slice_get ds m ≡ o → (m == n) ≡ true
       → is_target (slice_get ds n) ≡ is_target o
-  target_of m o e q = ap (λ k. is_target (slice_get ds k)) (sym (same_number m n q)) ∙ ap is_target e
+  target_of m o e q = ap (λ k. is_target (slice_get ds k)) (sym (eq_of_true m n q)) ∙ ap is_target e
 
   leads_as : (m : ℕ) (o : Option DeclaredTree) (list : List ℕ) → slice_get ds m ≡ o
       → has list n ≡ (is_target (slice_get ds n) && mentioned m n)
@@ -65,4 +58,4 @@ module _ (ds : List DeclaredTree) (mentioned : Mentioning) (n : ℕ) where
       ap₂ (λ a b. a || b)
       (leads_as m (slice_get ds m) (slice_index_or lists m []) refl (h m (zero, omega arith, refl)))
       (any_leads_as lists ms (λ x c. let within = c.1 in h x (suc c.0, omega (arith, within), c.2)))
-      ∙ shared (is_target (slice_get ds n)) (leads_to ds mentioned n m) (list_any (leads_to ds mentioned n) ms)
+      ∙ and_shared (is_target (slice_get ds n)) (leads_to ds mentioned n m) (list_any (leads_to ds mentioned n) ms)

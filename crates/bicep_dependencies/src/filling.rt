@@ -2,15 +2,15 @@
 ghost use Rattle.std.specs.Prelude.{◌≡◌, ◌<◌, [], length, map, replicate, slice_set, IfOk, OnOk};
 ghost use Rattle.depend_graph.specs.Sets.{keys_of_each};
 ghost use Rattle.bicep_declared.specs.View.{declared_tree};
-ghost use Rattle.bicep_circles.specs.Links.{links};
-ghost use Rattle.bicep_circles.specs.Orders.{IsLinkOrder};
+ghost use Rattle.bicep_mentions.specs.Links.{links};
+ghost use Rattle.bicep_mentions.specs.Orders.{IsLinkOrder};
 ghost use Rattle.bicep_dependencies.specs.Dependencies.{AreDependencies};
 ghost use Rattle.bicep_dependencies.specs.Steps.{IsNext};
 
 use crate::collecting::set_of;
 use arm_value::OutOfMemory;
-use bicep_circles::symbol_links;
 use bicep_declared::Declared;
+use bicep_mentions::symbol_links;
 use bicep_symbols::Entry;
 use std::alloc::Global;
 use std::collections::BTreeSet;

@@ -2,15 +2,15 @@
 use Rattle.std.proofs.Common.{◌≡◌, ℕ, List, Option, Some, None, Bool, true, false, refl, sym, ap, ap₂, ◌∙◌, subst}
 use Rattle.std.specs.Prelude.{◌||◌}
 use Rattle.arm_value.specs.Json.{Json, text}
-use Rattle.arm_expr.specs.Tree.{Tree, Trees, call, member, index}
+use Rattle.expression_values.specs.Tree.{Tree, Trees, call, member, index}
 use Rattle.bicep_meaning.specs.Values.{function_value}
 use Rattle.reading.specs.Reading.{done, ask, pure, none, continued, both}
-use Rattle.arm_env.specs.Look as look
-use Rattle.arm_env.specs.Look.{Look, Fact, Looking, Surroundings}
-use Rattle.arm_env.specs.Names.{lazy_named, strict_named}
-use Rattle.arm_env.specs.declared.function.Lazy.{Lazy}
-use Rattle.arm_env.specs.Part.{kept, part_of}
-use Rattle.arm_env.specs.Held.{Held, plain, capped, held_value, forced, access, access_by}
+use Rattle.expression_values.specs.Look as look
+use Rattle.expression_values.specs.Look.{Look, Fact, Looking, Surroundings}
+use Rattle.expression_values.specs.Names.{lazy_named, strict_named}
+use Rattle.expression_values.specs.Lazy.{Lazy}
+use Rattle.expression_values.specs.Part.{kept, part_of}
+use Rattle.expression_values.specs.Held.{Held, plain, capped, held_value, forced, access, access_by}
 use Rattle.expression_values.specs.Row.{lazy_row}
 use Rattle.expression_values.specs.Meaning.{held, value, values, used, outcome, indexed, called, call_by, strict_call}
 use Rattle.expression_values.proofs.Equations.{by_member, by_index, capped_twice}

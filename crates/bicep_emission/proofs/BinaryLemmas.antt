@@ -2,27 +2,26 @@
 use Rattle.std.proofs.Common.{◌≡◌, ℕ, List, [], ◌∷◌, Option, Some, None, true, false, codes, refl, sym, ap, ◌∙◌}
 use Rattle.std.specs.Prelude.{pos, ℤ, option_and_then}
 use Rattle.arm_value.specs.Json.{Json, null, bool, int, text, array, object}
-use Rattle.arm_expr.specs.Tree.{Tree, Trees, call}
-use Rattle.arm_expr.specs.Tree as tree
+use Rattle.expression_values.specs.Tree.{Tree, Trees, call}
+use Rattle.expression_values.specs.Tree as tree
 use Rattle.bicep_meaning.specs.Table.{table, row_in}
 use Rattle.bicep_meaning.specs.Values.{function_value, value_of, of_numbers, of_truth, of_texts, of_lists}
-use Rattle.function_numbers.specs.Logic as logic
-use Rattle.function_numbers.specs.Numbers as number_functions
+use Rattle.expression_values.specs.Logic as logic
+use Rattle.expression_values.specs.Numbers as number_functions
 use Rattle.function_lists.specs.Members as members
 use Rattle.reading.specs.Reading.{done, pure, continued}
-use Rattle.arm_env.specs.Look.{Surroundings}
-use Rattle.arm_env.specs.Names.{lazy_named, strict_named, placed_named}
+use Rattle.expression_values.specs.Look.{Surroundings}
+use Rattle.expression_values.specs.Names.{lazy_named, strict_named, placed_named}
 use Rattle.expression_values.specs.Meaning.{value}
 use Rattle.expression_values.proofs.Equations.{texts, numbers}
-use Rattle.deploy_cells.specs.Guarded.{Reads}
-use Rattle.bicep_tree.specs.declared.leaf.Literal.{Literal}
-use Rattle.bicep_tree.specs.declared.leaf.Literal.TheVariants as l
-use Rattle.bicep_tree.specs.declared.leaf.Operator.{Operator}
-use Rattle.bicep_tree.specs.declared.leaf.Operator.TheVariants as o
-use Rattle.bicep_tree.specs.declared.leaf.Prefix.{Prefix}
-use Rattle.bicep_tree.specs.declared.leaf.Prefix.TheVariants as prefix
-use Rattle.bicep_meaning.specs.Rows.{all, capped, by_both, operator_value, operated, opposite, same_folded}
-use Rattle.bicep_meaning.specs.Rows.{prefix_value, literal_value}
+use Rattle.bicep_meaning.specs.Guarded.{Reads}
+use Rattle.bicep_resolved.specs.Literal.{Literal}
+use Rattle.bicep_resolved.specs.Literal.TheVariants as l
+use Rattle.bicep_resolved.specs.Operator.{Operator}
+use Rattle.bicep_resolved.specs.Operator.TheVariants as o
+use Rattle.bicep_resolved.specs.Prefix.{Prefix}
+use Rattle.bicep_resolved.specs.Prefix.TheVariants as prefix
+use Rattle.bicep_meaning.specs.Rows.{all, capped, by_both, operator_value, operated, opposite, same_folded, prefix_value, literal_value}
 use Rattle.bicep_emission.specs.Alike.{Seen, seen_in}
 use Rattle.bicep_emission.specs.Answered.{Sides}
 use Rattle.bicep_emission.specs.Emitted.{two, not_of, small, literal_of, binary_of, prefix_of, try_get}

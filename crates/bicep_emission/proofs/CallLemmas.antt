@@ -2,17 +2,17 @@
 use Rattle.std.proofs.Common.{◌≡◌, ℕ, List, [], ◌∷◌, Option, Some, None, false, refl, sym, ap, ◌∙◌, subst}
 use Rattle.std.specs.Prelude.{◌||◌}
 use Rattle.arm_value.specs.Json.{Json}
-use Rattle.arm_expr.specs.Tree.{Tree, Trees, call}
+use Rattle.expression_values.specs.Tree.{Tree, Trees, call}
 use Rattle.bicep_meaning.specs.Values.{function_value}
 use Rattle.reading.specs.Reading.{done, pure, continued, both}
-use Rattle.arm_env.specs.Look as look
-use Rattle.arm_env.specs.Look.{Looking, Surroundings}
-use Rattle.arm_env.specs.Names.{lazy_named, strict_named}
-use Rattle.arm_env.specs.Part.{kept}
-use Rattle.arm_env.specs.Held as held
+use Rattle.expression_values.specs.Look as look
+use Rattle.expression_values.specs.Look.{Looking, Surroundings}
+use Rattle.expression_values.specs.Names.{lazy_named, strict_named}
+use Rattle.expression_values.specs.Part.{kept}
+use Rattle.expression_values.specs.Held as held
 use Rattle.expression_values.specs.Meaning.{value, values}
 use Rattle.expression_values.proofs.Equations.{plain_call}
-use Rattle.deploy_cells.specs.Guarded.{Reads}
+use Rattle.bicep_meaning.specs.Guarded.{Reads}
 use Rattle.bicep_meaning.specs.Rows.{all, capped, by_both}
 use Rattle.bicep_emission.specs.Alike.{Seen, seen_in, Alike}
 use Rattle.bicep_emission.specs.Answered.{Sides}

@@ -6,32 +6,32 @@ use Rattle.arm_value.specs.Json.{Json, int, text}
 use Rattle.arm_value.specs.Look.{fold}
 use Rattle.arm_ids.specs.Id.{text_of, folded}
 use Rattle.arm_ids.specs.declared.id.ResourceId.{ResourceId}
-use Rattle.arm_expr.specs.Tree.{Tree, Trees, call, member, index, more}
-use Rattle.arm_expr.specs.Tree as tree
+use Rattle.expression_values.specs.Tree.{Tree, Trees, call, member, index, more}
+use Rattle.expression_values.specs.Tree as tree
 use Rattle.bicep_meaning.specs.Table.{table, row_in}
 use Rattle.bicep_meaning.specs.Values.{value_of, of_numbers}
 use Rattle.reading.specs.Reading.{done, pure, none, read, continued, both, beside}
-use Rattle.arm_env.specs.declared.env.Looping.{Looping}
-use Rattle.arm_env.specs.Look as look
-use Rattle.arm_env.specs.Look.{Look, Fact, Looking, Surroundings, json_in, parameter}
-use Rattle.arm_env.specs.Names.{lazy_named, strict_named, placed_named}
-use Rattle.arm_env.specs.declared.function.Lazy.TheVariants as lazy
-use Rattle.arm_env.specs.Part.{part_of}
-use Rattle.arm_env.specs.Held as holding
-use Rattle.arm_env.specs.Object as object
-use Rattle.arm_env.specs.Held.{Held, held_value}
+use Rattle.expression_values.specs.Looping.{Looping}
+use Rattle.expression_values.specs.Look as look
+use Rattle.expression_values.specs.Look.{Look, Fact, Looking, Surroundings, json_in, parameter}
+use Rattle.expression_values.specs.Names.{lazy_named, strict_named, placed_named}
+use Rattle.expression_values.specs.Lazy.TheVariants as lazy
+use Rattle.expression_values.specs.Part.{part_of}
+use Rattle.expression_values.specs.Held as holding
+use Rattle.expression_values.specs.Object as object
+use Rattle.expression_values.specs.Held.{Held, held_value}
 use Rattle.expression_values.specs.Meaning.{held, value, values, used, called}
 use Rattle.expression_values.proofs.Equations.{texts, capped_twice}
-use Rattle.deploy_cells.specs.Guarded.{Reads}
-use Rattle.deploy_cells.specs.Cells as cells
-use Rattle.bicep_tree.specs.declared.leaf.Indexing.{Indexing}
-use Rattle.bicep_tree.specs.declared.leaf.Indexing.TheVariants as indexing
-use Rattle.bicep_tree.specs.declared.leaf.Literal.{Literal}
-use Rattle.bicep_tree.specs.declared.leaf.Literal.TheVariants as l
-use Rattle.bicep_tree.specs.declared.leaf.Operator.{Operator}
-use Rattle.bicep_tree.specs.declared.leaf.Operator.TheVariants as o
-use Rattle.bicep_tree.specs.declared.leaf.Prefix.{Prefix}
-use Rattle.bicep_tree.specs.declared.leaf.Prefix.TheVariants as prefix
+use Rattle.bicep_meaning.specs.Guarded.{Reads}
+use Rattle.bicep_meaning.specs.Cells as cells
+use Rattle.bicep_resolved.specs.Indexing.{Indexing}
+use Rattle.bicep_resolved.specs.Indexing.TheVariants as indexing
+use Rattle.bicep_resolved.specs.Literal.{Literal}
+use Rattle.bicep_resolved.specs.Literal.TheVariants as l
+use Rattle.bicep_resolved.specs.Operator.{Operator}
+use Rattle.bicep_resolved.specs.Operator.TheVariants as o
+use Rattle.bicep_resolved.specs.Prefix.{Prefix}
+use Rattle.bicep_resolved.specs.Prefix.TheVariants as prefix
 use Rattle.bicep_resolved.specs.declared.leaf.Field.{Field}
 use Rattle.bicep_resolved.specs.declared.leaf.Field.TheVariants as field
 use Rattle.bicep_resolved.specs.declared.leaf.Meaning.{Meaning}
@@ -48,8 +48,7 @@ use Rattle.bicep_meaning.specs.Around.{Here}
 use Rattle.bicep_meaning.specs.Rows as rows
 use Rattle.bicep_meaning.specs.Rows.{all, capped, by_both, conditional_value}
 use Rattle.bicep_meaning.specs.Meaning as meaning
-use Rattle.bicep_meaning.specs.Meaning.{bare, field_value, named, output_name, output_value, parameter_entry, frames}
-use Rattle.bicep_meaning.specs.Meaning.{id_text}
+use Rattle.bicep_meaning.specs.Meaning.{bare, field_value, named, output_name, output_value, parameter_entry, frames, id_text}
 use Rattle.bicep_emission.specs.Alike.{Seen, after, seen_in}
 use Rattle.bicep_emission.specs.Answered.{IsPlainPlace, Sides, Answers}
 use Rattle.bicep_emission.specs.Emittable.{IsEmittable, AreEmittable, AreHoles, AreMembers, IsReach}

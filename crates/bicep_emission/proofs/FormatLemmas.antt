@@ -8,14 +8,14 @@ use Rattle.std.proofs.lemmas.Fmt.{decimal_by_steps}
 use Rattle.std.specs.Prelude.{◌==◌, slice_get, option_map, option_and_then, if◌then◌else◌}
 use Rattle.foundation.proofs.TruthValues.{unless}
 use Rattle.arm_value.specs.Json.{Json}
-use Rattle.function_numbers.specs.Numbers.{is_digit, with_digit, read_on, numeral}
-use Rattle.function_prints.specs.Format.{before_closing, argument_field, argument, field, is_brace, filled_rest}
-use Rattle.function_prints.specs.Printed.{printed}
+use Rattle.expression_values.specs.Numbers.{is_digit, with_digit, read_on, numeral}
+use Rattle.bicep_meaning.specs.Format.{before_closing, argument_field, argument, field, is_brace, filled_rest}
+use Rattle.bicep_meaning.specs.Printed.{printed}
 use Rattle.bicep_resolved.specs.Source.{PieceTrees}
 use Rattle.bicep_resolved.specs.Source as s
 use Rattle.bicep_meaning.specs.Meaning.{joined}
 use Rattle.bicep_emission.specs.Texts.{doubled_onto, hole_onto, format_text}
-use Rattle.foundation.proofs.Comparisons.{last_digit}
+use Rattle.foundation.proofs.Comparisons.{last_digit, eq_itself, eq_of_true}
 
 -- ---- digits
 
@@ -81,17 +81,11 @@ more_digits n ds h p = record {
 spelled : (n : ℕ) → n < 2 ^ 64 → IsSpelled n (decimal n)
 spelled n h = decimal_by_steps IsSpelled one_digit more_digits n h
 
-equal_is : (m n : ℕ) → (m == n) ≡ true → m ≡ n
-equal_is m n e = grind (arith, nat_tests)
-
-same_is : (n : ℕ) → (n == n) ≡ true
-same_is n = grind (arith, nat_tests)
-
 digit_below : (c : ℕ) → is_digit c ≡ true → c < 58
 digit_below c e = grind (arith, nat_tests)
 
 no_digit : (c d : ℕ) → 58 ≤ d → is_digit c ≡ true → (c == d) ≡ false
-no_digit c d h e = unless (c == d) (λ q. apart (digit_below c e) (equal_is c d q))
+no_digit c d h e = unless (c == d) (λ q. apart (digit_below c e) (eq_of_true c d q))
   where
     apart : c < 58 → c ≡ d → ⊥
     apart l q = omega arith
@@ -164,7 +158,7 @@ one_filled args c rest true e =
     ∷ rest))) (field args c (c ∷ rest))
     else option_map (λ r. c ∷ r) (filled_rest args 0 (c ∷ rest))) e
     ∙ ap (λ b. option_and_then (λ f. option_map (λ r. f.0 ++ r) (filled_rest args f.1 (c ∷ rest)))
-    (if b then Some (c ∷ [], 1) else (if c == 123 then argument_field args (c ∷ rest) else None))) (same_is c)
+    (if b then Some (c ∷ [], 1) else (if c == 123 then argument_field args (c ∷ rest) else None))) (eq_itself c)
 one_filled args c rest false e =
     ap (λ b. if b then option_and_then (λ f. option_map (λ r. f.0 ++ r) (filled_rest args f.1 rest)) (field args c rest)
     else option_map (λ r. c ∷ r) (filled_rest args 0 rest)) e

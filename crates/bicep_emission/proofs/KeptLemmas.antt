@@ -2,7 +2,7 @@
 use Rattle.std.proofs.Common.{◌≡◌, Option, Some, None, Bool, true, false, nat_le, refl, ap}
 use Rattle.std.specs.Prelude.{option_and_then, if◌then◌else◌}
 use Rattle.arm_value.specs.Json.{Json, nesting}
-use Rattle.arm_env.specs.Part.{kept}
+use Rattle.expression_values.specs.Part.{kept}
 
 abbrev pub kept_of : Option Json → Option Json
 kept_of o = option_and_then kept o

@@ -3,25 +3,26 @@ use Rattle.std.proofs.Common.{◌≡◌, ◌≤◌, ◌+◌, ◌^◌, ℕ, suc, 
 use Rattle.std.proofs.Common.{Bool, true, false, true≢false, codes, refl, sym, ap, ap₂, ◌∙◌, subst, arith}
 use Rattle.std.specs.Prelude.{◌||◌, option_map, option_and_then, if◌then◌else◌}
 use Rattle.std.proofs.lemmas.Option.{none-some}
+use Rattle.foundation.proofs.TruthValues.{or_false}
 use Rattle.foundation.proofs.Comparisons.{le_true, le_of_true}
 use Rattle.arm_value.specs.Json.{Json, text, array, object, row, pairs, put_each, nesting, Member}
-use Rattle.arm_expr.specs.Tree.{Tree, Trees, call, more}
-use Rattle.arm_expr.specs.Tree as tree
+use Rattle.expression_values.specs.Tree.{Trees, call, more}
+use Rattle.expression_values.specs.Tree as tree
 use Rattle.bicep_meaning.specs.Table.{table, row_in}
 use Rattle.bicep_meaning.specs.Values.{function_value, value_of, of_lists, of_prints}
 use Rattle.function_lists.specs.Items.{create_array}
 use Rattle.function_lists.specs.Members.{create_object, paired}
 use Rattle.function_lists.specs.Values as lists
-use Rattle.function_prints.specs.Format.{format}
-use Rattle.function_prints.specs.Printed.{printed}
+use Rattle.bicep_meaning.specs.Format.{format}
+use Rattle.bicep_meaning.specs.Printed.{printed}
 use Rattle.reading.specs.Reading.{pure, continued, both as both_read}
-use Rattle.arm_env.specs.Look.{Surroundings}
-use Rattle.arm_env.specs.Names.{lazy_named, strict_named, placed_named}
-use Rattle.arm_env.specs.Object.{object_of}
-use Rattle.arm_env.specs.Part.{kept}
+use Rattle.expression_values.specs.Look.{Surroundings}
+use Rattle.expression_values.specs.Names.{lazy_named, strict_named, placed_named}
+use Rattle.expression_values.specs.Object.{object_of}
+use Rattle.expression_values.specs.Part.{kept}
 use Rattle.expression_values.specs.Meaning.{value, values}
 use Rattle.expression_values.proofs.Equations.{texts}
-use Rattle.deploy_cells.specs.Guarded.{Reads}
+use Rattle.bicep_meaning.specs.Guarded.{Reads}
 use Rattle.bicep_resolved.specs.Source.{SourceTree, PieceTrees}
 use Rattle.bicep_resolved.specs.Source as s
 use Rattle.bicep_meaning.specs.Rows.{all, capped, array_of}
@@ -32,7 +33,7 @@ use Rattle.bicep_emission.specs.Answered.{Sides}
 use Rattle.bicep_emission.specs.Texts.{format_text}
 use Rattle.bicep_emission.specs.Emittable.{count}
 use Rattle.bicep_emission.proofs.SeenLemmas.{then_seen, both_seen, done_seen, then-then, then-same, then-at}
-use Rattle.bicep_emission.proofs.SeenLemmas.{seen-continued, seen-both, or-false}
+use Rattle.bicep_emission.proofs.SeenLemmas.{seen-continued, seen-both}
 use Rattle.bicep_emission.proofs.KeptLemmas.{kept_of}
 use Rattle.bicep_emission.proofs.FormatLemmas.{afters, AreFor, format_filled}
 use Rattle.bicep_emission.proofs.CallLemmas.{Like, AllLike, seen, front_seen, seen-front, seen-empty, seen-on}
@@ -108,12 +109,12 @@ module _ (x : Sides) where
       → front_seen (done_seen (Some (text name))) (front_seen s (turned t))
       ≡ turned (then_seen (both_seen (then_seen s (λ j. done_seen (Some (name, j)))) t) (λ p. done_seen (Some (p.0
       ∷ p.1))))
-  turn_seen name (Some j, b) (Some ms, c) = ap (with_mark (text name ∷ j ∷ by_turns ms)) (or-false (c || b))
-  turn_seen name (Some j, b) (None, c) = ap (λ (m : Bool). let r : Seen (List Json) = (None, m) in r) (or-false
+  turn_seen name (Some j, b) (Some ms, c) = ap (with_mark (text name ∷ j ∷ by_turns ms)) (or_false (c || b))
+  turn_seen name (Some j, b) (None, c) = ap (λ (m : Bool). let r : Seen (List Json) = (None, m) in r) (or_false
       (c || b))
-  turn_seen name (None, b) (Some ms, c) = ap (λ (m : Bool). let r : Seen (List Json) = (None, m) in r) (or-false
+  turn_seen name (None, b) (Some ms, c) = ap (λ (m : Bool). let r : Seen (List Json) = (None, m) in r) (or_false
       (c || b))
-  turn_seen name (None, b) (None, c) = ap (λ (m : Bool). let r : Seen (List Json) = (None, m) in r) (or-false (c || b))
+  turn_seen name (None, b) (None, c) = ap (λ (m : Bool). let r : Seen (List Json) = (None, m) in r) (or_false (c || b))
 
   seen-members : (ms : List (List ℕ × Reads Json))
       → seen x (all (named_readings ms)) ≡ turned (seen x (all (member_readings ms)))

@@ -10,11 +10,11 @@ use Rattle.arm_ids.specs.declared.id.ResourceId.{ResourceId}
 use Rattle.arm_ids.proofs.IdLemmas.{reading-text_of}
 use Rattle.arm_ids.proofs.SegmentLemmas.{segments_cut}
 use Rattle.arm_ids.proofs.TextLemmas.{some_segment}
-use Rattle.arm_env.specs.Id.{id_in_group, resource_id, with_group}
-use Rattle.foundation.proofs.TruthValues.{both, unless, or_left, or_right}
+use Rattle.expression_values.specs.Id.{id_in_group, resource_id, with_group}
+use Rattle.foundation.proofs.TruthValues.{both, unless, or_left, or_right, and_false_is, of_not}
 use Rattle.foundation.proofs.Comparisons.{lt_true, eq_of_true, positive}
-use Rattle.arm_env.specs.Find.{id_key}
-use Rattle.deploy_cells.specs.Puts.{key_formed}
+use Rattle.expression_values.specs.Find.{id_key}
+use Rattle.bicep_meaning.specs.Puts.{key_formed}
 use Rattle.bicep_emission.specs.Made.{made, is_made, made_whole}
 use Rattle.bicep_emission.specs.Answered.{IsPlainPlace}
 
@@ -101,10 +101,6 @@ resource_id_is place kind ns h =
 
 -- ---- the id is read from its text
 
-not_false : (b : Bool) → not b ≡ true → b ≡ false
-not_false true e = absurd cc
-not_false false e = refl
-
 is_id : (place : Place) (kind : List ℕ) (ns : List (List ℕ)) → is_made place kind ns ≡ true
     → IsResourceId (made place kind ns)
 is_id place kind ns e =
@@ -112,11 +108,11 @@ is_id place kind ns e =
     let b = both (not (has_empty_segment (made place kind ns)))
     ((length (segments kind) == suc (length ns)) && nat_lt 0 (length ns)) a.0 in
     let c = both (length (segments kind) == suc (length ns)) (nat_lt 0 (length ns)) b.1 in record {
-      filled = not_false (has_empty_segment (made place kind ns)) b.0;
+      filled = of_not (has_empty_segment (made place kind ns)) b.0;
       paired = eq_of_true (length (segments kind)) (suc (length ns)) c.0;
       named = positive (length ns) c.1;
       types_cut = segments_cut kind;
-      names_cut = not_false (list_any has_slash ns) a.1;
+      names_cut = of_not (list_any has_slash ns) a.1;
     }
 
 pub reads_back : (place : Place) (kind : List ℕ) (ns : List (List ℕ)) → IsPlainPlace place
@@ -140,14 +136,10 @@ too_many s g ts ns h a b rest e =
     ap (λ q. not (has_empty_segment (record { subscription = s; group = g; types = ts; names = ns })) &&
     (q && nat_lt 0 (length ns)))
     (unless (length ts == suc (length ns)) (λ q. three (eq_of_true (length ts) (suc (length ns)) q) (ap length e)))
-    ∙ and_nothing (not (has_empty_segment (record { subscription = s; group = g; types = ts; names = ns })))
+    ∙ and_false_is (not (has_empty_segment (record { subscription = s; group = g; types = ts; names = ns })))
   where
     three : length ts ≡ suc (length ns) → length ns ≡ suc (suc (length rest)) → ⊥
     three q r = omega arith
-
-    and_nothing : (b : Bool) → (b && false) ≡ false
-    and_nothing true = refl
-    and_nothing false = refl
 
 folded_if : (b c : Bool) (i : ResourceId) → c ≡ true
     → option_map folded (if b && c then Some i else None) ≡ (if b then Some (folded i) else None)

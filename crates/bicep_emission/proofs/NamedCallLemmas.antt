@@ -9,24 +9,24 @@ use Rattle.foundation.proofs.TruthValues.{both, or_left, or_right, of_not}
 use Rattle.foundation.proofs.Words.{swapped}
 use Rattle.arm_value.specs.Json.{Json, text}
 use Rattle.arm_value.specs.Look.{fold, is_same_folded, is_among}
-use Rattle.arm_expr.specs.Tree.{Trees, call}
+use Rattle.expression_values.specs.Tree.{Trees, call}
 use Rattle.bicep_meaning.specs.Table.{row_of}
 use Rattle.bicep_meaning.specs.Values.{function_value}
-use Rattle.function_numbers.specs.Kinds.{of_none}
+use Rattle.expression_values.specs.Kinds.{of_none}
 use Rattle.reading.specs.Reading.{done, none, continued}
-use Rattle.arm_env.specs.Look as look
-use Rattle.arm_env.specs.Look.{Looking, Surroundings}
-use Rattle.arm_env.specs.Names.{lazy_named, strict_named, placed_named}
-use Rattle.arm_env.specs.Id.{resource_id, subscription_id}
-use Rattle.arm_env.specs.Object as object
-use Rattle.arm_env.specs.Held.{Held, capped, held_value}
-use Rattle.arm_env.specs.declared.function.Lazy.TheVariants as lazy
-use Rattle.arm_env.specs.declared.function.Strict.{Strict}
-use Rattle.arm_env.specs.declared.function.Strict.TheVariants as strict
+use Rattle.expression_values.specs.Look as look
+use Rattle.expression_values.specs.Look.{Looking, Surroundings}
+use Rattle.expression_values.specs.Names.{lazy_named, strict_named, placed_named}
+use Rattle.expression_values.specs.Id.{resource_id, subscription_id}
+use Rattle.expression_values.specs.Object as object
+use Rattle.expression_values.specs.Held.{Held, capped, held_value}
+use Rattle.expression_values.specs.Lazy.TheVariants as lazy
+use Rattle.expression_values.specs.Strict.{Strict}
+use Rattle.expression_values.specs.Strict.TheVariants as strict
 use Rattle.expression_values.specs.Row as row
 use Rattle.expression_values.specs.Meaning.{held, value, values, used, called, call_by, strict_call, strict_row}
 use Rattle.expression_values.proofs.Equations.{lazy_call}
-use Rattle.deploy_cells.specs.Guarded.{Reads}
+use Rattle.bicep_meaning.specs.Guarded.{Reads}
 use Rattle.bicep_meaning.specs.Functions.{reserved, may_call}
 use Rattle.bicep_meaning.specs.Rows as rows
 use Rattle.bicep_meaning.specs.Rows.{all, placed_value, value_by, coalesced}
@@ -39,7 +39,7 @@ use Rattle.bicep_emission.proofs.AccessLemmas.{used_continued, keep_done}
 use Rattle.bicep_emission.proofs.CallLemmas.{Like, AllLike, seen, seen-on, seen-capped-on, like_done, like_all}
 use Rattle.bicep_emission.proofs.CallLemmas.{like_capped}
 use Rattle.bicep_emission.proofs.OperatorLemmas.{first_like}
-use Rattle.function_texts.specs.Cuts.{texts_in}
+use Rattle.bicep_meaning.specs.Cuts.{texts_in}
 
 -- ---- names
 

@@ -3,23 +3,21 @@ use Rattle.std.proofs.Common.{◌≡◌, List, [], ◌∷◌, Option, Some, None
 use Rattle.std.proofs.Common.{◌∙◌, subst}
 use Rattle.std.specs.Prelude.{◌||◌, option_map, option_and_then, if◌then◌else◌}
 use Rattle.arm_value.specs.Json.{Json, null, bool, int, text, array, object}
-use Rattle.arm_expr.specs.Tree.{Tree, call}
-use Rattle.function_numbers.specs.Kinds.{truth_of}
-use Rattle.function_numbers.specs.Logic as logic
-use Rattle.function_texts.specs.Letters.{to_lower}
+use Rattle.expression_values.specs.Tree.{Tree, call}
+use Rattle.expression_values.specs.Kinds.{truth_of}
+use Rattle.expression_values.specs.Logic as logic
+use Rattle.bicep_meaning.specs.Letters.{to_lower}
 use Rattle.reading.specs.Reading.{done, pure, none, continued, both, joined}
-use Rattle.arm_env.specs.Look.{Looking, Surroundings}
-use Rattle.arm_env.specs.Names.{lazy_named}
-use Rattle.arm_env.specs.declared.function.Lazy.TheVariants as lazy
-use Rattle.arm_env.specs.Part.{kept}
+use Rattle.expression_values.specs.Look.{Looking, Surroundings}
+use Rattle.expression_values.specs.Names.{lazy_named}
+use Rattle.expression_values.specs.Lazy.TheVariants as lazy
+use Rattle.expression_values.specs.Part.{kept}
 use Rattle.expression_values.specs.Row as row
 use Rattle.expression_values.specs.Meaning.{value}
 use Rattle.expression_values.proofs.Equations.{lazy_call, choice}
-use Rattle.deploy_cells.specs.Guarded.{Reads}
+use Rattle.bicep_meaning.specs.Guarded.{Reads}
 use Rattle.bicep_meaning.specs.Rows as rows
-use Rattle.bicep_meaning.specs.Rows.{all, capped, by_both, operator_value, conditional_value, and_value, or_value}
-use Rattle.bicep_meaning.specs.Rows.{coalesce_value, truth, operated}
-use Rattle.bicep_meaning.specs.Rows.{chosen, or_if_null, same_folded, opposite, prefix_value, literal_value}
+use Rattle.bicep_meaning.specs.Rows.{all, capped, by_both, operator_value, conditional_value, and_value, or_value, coalesce_value, truth, operated, chosen, or_if_null, same_folded, opposite, prefix_value, literal_value}
 use Rattle.bicep_emission.specs.Alike.{Seen, seen_in}
 use Rattle.bicep_emission.specs.Answered.{Sides}
 use Rattle.bicep_emission.specs.Emitted.{two, three}

@@ -9,35 +9,33 @@ use Rattle.arm_ids.specs.Id.{text_of, folded}
 use Rattle.arm_ids.specs.Segments.{segments}
 use Rattle.arm_ids.specs.declared.id.ResourceId.{ResourceId}
 use Rattle.arm_ids.proofs.SegmentLemmas.{segments-fold}
-use Rattle.arm_expr.specs.Tree.{Tree, Trees, call, member}
-use Rattle.arm_expr.specs.Tree as tree
+use Rattle.expression_values.specs.Tree.{Tree, Trees, call, member}
+use Rattle.expression_values.specs.Tree as tree
 use Rattle.reading.specs.Reading.{done, pure, none, read, continued}
 use Rattle.reading.specs.World.{value_in}
-use Rattle.arm_env.specs.declared.env.Looping.{Looping}
-use Rattle.arm_env.specs.Look as look
-use Rattle.arm_env.specs.Look.{Look, Fact, Looking, Surroundings, a_value, a_truth, json_in, truth_in, state}
-use Rattle.arm_env.specs.Look.{deployment, output}
-use Rattle.arm_env.specs.Names.{lazy_named, strict_named, placed_named}
-use Rattle.arm_env.specs.Held as held_part
-use Rattle.arm_env.specs.Held.{Held, plain, capped, held_value, access, value_named, one_output, outputs, is_word}
-use Rattle.arm_env.specs.Part.{kept}
-use Rattle.arm_env.specs.declared.function.Strict.TheVariants as strict
+use Rattle.expression_values.specs.Looping.{Looping}
+use Rattle.expression_values.specs.Look as look
+use Rattle.expression_values.specs.Look.{Look, Fact, Looking, Surroundings, a_value, a_truth, json_in, truth_in, state, deployment, output}
+use Rattle.expression_values.specs.Names.{lazy_named, strict_named, placed_named}
+use Rattle.expression_values.specs.Held as held_part
+use Rattle.expression_values.specs.Held.{Held, plain, capped, held_value, access, value_named, one_output, outputs, is_word}
+use Rattle.expression_values.specs.Part.{kept}
+use Rattle.expression_values.specs.Strict.TheVariants as strict
 use Rattle.arm_value.specs.Look as names
-use Rattle.function_texts.specs.Cuts as cuts
+use Rattle.bicep_meaning.specs.Cuts as cuts
 use Rattle.std.proofs.lemmas.Option.{option_and_then_some}
 use Rattle.reading.proofs.Parts.{value_in-continued}
-use Rattle.arm_env.specs.declared.function.Asked.TheVariants.{Properties}
+use Rattle.expression_values.specs.Asked.TheVariants.{Properties}
 use Rattle.expression_values.specs.Meaning.{held, value, used, referred, found_at, state_asked}
 use Rattle.expression_values.proofs.Equations.{texts, capped_twice}
-use Rattle.deploy_cells.specs.Guarded.{Reads}
-use Rattle.deploy_cells.specs.Cells as cells
-use Rattle.deploy_cells.specs.Cells.{step}
-use Rattle.deploy_cells.specs.Listing.{Sought, found, left_away, not_here, sought}
+use Rattle.bicep_meaning.specs.Guarded.{Reads}
+use Rattle.bicep_meaning.specs.Cells as cells
+use Rattle.bicep_meaning.specs.Cells.{step}
+use Rattle.bicep_meaning.specs.Listing.{Sought, found, left_away, not_here, sought}
 use Rattle.bicep_meaning.specs.Around.{Here}
 use Rattle.bicep_meaning.specs.Rows as rows
 use Rattle.bicep_meaning.specs.Rows.{all}
-use Rattle.bicep_meaning.specs.Meaning.{id_text, module_key, instance_output, found_output}
-use Rattle.bicep_meaning.specs.Meaning.{output_at, output_value, has_key}
+use Rattle.bicep_meaning.specs.Meaning.{id_text, module_key, instance_output, found_output, output_at, output_value, has_key}
 use Rattle.bicep_emission.specs.Alike.{Seen, after, seen_in}
 use Rattle.bicep_emission.specs.Answered.{IsPlainPlace, Sides, Answers, IsAnswered, IsInstance, IsFound, IsListed}
 use Rattle.bicep_emission.specs.Answered.{deployment_types}

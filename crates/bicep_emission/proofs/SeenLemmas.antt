@@ -1,6 +1,7 @@
 -- What readings that are made of others have in a world, and whether they read a marked cell there.
 use Rattle.std.proofs.Common.{◌≡◌, Option, Some, None, Bool, true, false, refl, sym, ap, ◌∙◌}
 use Rattle.std.specs.Prelude.{◌||◌}
+use Rattle.foundation.proofs.TruthValues.{or_false}
 use Rattle.reading.specs.Reading.{Reading, done, ask, onward, continued, joined, beside, both}
 use Rattle.reading.specs.World.{value_in}
 use Rattle.bicep_emission.specs.Alike.{Seen, after, seen_in}
@@ -8,10 +9,6 @@ use Rattle.bicep_emission.specs.Alike.{Seen, after, seen_in}
 or_assoc : (a b c : Bool) → (a || b || c) ≡ (a || (b || c))
 or_assoc true b c = refl
 or_assoc false b c = refl
-
-pub or-false : (b : Bool) → (b || false) ≡ b
-or-false true = refl
-or-false false = refl
 
 abbrev pub done_seen : {A : Type 0} → Option A → Seen A
 done_seen o = (o, false)
@@ -45,7 +42,7 @@ after-both : {A B : Type 0} (b : Bool) (s : Seen A) (t : Seen B) → after b (bo
 after-both b s t = ap (with_marks (joined s.0 t.0)) (or_assoc t.1 s.1 b)
 
 pub after-false : {A : Type 0} (s : Seen A) → after false s ≡ s
-after-false (o, b) = ap (with_marks o) (or-false b)
+after-false (o, b) = ap (with_marks o) (or_false b)
 
 pub then-then : {A B C : Type 0} (s : Seen A) (f : A → Seen B) (g : B → Seen C)
     → then_seen (then_seen s f) g ≡ then_seen s (λ x. then_seen (f x) g)
@@ -79,7 +76,7 @@ module _ {C J : Type 0} (w : C → Option J) (m : C → Bool) where
     where
       or_swap : (a b : Bool) → ((a || false) || b) ≡ ((a || b) || false)
       or_swap true b = refl
-      or_swap false b = sym (or-false b)
+      or_swap false b = sym (or_false b)
 
   pub seen-both : {A B : Type 0} (r : Reading C J A) (s : Reading C J B)
       → seen_in w m (both r s) ≡ both_seen (seen_in w m r) (seen_in w m s)

@@ -8,11 +8,11 @@ use Rattle.arm_value.specs.Look.{fold, is_same_folded, is_among}
 use Rattle.arm_ids.specs.declared.id.Place.{Place}
 use Rattle.bicep_meaning.specs.Table.{Row, table, row_in, row_of}
 use Rattle.bicep_meaning.specs.Values as functions
-use Rattle.arm_env.specs.Names.{placed_named}
-use Rattle.arm_env.specs.declared.function.Strict.{Strict}
-use Rattle.arm_env.specs.declared.function.Strict.TheVariants as strict
+use Rattle.expression_values.specs.Names.{placed_named}
+use Rattle.expression_values.specs.Strict.{Strict}
+use Rattle.expression_values.specs.Strict.TheVariants as strict
 use Rattle.reading.specs.Reading.{done, continued}
-use Rattle.deploy_cells.specs.Guarded.{Reads}
+use Rattle.bicep_meaning.specs.Guarded.{Reads}
 use Rattle.bicep_meaning.specs.Functions.{reserved, may_call}
 use Rattle.bicep_meaning.specs.Rows.{all, value_by, coalesced, called}
 use Rattle.bicep_emission.specs.Spelled.{capitals, spelling_in, spelled_or, spelled}

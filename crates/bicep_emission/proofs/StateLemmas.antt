@@ -5,25 +5,23 @@ use Rattle.arm_value.specs.Json.{Json, null, bool, int, text, array, object}
 use Rattle.arm_value.specs.Look as names
 use Rattle.arm_ids.specs.Id.{text_of, folded}
 use Rattle.arm_ids.specs.declared.id.ResourceId.{ResourceId}
-use Rattle.arm_expr.specs.Tree.{Tree, Trees, call, member, more}
-use Rattle.arm_expr.specs.Tree as tree
+use Rattle.expression_values.specs.Tree.{Tree, Trees, call, member, more}
+use Rattle.expression_values.specs.Tree as tree
 use Rattle.reading.specs.Reading.{done, pure, read, continued, both}
 use Rattle.reading.specs.World.{value_in}
-use Rattle.arm_env.specs.Look as look
-use Rattle.arm_env.specs.Look.{Look, Fact, Looking, Surroundings, a_value, a_truth, json_in, truth_in, state}
-use Rattle.arm_env.specs.Look.{deployment}
-use Rattle.arm_env.specs.Names.{lazy_named, strict_named}
-use Rattle.arm_env.specs.Part.{part_of, kept}
-use Rattle.arm_env.specs.Find.{id_key}
-use Rattle.arm_env.specs.Held.{Held, plain, state_whole, held_value, forced, access}
-use Rattle.arm_env.specs.declared.function.Asked.{Asked}
-use Rattle.arm_env.specs.declared.function.Asked.TheVariants.{Properties, Whole}
+use Rattle.expression_values.specs.Look as look
+use Rattle.expression_values.specs.Look.{Look, Fact, Looking, Surroundings, a_value, a_truth, json_in, truth_in, state, deployment}
+use Rattle.expression_values.specs.Names.{lazy_named, strict_named}
+use Rattle.expression_values.specs.Part.{part_of, kept}
+use Rattle.expression_values.specs.Find.{id_key}
+use Rattle.expression_values.specs.Held.{Held, plain, state_whole, held_value, forced, access}
+use Rattle.expression_values.specs.Asked.{Asked}
+use Rattle.expression_values.specs.Asked.TheVariants.{Properties, Whole}
 use Rattle.expression_values.specs.Row.{asked}
-use Rattle.expression_values.specs.Meaning.{held, value, values, used, called, reference, referred, found_at}
-use Rattle.expression_values.specs.Meaning.{state_asked, key_meant}
+use Rattle.expression_values.specs.Meaning.{held, value, values, used, called, reference, referred, found_at, state_asked, key_meant}
 use Rattle.expression_values.proofs.Equations.{texts}
-use Rattle.deploy_cells.specs.Guarded.{Reads}
-use Rattle.deploy_cells.specs.Cells as cells
+use Rattle.bicep_meaning.specs.Guarded.{Reads}
+use Rattle.bicep_meaning.specs.Cells as cells
 use Rattle.bicep_meaning.specs.Rows as rows
 use Rattle.bicep_meaning.specs.Meaning.{state_member, id_text}
 use Rattle.bicep_emission.specs.Alike.{Seen, after, seen_in}

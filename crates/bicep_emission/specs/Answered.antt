@@ -5,10 +5,10 @@ use Rattle.arm_value.specs.Look.{fold}
 use Rattle.arm_ids.specs.Segments.{segments, has_slash}
 use Rattle.arm_ids.specs.declared.id.Place.{Place}
 use Rattle.arm_ids.specs.declared.id.ResourceId.{ResourceId}
-use Rattle.arm_env.specs.Look.{Look, parameter, output, state, deployment, Fact, a_value, a_truth}
-use Rattle.deploy_cells.specs.Cells as cells
-use Rattle.deploy_cells.specs.Cells.{Cell, World, step}
-use Rattle.deploy_cells.specs.Listing.{Sought, found, left_away, not_here, sought}
+use Rattle.expression_values.specs.Look.{Look, parameter, output, state, deployment, Fact, a_value, a_truth}
+use Rattle.bicep_meaning.specs.Cells as cells
+use Rattle.bicep_meaning.specs.Cells.{Cell, World, step}
+use Rattle.bicep_meaning.specs.Listing.{Sought, found, left_away, not_here, sought}
 use Rattle.bicep_meaning.specs.Files.{symbol_name}
 use Rattle.bicep_meaning.specs.Around.{Here}
 use Rattle.bicep_meaning.specs.Meaning.{has_key}

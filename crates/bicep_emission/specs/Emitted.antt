@@ -1,16 +1,16 @@
 -- The template expression that a Bicep expression becomes (Microsoft Learn, "Bicep operators", "Bicep functions",
 -- "Template functions").
 use Rattle.std.specs.Prelude.{ℕ, pos, List, [], ◌∷◌, Option, Some, None, codes, slice_get, option_and_then}
-use Rattle.arm_expr.specs.Tree.{Tree, Trees, text, int, call, member, index, more}
-use Rattle.arm_expr.specs.Tree as tree
-use Rattle.bicep_tree.specs.declared.leaf.Indexing.{Indexing}
-use Rattle.bicep_tree.specs.declared.leaf.Indexing.TheVariants as indexing
-use Rattle.bicep_tree.specs.declared.leaf.Literal.{Literal}
-use Rattle.bicep_tree.specs.declared.leaf.Literal.TheVariants as l
-use Rattle.bicep_tree.specs.declared.leaf.Operator.{Operator}
-use Rattle.bicep_tree.specs.declared.leaf.Operator.TheVariants as o
-use Rattle.bicep_tree.specs.declared.leaf.Prefix.{Prefix}
-use Rattle.bicep_tree.specs.declared.leaf.Prefix.TheVariants as prefix
+use Rattle.expression_values.specs.Tree.{Tree, Trees, text, int, call, member, index, more}
+use Rattle.expression_values.specs.Tree as tree
+use Rattle.bicep_resolved.specs.Indexing.{Indexing}
+use Rattle.bicep_resolved.specs.Indexing.TheVariants as indexing
+use Rattle.bicep_resolved.specs.Literal.{Literal}
+use Rattle.bicep_resolved.specs.Literal.TheVariants as l
+use Rattle.bicep_resolved.specs.Operator.{Operator}
+use Rattle.bicep_resolved.specs.Operator.TheVariants as o
+use Rattle.bicep_resolved.specs.Prefix.{Prefix}
+use Rattle.bicep_resolved.specs.Prefix.TheVariants as prefix
 use Rattle.bicep_resolved.specs.declared.leaf.Field.{Field}
 use Rattle.bicep_resolved.specs.declared.leaf.Field.TheVariants as field
 use Rattle.bicep_resolved.specs.declared.leaf.Meaning.{Meaning}

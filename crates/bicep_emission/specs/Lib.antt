@@ -11,3 +11,7 @@ pub use Rattle.bicep_meaning.specs.Files
 pub use Rattle.bicep_meaning.specs.Meaning
 pub use Rattle.bicep_meaning.specs.Around
 pub use Rattle.bicep_meaning.specs.Rows
+pub use Rattle.bicep_resolved.specs.Source
+pub use Rattle.bicep_resolved.specs.Target
+pub use Rattle.bicep_resolved.specs.Table
+pub use Rattle.bicep_resolved.specs.Values

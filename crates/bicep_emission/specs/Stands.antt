@@ -3,12 +3,12 @@ use Rattle.std.specs.Prelude.{◌≡◌, ℕ, List, [], ◌∷◌, Some}
 use Rattle.arm_value.specs.Json.{Json}
 use Rattle.arm_ids.specs.Id.{text_of, folded}
 use Rattle.arm_ids.specs.declared.id.ResourceId.{ResourceId}
-use Rattle.arm_env.specs.declared.env.Looping.{Looping}
-use Rattle.arm_env.specs.Find.{id_key}
-use Rattle.arm_env.specs.Held.{held_value}
-use Rattle.arm_env.specs.Look.{Looking, Surroundings}
-use Rattle.arm_expr.specs.Tree.{Tree}
-use Rattle.deploy_cells.specs.Guarded.{Reads}
+use Rattle.expression_values.specs.Looping.{Looping}
+use Rattle.expression_values.specs.Find.{id_key}
+use Rattle.expression_values.specs.Held.{held_value}
+use Rattle.expression_values.specs.Look.{Looking, Surroundings}
+use Rattle.expression_values.specs.Tree.{Tree}
+use Rattle.bicep_meaning.specs.Guarded.{Reads}
 use Rattle.expression_values.specs.Meaning.{held, value}
 use Rattle.reading.specs.World.{value_in}
 use Rattle.bicep_meaning.specs.Around as source

@@ -1,7 +1,7 @@
 -- Texts that `format` fills (Microsoft Learn, "Template functions", string: `format`).
 use Rattle.std.specs.Prelude.{ℕ, suc, List, [], ◌∷◌, ◌++◌, if◌then◌else◌}
 use Rattle.std.specs.Fmt.{decimal}
-use Rattle.function_prints.specs.Format.{is_brace}
+use Rattle.bicep_meaning.specs.Format.{is_brace}
 use Rattle.bicep_resolved.specs.Source.{PieceTrees}
 use Rattle.bicep_resolved.specs.Source as s
 

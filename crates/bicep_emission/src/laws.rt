@@ -1,8 +1,8 @@
 // What holds of all expressions that are emitted. A law has no body: its contract is the law.
 ghost use Rattle.std.specs.Prelude.{List};
 ghost use Rattle.arm_ids.specs.Segments.{has_slash};
-ghost use Rattle.arm_env.specs.declared.env.Looping.{Looping};
-ghost use Rattle.arm_env.specs.Look.{Surroundings};
+ghost use Rattle.expression_values.specs.Looping.{Looping};
+ghost use Rattle.expression_values.specs.Look.{Surroundings};
 ghost use Rattle.bicep_resolved.specs.Source.{SourceTree};
 ghost use Rattle.bicep_meaning.specs.Around as source;
 ghost use Rattle.bicep_meaning.specs.Around.{Here};

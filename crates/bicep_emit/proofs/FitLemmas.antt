@@ -8,7 +8,7 @@ use Rattle.measured_trees.specs.Extremes.{Extremes, joined}
 use Rattle.measured_trees.specs.Limits.{IsBeyond}
 use Rattle.program_parts.specs.Parts.{extremes_of}
 use Rattle.program_parts.specs.FileParts.{FileParts}
-use Rattle.program_parts.specs.Files.{IsAt}
+use Rattle.program_parts.specs.Programs.{IsAt}
 use Rattle.program_parts.specs.Measures.{by_file, entries_in, inner_of, taken, taken_by, whole}
 use Rattle.bicep_emit.specs.Modules.{AreOfProgram, CanBe, CanBeInner, CanBeModule, CanBeModules, CanBeWhole}
 
@@ -90,7 +90,12 @@ file_can ps k depth less e g =
     record {
       known = h.known;
       most = omega (arith, h.most);
-      fits = record { short = h.fits.short; deep = one_less (whole ps (suc less) k).depth less h.fits.deep; flat = h.fits.flat };
+      fits =
+          record {
+            short = h.fits.short;
+            deep = one_less (whole ps (suc less) k).depth less h.fits.deep;
+            flat = h.fits.flat;
+          };
     }
 
 pub none_can : (ps : List FileParts) (k depth : ℕ) → depth ≡ 0 → CanBeInner ps k depth → ⊥

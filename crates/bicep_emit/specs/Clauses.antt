@@ -5,11 +5,16 @@ pub use Rattle.arm_value.specs.View.{json}
 pub use Rattle.bicep_emit.specs.Bytes.{AreBytes, AreLong, AreShort, HasLongText, IsBytesFault, IsBytesOf, MayBeWritten}
 pub use Rattle.bicep_emit.specs.Faults.{IsBuiltFault, IsEmissionFault, IsEmitFault, IsNestingFault, IsPartsFault}
 pub use Rattle.bicep_emit.specs.Faults.{IsRefused, IsWholeAndWithin, IsWholeProgram, IsWithin}
-pub use Rattle.bicep_emit.specs.Modules.{AreModulesIn, AreOfProgram, CanBeInner, CanBeModule, CanBeModules, CanBeWhole}
-pub use Rattle.bicep_emit.specs.Modules.{CanBeWholePart, HasLast, HasModule, IsInner, IsModuleFor, IsWholeAtEach}
+pub use Rattle.bicep_emit.specs.Modules.{AreOfProgram, CanBeInner, CanBeModule, CanBeModules, CanBeWhole}
+pub use Rattle.bicep_emit.specs.Inner.{AreModulesIn, CanBeNext, HasLast, HasLastItem, HasModule, HasOneMore, IsInnerFault}
+pub use Rattle.bicep_emit.specs.Inner.{IsInnerOf, IsLeast}
+pub use Rattle.bicep_emit.specs.Inner.{IsModuleFault, IsModulesFault, IsOneTooMany, IsOrFault, IsTooMany}
+pub use Rattle.bicep_emit.specs.Modules.{CanBeWholePart, IsInner, IsModuleFor, IsWholeAtEach}
+pub use Rattle.program_parts.specs.Faults.{IsMemoryFault}
+pub use Rattle.template_lengths.specs.Lengths.{OptionKeeps}
 pub use Rattle.bicep_emit.specs.Modules.{IsWholeIn}
 pub use Rattle.bicep_emit.specs.Programs.{HasNoFault, IsCheckedAs, IsEmission, IsLoaded}
-pub use Rattle.program_parts.specs.Files.{IsAt, IsRead}
+pub use Rattle.program_parts.specs.Programs.{IsAt, IsRead}
 pub use Rattle.program_parts.specs.Measures.{IsWholeWithin}
 pub use Rattle.program_parts.specs.Parts.{AreOrdersOfAll}
 

@@ -1,7 +1,6 @@
 -- The template of a program, and the files of the program as their meaning has them.
 use Rattle.std.specs.Prelude.{◌≤◌, ℕ, List, map}
 use Rattle.template_parts.specs.declared.mode.Form.{Form}
-use Rattle.template_parts.specs.declared.mode.Form.TheVariants.{One}
 use Rattle.template_tree.specs.View.{template_tree}
 use Rattle.template_tree.specs.declared.resource.Template.{Template}
 use Rattle.arm_value.specs.Json.{nesting}
@@ -20,8 +19,9 @@ use Rattle.resolved_program.specs.Programs.{ResolvedFileTree}
 use Rattle.resolved_program.specs.View.{file_view, files_view}
 use Rattle.resolved_program.specs.declared.resolved.ResolvedFile.{ResolvedFile}
 use Rattle.bicep_meaning.specs.Files.{SourceFile}
-use Rattle.source_files.specs.Sources.{source_files}
-use Rattle.program_templates.specs.Files.{IsEmitted}
+use Rattle.program_parts.specs.Sources.{source_files}
+use Rattle.program_parts.specs.Files.{IsEmitted}
+use Rattle.bicep_emit.specs.Details.{HasAllDetails}
 
 abbrev pub trees_of : List ProgramFile → List FileTree
 trees_of ps = map (λ p. p.tree) ps
@@ -41,11 +41,18 @@ IsCheckedAs p c = IsChecked (files_of p) c
 abbrev pub HasNoFault : Program → Type 0
 HasNoFault p = (fault : CheckFault) → ¬ HasFault (files_of p) fault
 
-abbrev pub sources_in : List Text → List ResolvedFile → List SourceFile
-sources_in ss rs = files_in_form One (map program_file ss) (map file_view rs)
+-- the texts of a program that is read
+abbrev pub texts_in : List Text → List FileTree
+texts_in ss = trees_of (map program_file ss)
 
--- the template is that of the program, in the first form
-pub record IsEmission (p : Program) (c : Checked) (u : Template) : Type 0 where
-  pub emitted : IsEmitted One (files_in_form One (files_of p) (files_view c.resolved)) (template_tree u)
+-- its files, for a form
+abbrev pub sources_in : Form → List Text → List ResolvedFile → List SourceFile
+sources_in z ss rs = files_in_form z (map program_file ss) (map file_view rs)
+
+-- the template is that of the program in a form
+pub record IsEmission (z : Form) (p : Program) (c : Checked) (u : Template) : Type 0 where
+  pub emitted : IsEmitted z (files_in_form z (files_of p) (files_view c.resolved)) (template_tree u)
+  pub details :
+      HasAllDetails z (trees_of (files_of p)) (files_in_form z (files_of p) (files_view c.resolved)) 0 (template_tree u)
   pub keeps : Keeps (template_tree u)
   pub nests : nesting (written (template_tree u)) ≤ 120

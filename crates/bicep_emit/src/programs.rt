@@ -6,18 +6,18 @@ use bicep_names::Kind;
 use bicep_program::{Program, SourceFile};
 use bicep_symbols::Entry;
 use bicep_types::Checked;
-use foundation::limits::MAX_JSON_NESTING;
+use foundation::limits::{MAX_JSON_NESTING, MAX_TEMPLATE_BYTES};
 use program_parts::{
-    EmitFault, FileOrder, FileParts, file_orders, file_template, module_number,
-    parts_within_the_limits_can_be_filled, program_parts, whole_limits,
+    EmitFault, FileOrder, FileParts, checked_files_have_kinds, file_orders, file_template,
+    module_number, outputs_are_of_the_program, parts_within_the_limits_can_be_filled,
+    program_parts, whole_limits, whole_templates_are_emitted,
 };
-use program_templates::laws::{checked_files_have_kinds, whole_templates_are_emitted};
 use resolved_program::ResolvedFile;
-use source_files::laws::outputs_are_of_the_program;
-use std::alloc::{AllocError, Global};
+use std::alloc::Global;
+use template_lengths::added;
 use template_nestings::laws::templates_nest_no_deeper;
 use template_nestings::nesting;
-use template_parts::{Which, run_out};
+use template_parts::{Form, Which, run_out};
 use template_tree::Template;
 
 // How deep modules are in one another at most, where the template nests at most 120: each adds four arrays and objects
@@ -45,17 +45,76 @@ fn below(depth: u32) -> Option<u32>
     if depth == 0 { None } else { Some(depth - 1) }
 }
 
+// Templates of modules, by the numbers of their symbols, and how many bytes they have together at least.
+#[derive(Drop)]
+struct Inner {
+    templates: Vec<Option<Template>>,
+    bytes: u64,
+}
+
+// The template, where there was memory for it.
+fn or_fault(template: Result<Template, OutOfMemory>) -> Result<Template, EmitFault>
+    ensures { spec.IsOrFault template result }
+{
+    match template {
+        Ok(template) => Ok(template),
+        Err(_) => Err(EmitFault::OutOfMemory),
+    }
+}
+
 // The templates with one more.
 fn with_last(
     templates: Vec<Option<Template>>,
     template: Option<Template>,
 ) -> Result<Vec<Option<Template>>, OutOfMemory>
-    ensures { spec.IfOk result (spec.HasLast templates.items template) }
+    ensures { spec.IfOk result (spec.HasLastItem templates.items template) }
 {
     let mut templates = templates;
     match templates.push(template) {
         Ok(()) => Ok(templates),
         Err(_) => run_out(templates),
+    }
+}
+
+// These templates, where there was memory for them, which have together so many bytes at least.
+fn inner_of(
+    templates: Result<Vec<Option<Template>>, OutOfMemory>,
+    bytes: u64,
+) -> Result<Inner, EmitFault>
+    ensures { spec.IsInnerOf templates bytes result }
+{
+    match templates {
+        Ok(templates) => Ok(Inner { templates, bytes }),
+        Err(_) => Err(EmitFault::OutOfMemory),
+    }
+}
+
+// The templates with one more, where they have no more bytes than a template may have.
+fn short_enough(
+    templates: Vec<Option<Template>>,
+    template: Option<Template>,
+    bytes: u64,
+) -> Result<Inner, EmitFault>
+    ensures last { spec.IfOk result (spec.HasLast templates.items template bytes) }
+    ensures fault { spec.IfErr result (spec.IsTooMany bytes) }
+{
+    if bytes > MAX_TEMPLATE_BYTES as u64 {
+        refuse(EmitFault::Limit(Which::Bytes, bytes), (templates, template))
+    } else {
+        inner_of(with_last(templates, template), bytes)
+    }
+}
+
+// The templates with one more, and their bytes.
+fn counted(alloc: Global, inner: Inner, template: Option<Template>) -> Result<Inner, EmitFault>
+    requires keeps { spec.OptionKeeps template }
+    requires least { spec.IsLeast inner }
+    ensures last { spec.IfOk result (spec.HasOneMore inner template) }
+    ensures fault { spec.IfErr result (spec.IsOneTooMany inner template) }
+{
+    match added(alloc, inner.bytes, &template) {
+        Ok(bytes) => short_enough(inner.templates, template, bytes),
+        Err(_) => refuse(EmitFault::OutOfMemory, (inner, template)),
     }
 }
 
@@ -66,13 +125,14 @@ fn whole_file(
     parts: &[FileParts],
     number: usize,
     depth: u32,
-) -> Result<Template, OutOfMemory>
+) -> Result<Template, EmitFault>
     requires { spec.CanBeWhole parts.now number depth }
-    ensures { spec.IfOk result (spec.IsWholeIn parts.now number) }
+    ensures whole { spec.IfOk result (spec.IsWholeIn parts.now number) }
+    ensures fault { spec.IfErr result (spec.IsInnerFault parts.now) }
 {
     match part_at(parts, number) {
         Some(part) => whole_of(alloc, parts, part, depth),
-        None => Err(AllocError),
+        None => Err(EmitFault::OutOfMemory),
     }
 }
 
@@ -83,16 +143,17 @@ fn whole_of(
     parts: &[FileParts],
     part: &FileParts,
     depth: u32,
-) -> Result<Template, OutOfMemory>
+) -> Result<Template, EmitFault>
     requires { spec.CanBeWholePart parts.now part.now depth }
-    ensures { spec.IsWholeAtEach parts.now part.now result }
+    ensures whole { spec.IsWholeAtEach parts.now part.now result }
+    ensures fault { spec.IfErr result (spec.IsInnerFault parts.now) }
 {
     parts_within_the_limits_can_be_filled();
     checked_files_have_kinds();
     outputs_are_of_the_program();
     match modules(alloc, parts, part.table.file().entries.as_slice(), depth) {
-        Ok(templates) => file_template(alloc, part, templates),
-        Err(error) => Err(error),
+        Ok(inner) => or_fault(file_template(alloc, part, inner.templates)),
+        Err(fault) => Err(fault),
     }
 }
 
@@ -103,15 +164,19 @@ fn modules(
     parts: &[FileParts],
     entries: &[Entry],
     depth: u32,
-) -> Result<Vec<Option<Template>>, OutOfMemory>
+) -> Result<Inner, EmitFault>
     requires { spec.CanBeModules parts.now entries.now depth }
-    ensures { spec.IfOk result (spec.AreModulesIn parts.now entries.now) }
+    ensures modules { spec.IfOk result (spec.AreModulesIn parts.now entries.now) }
+    ensures fault { spec.IfErr result (spec.IsModulesFault parts.now entries.now) }
 {
-    let mut all = Vec::new(alloc);
+    let mut all = Inner {
+        templates: Vec::new(alloc),
+        bytes: 0,
+    };
     for entry in entries {
         match with_module(alloc, parts, entry.kind, depth, all) {
             Ok(more) => all = more,
-            Err(error) => return Err(error),
+            Err(fault) => return Err(fault),
         }
     }
     Ok(all)
@@ -124,14 +189,15 @@ fn with_module(
     parts: &[FileParts],
     kind: Kind,
     depth: u32,
-    templates: Vec<Option<Template>>,
-) -> Result<Vec<Option<Template>>, OutOfMemory>
-    requires { spec.CanBeModule parts.now kind depth }
-    ensures { spec.IfOk result (spec.HasModule parts.now kind templates.items) }
+    inner: Inner,
+) -> Result<Inner, EmitFault>
+    requires { spec.CanBeNext parts.now kind depth inner }
+    ensures module { spec.IfOk result (spec.HasModule parts.now kind inner) }
+    ensures fault { spec.IfErr result (spec.IsModuleFault parts.now kind inner) }
 {
     match module(alloc, parts, kind, depth) {
-        Ok(template) => with_last(templates, template),
-        Err(_) => run_out(templates),
+        Ok(template) => counted(alloc, inner, template),
+        Err(fault) => refuse(fault, inner),
     }
 }
 
@@ -142,9 +208,10 @@ fn module(
     parts: &[FileParts],
     kind: Kind,
     depth: u32,
-) -> Result<Option<Template>, OutOfMemory>
+) -> Result<Option<Template>, EmitFault>
     requires { spec.CanBeModule parts.now kind depth }
-    ensures { spec.IfOk result (spec.IsModuleFor parts.now kind) }
+    ensures module { spec.IfOk result (spec.IsModuleFor parts.now kind) }
+    ensures fault { spec.IfErr result (spec.IsInnerFault parts.now) }
 {
     match module_number(kind) {
         Some(number) => deeper(alloc, parts, number, depth),
@@ -159,14 +226,15 @@ fn deeper(
     parts: &[FileParts],
     number: usize,
     depth: u32,
-) -> Result<Option<Template>, OutOfMemory>
+) -> Result<Option<Template>, EmitFault>
     requires { spec.CanBeInner parts.now number depth }
-    ensures { spec.IfOk result (spec.IsInner parts.now number) }
+    ensures inner { spec.IfOk result (spec.IsInner parts.now number) }
+    ensures fault { spec.IfErr result (spec.IsInnerFault parts.now) }
 {
     match below(depth) {
         Some(less) => match whole_file(alloc, parts, number, less) {
             Ok(template) => Ok(Some(template)),
-            Err(error) => Err(error),
+            Err(fault) => Err(fault),
         },
         None => unreachable!(),
     }
@@ -204,7 +272,7 @@ fn built(alloc: Global, parts: &[FileParts]) -> Result<Template, EmitFault>
 {
     match whole_file(alloc, parts, 0, MAX_MODULE_DEPTH) {
         Ok(template) => within(template),
-        Err(_) => Err(EmitFault::OutOfMemory),
+        Err(fault) => Err(fault),
     }
 }
 
@@ -223,43 +291,50 @@ fn limited(alloc: Global, parts: &[FileParts]) -> Result<Template, EmitFault>
 // The template of a program, with the orders of the declarations of its files.
 fn ordered(
     alloc: Global,
+    form: Form,
     sources: &[SourceFile],
     files: &[ResolvedFile],
     orders: &[FileOrder],
 ) -> Result<Template, EmitFault>
     requires read { spec.IsRead sources.now files.now }
     requires orders { spec.AreOrdersOfAll sources.now files.now orders.now }
-    ensures whole { spec.IfOk result (spec.IsWholeProgram sources.now files.now) }
-    ensures fault { spec.IfErr result (spec.IsEmissionFault sources.now files.now) }
+    ensures whole { spec.IfOk result (spec.IsWholeProgram form sources.now files.now) }
+    ensures fault { spec.IfErr result (spec.IsEmissionFault form sources.now files.now) }
 {
-    match program_parts(alloc, sources, files, orders) {
+    match program_parts(alloc, form, sources, files, orders) {
         Ok(parts) => limited(alloc, parts.as_slice()),
         Err(fault) => Err(fault),
     }
 }
 
-/// The template of a program in the first form: that of its main file, in which each module is a nested deployment with
+/// The template of a program in a form: that of its main file, in which each module is a nested deployment with
 /// the template of its own file. `program` is what `load` of `bicep_program` returned, and `checked` what `check` of
 /// `bicep_types` returned for it.
 ///
 /// # Errors
 ///
 /// - `Limit`: a quantity of the template is beyond its limit, with its number.
-///   Modules that are in one another above 30 deep count as 31 deep.
+///   Modules that are in one another above 30 deep count as 31 deep. `Limit(Bytes, n)`: the templates of modules of one
+///   file, which are all in the template of this file, have together n bytes, more than 4,194,304.
 /// - `TooDeep`: an expression nests above 64, and no other limit is passed.
 /// - `OutOfMemory`.
-pub fn emit(alloc: Global, program: &Program, checked: &Checked) -> Result<Template, EmitFault>
+pub fn emit(
+    alloc: Global,
+    program: &Program,
+    checked: &Checked,
+    form: Form,
+) -> Result<Template, EmitFault>
     requires loaded { spec.IsLoaded program.now }
     requires checked { spec.IsCheckedAs program.now checked.now }
     requires none { spec.HasNoFault program.now }
-    ensures emitted { spec.IfOk result (spec.IsEmission program.now checked.now) }
-    ensures fault { spec.IfErr result (spec.IsEmitFault program.now checked.now) }
+    ensures emitted { spec.IfOk result (spec.IsEmission form program.now checked.now) }
+    ensures fault { spec.IfErr result (spec.IsEmitFault form program.now checked.now) }
 {
     whole_templates_are_emitted();
     let sources = program.files.as_slice();
     let files = checked.resolved.files.as_slice();
     match file_orders(alloc, sources, files) {
-        Ok(orders) => ordered(alloc, sources, files, orders.as_slice()),
+        Ok(orders) => ordered(alloc, form, sources, files, orders.as_slice()),
         Err(fault) => Err(fault),
     }
 }

@@ -6,6 +6,7 @@ use bicep_files::{Sample, hosts, networks, plain, stored, wholes};
 use sample_programs::programs::{Outcome, compare, letting_go, outcome_of};
 use std::alloc::{AllocError, Global};
 use std::test::Fail;
+use template_parts::Form;
 
 // The files that modules of the everyday files name.
 const MODULES: &str = r#"
@@ -79,19 +80,20 @@ fn write_outcome(alloc: Global, out: &mut String, outcome: &Outcome) -> Result<(
     }
 }
 
-// Writes what is read of what a file becomes.
-fn write_file(alloc: Global, out: &mut String, file: &str) -> Result<(), AllocError> {
+// Writes what is read of what a file becomes in the form.
+fn write_file(alloc: Global, out: &mut String, form: Form, file: &str) -> Result<(), AllocError> {
     let program = format!(in alloc; "{file}{MODULES}")?;
-    let outcome = outcome_of(alloc, program.as_str())?;
+    let outcome = outcome_of(alloc, program.as_str(), form)?;
     let written = write_outcome(alloc, out, &outcome);
     letting_go(written, outcome)
 }
 
-// Compares how many parameters, variables, outputs and resources there are in what files become, a line each.
-fn check_files(alloc: Global, files: &[Sample], wanted: &str) -> Result<(), Fail> {
+// Compares how many parameters, variables, outputs and resources there are in what files become in the form, a line
+// each.
+fn check_files(alloc: Global, form: Form, files: &[Sample], wanted: &str) -> Result<(), Fail> {
     let mut found = String::new(alloc);
     for file in files {
-        write_file(alloc, &mut found, file.0)?;
+        write_file(alloc, &mut found, form, file.0)?;
     }
     compare(found.as_str(), wanted)
 }
@@ -100,6 +102,7 @@ fn check_files(alloc: Global, files: &[Sample], wanted: &str) -> Result<(), Fail
 fn files_of_what_is_stored(rt: HostRuntime) -> Result<(), Fail> {
     check_files(
         rt.alloc(),
+        Form::One,
         &stored::SAMPLES,
         "4 1 2 3\n4 1 2 2\n5 0 1 3\n4 1 2 4\n3 0 1 3\n4 1 2 3\n",
     )
@@ -109,6 +112,7 @@ fn files_of_what_is_stored(rt: HostRuntime) -> Result<(), Fail> {
 fn files_of_networks(rt: HostRuntime) -> Result<(), Fail> {
     check_files(
         rt.alloc(),
+        Form::One,
         &networks::SAMPLES,
         "4 0 2 2\n4 4 1 2\n4 0 1 4\n3 2 2 2\n3 0 2 2\n4 1 2 5\n",
     )
@@ -118,6 +122,7 @@ fn files_of_networks(rt: HostRuntime) -> Result<(), Fail> {
 fn files_of_hosts(rt: HostRuntime) -> Result<(), Fail> {
     check_files(
         rt.alloc(),
+        Form::One,
         &hosts::SAMPLES,
         "4 1 2 4\n5 3 2 3\n5 2 1 2\n6 1 0 3\n5 0 1 2\n3 0 3 6\n",
     )
@@ -127,6 +132,7 @@ fn files_of_hosts(rt: HostRuntime) -> Result<(), Fail> {
 fn files_of_wholes(rt: HostRuntime) -> Result<(), Fail> {
     check_files(
         rt.alloc(),
+        Form::One,
         &wholes::SAMPLES,
         "3 1 2 3\n3 3 3 2\n3 2 1 3\n4 1 2 2\n",
     )
@@ -134,5 +140,63 @@ fn files_of_wholes(rt: HostRuntime) -> Result<(), Fail> {
 
 #[test]
 fn files_of_plain_values(rt: HostRuntime) -> Result<(), Fail> {
-    check_files(rt.alloc(), &plain::SAMPLES, "3 9 5 0\n3 14 2 0\n4 16 2 0\n")
+    check_files(
+        rt.alloc(),
+        Form::One,
+        &plain::SAMPLES,
+        "3 9 5 0\n3 14 2 0\n4 16 2 0\n",
+    )
+}
+
+// In the second form the existing resources are there too: the site of the logs, the account and the network of the
+// endpoints, the network and the part of it that others are peered with, the account of the functions, and the vault of
+// the roles.
+#[test]
+fn files_of_what_is_stored_in_the_second_form(rt: HostRuntime) -> Result<(), Fail> {
+    check_files(
+        rt.alloc(),
+        Form::Two,
+        &stored::SAMPLES,
+        "4 1 2 3\n4 1 2 2\n5 0 1 3\n4 1 2 4\n3 0 1 4\n4 1 2 3\n",
+    )
+}
+
+#[test]
+fn files_of_networks_in_the_second_form(rt: HostRuntime) -> Result<(), Fail> {
+    check_files(
+        rt.alloc(),
+        Form::Two,
+        &networks::SAMPLES,
+        "4 0 2 2\n4 4 1 2\n4 0 1 6\n3 2 2 2\n3 0 2 4\n4 1 2 5\n",
+    )
+}
+
+#[test]
+fn files_of_hosts_in_the_second_form(rt: HostRuntime) -> Result<(), Fail> {
+    check_files(
+        rt.alloc(),
+        Form::Two,
+        &hosts::SAMPLES,
+        "4 1 2 4\n5 3 2 4\n5 2 1 2\n6 1 0 3\n5 0 1 2\n3 0 3 6\n",
+    )
+}
+
+#[test]
+fn files_of_wholes_in_the_second_form(rt: HostRuntime) -> Result<(), Fail> {
+    check_files(
+        rt.alloc(),
+        Form::Two,
+        &wholes::SAMPLES,
+        "3 1 2 3\n3 3 3 2\n3 2 1 4\n4 1 2 2\n",
+    )
+}
+
+#[test]
+fn files_of_plain_values_in_the_second_form(rt: HostRuntime) -> Result<(), Fail> {
+    check_files(
+        rt.alloc(),
+        Form::Two,
+        &plain::SAMPLES,
+        "3 9 5 0\n3 14 2 0\n4 16 2 0\n",
+    )
 }

@@ -3,6 +3,7 @@
 use crate::rows::check_rows;
 use sample_programs::programs::{compare, outcome_text};
 use std::test::Fail;
+use template_parts::Form;
 
 const EMPTY: &str = concat!(
     r#"{"$schema":"https://schema.management.azure.com/schemas/2019-04-01/deploymentTemplate.json#","#,
@@ -11,7 +12,7 @@ const EMPTY: &str = concat!(
 
 #[test]
 fn an_empty_file(rt: HostRuntime) -> Result<(), Fail> {
-    let found = outcome_text(rt.alloc(), "")?;
+    let found = outcome_text(rt.alloc(), "", Form::One)?;
     compare(found.as_str(), EMPTY)
 }
 

@@ -20,3 +20,5 @@ mod metadata;
 mod modules;
 #[cfg(test)]
 mod rows;
+#[cfg(test)]
+mod second;

@@ -1,7 +1,8 @@
 // What modules become.
 
-use crate::rows::check_rows;
+use crate::rows::{check_program, check_rows};
 use std::test::Fail;
+use template_parts::Form;
 
 const MODULES: &str = r#"param xs array
 module m 'm.bicep' = {
@@ -115,7 +116,11 @@ output o string = b.id
 --- m.bicep
 param q object
 output o string = q.y
-=> {§,"outputs":{"o":{"type":"string","value":"[resourceId('Demo.Lab/b', 'b')]"}},
+"#;
+
+// The template of that program in the first form.
+const FIRST: &str =
+    r#"{§,"outputs":{"o":{"type":"string","value":"[resourceId('Demo.Lab/b', 'b')]"}},
 "parameters":{"n":{"type":"int"},"p":{"defaultValue":"ab","minLength":2,"type":"string"}},
 "resources":[{"apiVersion":"2020-01-01","copy":{"batchSize":3,"count":"[length(range(0, parameters('n')))]",
 "mode":"serial","name":"a"},"name":"[format('{0}{1}', variables('v'), range(0, parameters('n'))[copyIndex()])]",
@@ -135,5 +140,30 @@ output o string = q.y
 
 #[test]
 fn a_program_of_two_files(rt: HostRuntime) -> Result<(), Fail> {
-    check_rows(rt.alloc(), WHOLE)
+    check_program(rt.alloc(), Form::One, WHOLE, FIRST)
+}
+
+// Its template in the second form.
+const SECOND: &str =
+    r#"{¶,"outputs":{"o":{"type":"string","value":"[resourceId('Demo.Lab/b', 'b')]"}},
+"parameters":{"n":{"type":"int"},"p":{"defaultValue":"ab","minLength":2,"type":"string"}},
+"resources":{"a":{"apiVersion":"2020-01-01","copy":{"batchSize":3,"count":"[length(range(0, parameters('n')))]",
+"mode":"serial","name":"a"},"name":"[format('{0}{1}', variables('v'), range(0, parameters('n'))[copyIndex()])]",
+"properties":{"list":[1,true,null],"size":"[parameters('n')]"},"type":"Demo.Lab/a"},
+"b":{"apiVersion":"2020-01-01","condition":"[greater(parameters('n'), 2)]","dependsOn":["a"],"name":"b",
+"type":"Demo.Lab/b"},
+"c":{"apiVersion":"2020-01-01","condition":"[greater(parameters('n'), 2)]","dependsOn":["b","m"],
+"name":"[format('{0}/{1}', 'b', 'c')]",
+"properties":{"m":"[reference(resourceId('Microsoft.Resources/deployments', 'dep')).outputs.o.value]"},
+"type":"Demo.Lab/b/c"},
+"m":{"apiVersion":"2022-09-01","dependsOn":["b"],"name":"dep",
+"properties":{"expressionEvaluationOptions":{"scope":"inner"},"mode":"Incremental",
+"parameters":{"q":{"value":"[reference(resourceId('Demo.Lab/b', 'b'), '2020-01-01').x]"}},
+"template":{¶,"outputs":{"o":{"type":"string","value":"[parameters('q').y]"}},
+"parameters":{"q":{"type":"object"}},"resources":{}}},"type":"Microsoft.Resources/deployments"}},
+"variables":{"v":"[format('{0}-x', parameters('p'))]"}}"#;
+
+#[test]
+fn a_program_of_two_files_in_the_second_form(rt: HostRuntime) -> Result<(), Fail> {
+    check_program(rt.alloc(), Form::Two, WHOLE, SECOND)
 }

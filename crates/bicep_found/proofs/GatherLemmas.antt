@@ -1,7 +1,8 @@
 -- Parts that are found one after another, by a loop.
-use Rattle.std.proofs.Common.{◌≡◌, ℕ, List, [], ◌∷◌, ◌++◌, map, drop, length, get_or, ◌<◌, ◌+◌, suc, add-one, drop-cons}
+use Rattle.std.proofs.Common.{◌≡◌, ℕ, List, [], ◌∷◌, ◌++◌, map, ◌+◌, suc}
 use Rattle.std.proofs.Common.{Option, Some, None, option_map, refl, sym, ap, subst, ◌∙◌}
 use Rattle.std.specs.Prelude.{Result, Ok, Err, option_to_list}
+use Rattle.std.proofs.lemmas.List.{append-nil, map-append}
 use Rattle.bicep_found.specs.declared.stop.Stop.{Stop}
 use Rattle.bicep_found.specs.declared.stop.Stop.TheVariants as stop
 use Rattle.bicep_found.specs.Found.{Found, found, unknown, mapped, both, all_found, Gives}
@@ -20,17 +21,9 @@ nothing = found None
 unfoldable pub after : {A : Type 0} → List A → Found (List A) → Found (List A)
 after xs f = mapped (λ ys. xs ++ ys) f
 
-append-none : {A : Type 0} (xs : List A) → xs ++ [] ≡ xs
-append-none [] = refl
-append-none (x ∷ xs) = ap (λ ys. x ∷ ys) (append-none xs)
-
 append-both : {A : Type 0} (xs ys zs : List A) → xs ++ (ys ++ zs) ≡ (xs ++ ys) ++ zs
 append-both [] ys zs = refl
 append-both (x ∷ xs) ys zs = ap (λ l. x ∷ l) (append-both xs ys zs)
-
-map-both : {A B : Type 0} (view : A → B) (xs ys : List A) → map view (xs ++ ys) ≡ map view xs ++ map view ys
-map-both view [] ys = refl
-map-both view (x ∷ xs) ys = ap (λ zs. view x ∷ zs) (map-both view xs ys)
 
 map-option : {A B : Type 0} (view : A → B) (o : Option A)
     → option_to_list (option_map view o) ≡ map view (option_to_list o)
@@ -47,7 +40,7 @@ module _ {A : Type 0} where
   -- after the last part
   pub after-all : (xs : List A) → after xs (all_found []) ≡ found xs
   unfolding after mapped all_found
-  after-all xs = ap (λ ys. found ys) (append-none xs)
+  after-all xs = ap (λ ys. found ys) (append-nil xs)
 
   step : (xs ys : List A) (g : Found (List A))
       → after xs (mapped (λ p. p.0 ++ p.1) (both (found ys) g)) ≡ after (xs ++ ys) g
@@ -82,7 +75,7 @@ module _ {A X : Type 0} (view : X → A) (all : Found (List A)) (fs : List (Foun
       → part ≡ found (map view xs) → new ≡ old ++ xs → all ≡ after (map view new) (all_found fs)
   more part xs h k p =
       h ∙ ap (λ y. after (map view old) (all_found (y ∷ fs))) k ∙ after-found (map view old) (map view xs) fs
-      ∙ ap (λ ys. after ys (all_found fs)) (sym (map-both view old xs) ∙ ap (map view) (sym p))
+      ∙ ap (λ ys. after ys (all_found fs)) (sym (map-append view old xs) ∙ ap (map view) (sym p))
 
   -- a part is unknown
   lost : (part : Found (List A)) (at : ℕ) → all ≡ after (map view old) (all_found (part ∷ fs))
@@ -143,11 +136,6 @@ module _ {A X : Type 0} (view : X → A) (all : Found (List A)) (fs : List (Foun
 pub all_given : {A B X : Type 0} (view : X → A) (build : List A → B) (all : Found (List A)) (xs : List X)
     → all ≡ after (map view xs) (all_found []) → mapped build all ≡ found (build (map view xs))
 all_given view build all xs h = ap (mapped build) (h ∙ after-all (map view xs)) ∙ is-found build (map view xs)
-
--- the items from a place on
-pub next_item : {E : Type 0} (es : List E) (i : ℕ) (x : E) → i < length es → x ≡ get_or es i x
-    → drop i es ≡ x ∷ drop (i + 1) es
-next_item es i x h e = rw (add-one, drop-cons es i x) (ap (λ y. y ∷ drop (suc i) es) (sym e))
 
 -- what is left of the parts, where the items from the place on are those
 pub at_rest : {A E : Type 0} (part : E → Found (List A)) (all : Found (List A)) (es rest : List E) (xs : List A)

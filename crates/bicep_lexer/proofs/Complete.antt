@@ -1,7 +1,7 @@
 -- What a source spells is its reading.
 use Rattle.std.proofs.Common.{◌≡◌, ◌≢◌, ℕ, suc, ◌+◌, ◌^◌, ◌<◌, ◌≤◌, Bool, true, false, cond, not, ◌&&◌, eqb, nat_lt}
 use Rattle.std.proofs.Common.{nat_le, ◌==◌, List, [], ◌∷◌, ◌++◌, length, take, drop, Option, Some, None, Result, Ok}
-use Rattle.std.proofs.Common.{Err, option_map, is_some, refl, ap, sym, subst, ◌∙◌, append_assoc, arith, ◌⊎◌, inl, inr}
+use Rattle.std.proofs.Common.{Err, option_map, refl, ap, sym, subst, ◌∙◌, append_assoc, arith, ◌⊎◌, inl, inr}
 use Rattle.std.proofs.Common.{length-append, append-nil}
 use Rattle.std.specs.Char.{is_ascii_digit}
 use Rattle.std.specs.List.{prefix_len, take_while}
@@ -50,17 +50,13 @@ use Rattle.bicep_lexer.specs.Grammar.{line_after_token, InARow, StandsBefore, No
 use Rattle.bicep_lexer.specs.Reader.Steps.{then_rest, OnFront}
 use Rattle.bicep_lexer.proofs.Spans.{front_span}
 use Rattle.std.proofs.lemmas.List.{drop-drop}
+use Rattle.foundation.proofs.Options.{none_there}
+use Rattle.foundation.proofs.TruthValues.{first_of_both, of_not, of_not_false}
 use Rattle.bicep_lexer.specs.Faults.{BeginsPiece, BeginsNothing, IsFault, open_at_end, bad_number, bad_escape}
 use Rattle.bicep_lexer.specs.Faults.{open_at_line, open_at_file, open_verbatim, open_comment, bad_character, Refuses}
-use Rattle.foundation.proofs.Choices.{if_else}
+use Rattle.foundation.proofs.Choices.{if_else, cond_false, cond_true}
 use Rattle.bicep_lexer.proofs.SignLaws.{Passes, inside_passes, reads_escape}
 use Rattle.bicep_lexer.proofs.Steps.{by_front, read_front, reading-skip}
-
-pub passed : {A : Type 0} (b : Bool) (x y : A) → b ≡ false → cond b x y ≡ y
-passed b x y h = ap (λ t. cond t x y) h
-
-pub taken : {A : Type 0} (b : Bool) (x y : A) → b ≡ true → cond b x y ≡ x
-taken b x y h = ap (λ t. cond t x y) h
 
 pub not_equal : (a b : ℕ) → a ≢ b → eqb a b ≡ false
 not_equal a b h = grind (arith, nat_tests)
@@ -69,10 +65,10 @@ not_equal a b h = grind (arith, nat_tests)
 run_is : (test : ℕ → Bool) (w rest : List ℕ) → Throughout (begins test) true w rest → begins test rest ≡ false
     → take_while test (w ++ rest) ≡ w
 run_is test [] [] h stop = refl
-run_is test [] (c ∷ rest) h stop = ap (λ n. take n (c ∷ rest)) (passed (test c) (1 + prefix_len test rest) 0 stop)
+run_is test [] (c ∷ rest) h stop = ap (λ n. take n (c ∷ rest)) (cond_false (test c) (1 + prefix_len test rest) 0 stop)
 run_is test (b ∷ w) rest h stop =
     let e : 1 + prefix_len test (w ++ rest) ≡ suc (prefix_len test (w ++ rest)) = omega arith in
-    ap (λ n. take n (b ∷ (w ++ rest))) (taken (test b) (1 + prefix_len test (w ++ rest)) 0 h.0 ∙ e)
+    ap (λ n. take n (b ∷ (w ++ rest))) (cond_true (test b) (1 + prefix_len test (w ++ rest)) 0 h.0 ∙ e)
     ∙ ap (λ xs. b ∷ xs) (run_is test w rest h.1 stop)
 
 further-zero : (e : PieceEnd) → further 0 e ≡ e
@@ -96,13 +92,13 @@ inside_ends escaped [] tail e h is = ap (λ x. piece_end x tail) h ∙ is ∙ sy
 inside_ends true (b ∷ w) tail e h is = ap (further 1) (inside_ends false w tail e h is) ∙ further-suc (length w) e
 inside_ends false (b ∷ w) tail e h is =
     let bs = w ++ tail in
-    passed (eqb b 39) (ends.Quote 1) _ (not_equal b 39 h.0)
-    ∙ passed (is_hole b bs) (ends.Hole 2) _ h.1
-    ∙ passed (is_break b) ends.Line _ h.2
+    cond_false (eqb b 39) (ends.Quote 1) _ (not_equal b 39 h.0)
+    ∙ cond_false (is_hole b bs) (ends.Hole 2) _ h.1
+    ∙ cond_false (is_break b) ends.Line _ h.2
     ∙ (elim (eqb b 92) as (λ t. eqb b 92 ≡ t → Passes t w tail
     → cond t (cond (is_escape bs) (further 1 (piece_end true bs)) (ends.BadEscape 0))
     (further 1 (piece_end false bs)) ≡ further 1 (piece_end t bs)) [
-      | true ↦ λ y i. taken (is_escape bs) (further 1 (piece_end true bs)) (ends.BadEscape 0) (h.3 (eqb-true b 92 y))
+      | true ↦ λ y i. cond_true (is_escape bs) (further 1 (piece_end true bs)) (ends.BadEscape 0) (h.3 (eqb-true b 92 y))
       | false ↦ λ y i. refl
     ] refl h.4)
     ∙ ap (further 1) (inside_ends (eqb b 92) w tail e h.4 is)
@@ -113,27 +109,19 @@ line_is : (w rest : List ℕ) → Throughout ends_line false w rest → (rest �
 line_is [] [] h stop = refl
 line_is [] (c ∷ rest) h (inl e) = absurd cc
 line_is [] (c ∷ rest) h (inr e) =
-    passed (eqb (newline_length (c ∷ rest)) 0) (suc (line_length rest)) 0
-    (not_true (eqb (newline_length (c ∷ rest)) 0) e)
-  where
-    not_true : (b : Bool) → not b ≡ true → b ≡ false
-    not_true true h = absurd cc
-    not_true false h = refl
+    cond_false (eqb (newline_length (c ∷ rest)) 0) (suc (line_length rest)) 0
+    (of_not (eqb (newline_length (c ∷ rest)) 0) e)
 line_is (b ∷ w) rest h stop =
-    taken (eqb (newline_length (b ∷ (w ++ rest))) 0) (suc (line_length (w ++ rest))) 0
-    (not_false (eqb (newline_length (b ∷ (w ++ rest))) 0) h.0)
+    cond_true (eqb (newline_length (b ∷ (w ++ rest))) 0) (suc (line_length (w ++ rest))) 0
+    (of_not_false (eqb (newline_length (b ∷ (w ++ rest))) 0) h.0)
     ∙ ap suc (line_is w rest h.1 stop)
-  where
-    not_false : (b : Bool) → not b ≡ false → b ≡ true
-    not_false true h = refl
-    not_false false h = absurd cc
 
 comment_is : (w rest : List ℕ) → Throughout closes_comment false w (42 ∷ 47 ∷ rest)
     → comment_length (w ++ 42 ∷ 47 ∷ rest) ≡ Some (length w + 2)
 comment_is [] rest h = refl
 comment_is (b ∷ w) rest h =
     let e : suc (length w + 2) ≡ suc (length w) + 2 = omega arith in
-    passed (closes_comment (b ∷ (w ++ 42 ∷ 47 ∷ rest))) (Some 2)
+    cond_false (closes_comment (b ∷ (w ++ 42 ∷ 47 ∷ rest))) (Some 2)
     (option_map suc (comment_length (w ++ 42 ∷ 47 ∷ rest))) h.0
     ∙ ap (option_map suc) (comment_is w rest h.1)
     ∙ ap (λ n. Some n) e
@@ -147,11 +135,11 @@ verbatim_is : (w tail : List ℕ) → Throughout three_quotes false w tail → n
 verbatim_is [] [] h some = absurd (no_quotes some)
 verbatim_is [] (b ∷ bs) h some =
     let e : quotes 5 (b ∷ bs) ≡ 0 + quotes 5 (b ∷ bs) = omega arith in
-    taken (nat_le 3 (quotes 5 (b ∷ bs))) (Some (quotes 5 (b ∷ bs))) (option_map suc (verbatim_length bs)) some
+    cond_true (nat_le 3 (quotes 5 (b ∷ bs))) (Some (quotes 5 (b ∷ bs))) (option_map suc (verbatim_length bs)) some
     ∙ ap (λ n. Some n) e
 verbatim_is (b ∷ w) tail h some =
     let e : suc (length w + quotes 5 tail) ≡ suc (length w) + quotes 5 tail = omega arith in
-    passed (nat_le 3 (quotes 5 (b ∷ (w ++ tail)))) (Some (quotes 5 (b ∷ (w ++ tail))))
+    cond_false (nat_le 3 (quotes 5 (b ∷ (w ++ tail)))) (Some (quotes 5 (b ∷ (w ++ tail))))
     (option_map suc (verbatim_length (w ++ tail))) h.0
     ∙ ap (option_map suc) (verbatim_is w tail h.1 some)
     ∙ ap (λ n. Some n) e
@@ -182,8 +170,8 @@ name_front : (at : ℕ) (os : List Open) (l : Line) (b : ℕ) (bs rest : List �
     → front_of at os l (b ∷ (bs ++ rest)) ≡ Ok (front.Word k.Name (length (b ∷ bs)) turn.Stays)
 unfolding front_of name_length
 name_front at os l b bs rest letter run =
-    passed (is_blank b) _ _ (letter_no_blank b letter)
-    ∙ taken (is_letter b) _ _ letter
+    cond_false (is_blank b) _ _ (letter_no_blank b letter)
+    ∙ cond_true (is_letter b) _ _ letter
     ∙ ap (λ xs. word k.Name (length xs)) (run_is is_name_byte (b ∷ bs) rest run.0 run.1)
 
 number_is_front : (at : ℕ) (w bytes : List ℕ) → digits_of bytes ≡ w → number_from 0 w < 2 ^ 63
@@ -192,16 +180,16 @@ unfolding number_front
 number_is_front at w bytes is small =
     let lt : nat_lt (number_from 0 w) (2 ^ 63) ≡ true = grind (arith, nat_tests) in
     ap (λ ds. cond (nat_lt (number_from 0 ds) (2 ^ 63)) (word k.Number (length ds)) (Err (fault.BadNumber at))) is
-    ∙ taken (nat_lt (number_from 0 w) (2 ^ 63)) _ _ lt
+    ∙ cond_true (nat_lt (number_from 0 w) (2 ^ 63)) _ _ lt
 
 digits_front : (at : ℕ) (os : List Open) (l : Line) (b : ℕ) (bs rest : List ℕ) → IsRun is_ascii_digit (b ∷ bs) rest
     → number_from 0 (b ∷ bs) < 2 ^ 63
     → front_of at os l (b ∷ (bs ++ rest)) ≡ Ok (front.Word k.Number (length (b ∷ bs)) turn.Stays)
 unfolding front_of
 digits_front at os l b bs rest run small =
-    passed (is_blank b) _ _ (digit_no_blank b run.0.0)
-    ∙ passed (is_letter b) _ _ (digit_no_letter b run.0.0)
-    ∙ taken (is_ascii_digit b) _ _ run.0.0
+    cond_false (is_blank b) _ _ (digit_no_blank b run.0.0)
+    ∙ cond_false (is_letter b) _ _ (digit_no_letter b run.0.0)
+    ∙ cond_true (is_ascii_digit b) _ _ run.0.0
     ∙ number_is_front at (b ∷ bs) (b ∷ (bs ++ rest)) (run_is is_ascii_digit (b ∷ bs) rest run.0 run.1) small
 
 quote_front : (at : ℕ) (os : List Open) (l : Line) (bs : List ℕ)
@@ -224,7 +212,7 @@ text_is_front : (at : ℕ) (os : List Open) (bs : List ℕ) → quotes 3 (39 ∷
     → text_front at os (39 ∷ bs) ≡ piece at at os (k.Text, turn.Stays) (k.LeftPiece, turn.Opens (opened.Text at))
     (piece_end false bs)
 unfolding text_front
-text_is_front at os bs h = passed (eqb (quotes 3 (39 ∷ bs)) 3) _ _ h
+text_is_front at os bs h = cond_false (eqb (quotes 3 (39 ∷ bs)) 3) _ _ h
 
 -- `(w ++ ends) ++ rest`, with ends in front of the rest
 along : (w ends rest : List ℕ) → (w ++ ends) ++ rest ≡ w ++ (ends ++ rest)
@@ -324,12 +312,8 @@ other_as b x y h = subst NoOther (sym (eqb-true b x y)) h
 
 double_as : (a b x z : ℕ) → (eqb a x && eqb b z) ≡ true → NoOther x → eqb x 47 ≡ false → NoOther a × (eqb a 47 ≡ false)
 double_as a b x z y h slash =
-    let first : eqb a x ≡ true = both (eqb a x) (eqb b z) y in
+    let first : eqb a x ≡ true = first_of_both (eqb a x) (eqb b z) y in
     (other_as a x first h, subst (λ n. eqb n 47 ≡ false) (sym (eqb-true a x first)) slash)
-  where
-    both : (p q : Bool) → (p && q) ≡ true → p ≡ true
-    both true q h = refl
-    both false q h = absurd cc
 
 pub single_facts : (b : ℕ) → SingleFacts (single_mark b) b
 unfolding single_mark
@@ -386,34 +370,30 @@ double_facts a b =
     (λ n. tt))))))))))))
 
 no_line_end : (b : ℕ) (bs : List ℕ) → eqb b 10 ≡ false → eqb b 13 ≡ false → newline_length (b ∷ bs) ≡ 0
-no_line_end b bs lf cr = passed (eqb b 10) 1 _ lf
-    ∙ passed (eqb b 13 && begins_with 10 bs) 2 0 (ap (λ t. t && begins_with 10 bs) cr)
+no_line_end b bs lf cr = cond_false (eqb b 10) 1 _ lf
+    ∙ cond_false (eqb b 13 && begins_with 10 bs) 2 0 (ap (λ t. t && begins_with 10 bs) cr)
 
 marks_front : (at : ℕ) (os : List Open) (l : Line) (b : ℕ) (bs : List ℕ) → NoOther b
     → opens_comment 47 (b ∷ bs) ≡ false → opens_comment 42 (b ∷ bs) ≡ false
     → front_of at os l (b ∷ bs) ≡ mark_front at (b ∷ bs)
 unfolding front_of
 marks_front at os l b bs h slashes star =
-    passed (is_blank b) _ _ h.0
-    ∙ passed (is_letter b) _ _ h.1
-    ∙ passed (is_ascii_digit b) _ _ h.2
-    ∙ passed (eqb b 39) _ _ h.3
-    ∙ passed (opens_comment 47 (b ∷ bs)) _ _ slashes
-    ∙ passed (opens_comment 42 (b ∷ bs)) _ _ star
-    ∙ passed (not (eqb (newline_length (b ∷ bs)) 0)) _ _ (ap (λ n. not (eqb n 0)) (no_line_end b bs h.4 h.5))
-    ∙ passed (eqb b 35) _ _ h.6
-    ∙ passed (eqb b 123) _ _ h.7
-    ∙ passed (eqb b 125) _ _ h.8
-
-none_is : {A : Type 0} (o : Option A) → is_some o ≡ false → o ≡ None
-none_is None h = refl
-none_is (Some x) h = absurd cc
+    cond_false (is_blank b) _ _ h.0
+    ∙ cond_false (is_letter b) _ _ h.1
+    ∙ cond_false (is_ascii_digit b) _ _ h.2
+    ∙ cond_false (eqb b 39) _ _ h.3
+    ∙ cond_false (opens_comment 47 (b ∷ bs)) _ _ slashes
+    ∙ cond_false (opens_comment 42 (b ∷ bs)) _ _ star
+    ∙ cond_false (not (eqb (newline_length (b ∷ bs)) 0)) _ _ (ap (λ n. not (eqb n 0)) (no_line_end b bs h.4 h.5))
+    ∙ cond_false (eqb b 35) _ _ h.6
+    ∙ cond_false (eqb b 123) _ _ h.7
+    ∙ cond_false (eqb b 125) _ _ h.8
 
 single_mark_front : (at b : ℕ) (rest : List ℕ) → makes_double b rest ≡ false
     → mark_front at (b ∷ rest) ≡ single at (single_mark b)
 unfolding mark_front
 single_mark_front at b [] h = refl
-single_mark_front at b (c ∷ rest) h = ap (double at b) (none_is (double_mark b c) h)
+single_mark_front at b (c ∷ rest) h = ap (double at b) (none_there (double_mark b c) h)
 
 single_front : (at : ℕ) (os : List Open) (l : Line) (b : ℕ) (rest : List ℕ) (kind : TokenKind)
     → single_mark b ≡ Some kind → makes_double b rest ≡ false → opens_comment 47 (b ∷ rest) ≡ false
@@ -524,7 +504,7 @@ drop_seam (b ∷ w) rest = drop_seam w rest
 blank_front : (at : ℕ) (os : List Open) (l : Line) (b : ℕ) (rest : List ℕ) → is_blank b ≡ true
     → front_of at os l (b ∷ rest) ≡ Ok (front.Skipped 1 l)
 unfolding front_of
-blank_front at os l b rest h = taken (is_blank b) _ _ h
+blank_front at os l b rest h = cond_true (is_blank b) _ _ h
 
 slashes_front : (at : ℕ) (os : List Open) (l : Line) (rest : List ℕ)
     → front_of at os l (47 ∷ 47 ∷ rest) ≡ Ok (front.Skipped (line_length (47 ∷ 47 ∷ rest)) l)
@@ -557,8 +537,8 @@ hash_front at os l rest = refl
 directive_is : (at : ℕ) (l : Line) (bytes : List ℕ) → l ≢ line.Within → is_directive bytes ≡ true
     → directive_front at l bytes ≡ Ok (front.Skipped (line_length bytes) l)
 directive_is at line.Within bytes h is = absurd (h refl)
-directive_is at line.Front bytes h is = taken (is_directive bytes) _ _ is
-directive_is at line.Folded bytes h is = taken (is_directive bytes) _ _ is
+directive_is at line.Front bytes h is = cond_true (is_directive bytes) _ _ is
+directive_is at line.Folded bytes h is = cond_true (is_directive bytes) _ _ is
 
 skipped_as : (n n' : ℕ) (l l' : Line) (o : Result Front LexFault) → n ≡ n' → l ≡ l' → o ≡ Ok (front.Skipped n' l')
     → o ≡ Ok (front.Skipped n l)
@@ -673,15 +653,15 @@ unfolding number_front
 too_large_front at w bytes is large =
     let lt : nat_lt (number_from 0 w) (2 ^ 63) ≡ false = grind (arith, nat_tests) in
     ap (λ ds. cond (nat_lt (number_from 0 ds) (2 ^ 63)) (word k.Number (length ds)) (Err (fault.BadNumber at))) is
-    ∙ passed (nat_lt (number_from 0 w) (2 ^ 63)) _ _ lt
+    ∙ cond_false (nat_lt (number_from 0 w) (2 ^ 63)) _ _ lt
 
 too_large : (at : ℕ) (os : List Open) (l : Line) (b : ℕ) (bs rest : List ℕ) → IsRun is_ascii_digit (b ∷ bs) rest
     → 2 ^ 63 ≤ number_from 0 (b ∷ bs) → front_of at os l (b ∷ (bs ++ rest)) ≡ Err (fault.BadNumber at)
 unfolding front_of
 too_large at os l b bs rest run large =
-    passed (is_blank b) _ _ (digit_no_blank b run.0.0)
-    ∙ passed (is_letter b) _ _ (digit_no_letter b run.0.0)
-    ∙ taken (is_ascii_digit b) _ _ run.0.0
+    cond_false (is_blank b) _ _ (digit_no_blank b run.0.0)
+    ∙ cond_false (is_letter b) _ _ (digit_no_letter b run.0.0)
+    ∙ cond_true (is_ascii_digit b) _ _ run.0.0
     ∙ too_large_front at (b ∷ bs) (b ∷ (bs ++ rest)) (run_is is_ascii_digit (b ∷ bs) rest run.0 run.1) large
 
 -- the front of a piece that ends in a fault
@@ -705,8 +685,8 @@ piece_fault at os l b quote bs e f (inr h) is gives =
 
 break_ends : (c : ℕ) (rest : List ℕ) → is_break c ≡ true → piece_end false (c ∷ rest) ≡ ends.Line
 break_ends c rest h =
-    passed (eqb c 39) _ _ (no_39 c h) ∙ passed (is_hole c rest) _ _ (ap (λ t. t && begins_with 123 rest) (no_36 c h))
-    ∙ taken (is_break c) _ _ h
+    cond_false (eqb c 39) _ _ (no_39 c h) ∙ cond_false (is_hole c rest) _ _ (ap (λ t. t && begins_with 123 rest) (no_36 c h))
+    ∙ cond_true (is_break c) _ _ h
   where
     no_39 : (c : ℕ) → is_break c ≡ true → eqb c 39 ≡ false
     no_39 c h = grind (arith, nat_tests)
@@ -715,7 +695,7 @@ break_ends c rest h =
     no_36 c h = grind (arith, nat_tests)
 
 wrong_ends : (rest : List ℕ) → is_escape rest ≡ false → piece_end false (92 ∷ rest) ≡ ends.BadEscape 0
-wrong_ends rest h = passed (is_escape rest) (further 1 (piece_end true rest)) (ends.BadEscape 0) h
+wrong_ends rest h = cond_false (is_escape rest) (further 1 (piece_end true rest)) (ends.BadEscape 0) h
 
 no_escape : (rest : List ℕ) → ¬ BeginsEscape (92 ∷ rest) → is_escape rest ≡ false
 no_escape rest h = elim (is_escape rest) as (λ t. is_escape rest ≡ t → t ≡ false) [
@@ -729,13 +709,13 @@ break_no_brace c h = grind (arith, nat_tests)
 open_verbatim_is : (w : List ℕ) → Throughout three_quotes false w [] → verbatim_length w ≡ None
 open_verbatim_is [] h = refl
 open_verbatim_is (b ∷ w) h =
-    passed (nat_le 3 (quotes 5 (b ∷ w))) _ _ (subst (λ xs. three_quotes (b ∷ xs) ≡ false) (append-nil w) h.0)
+    cond_false (nat_le 3 (quotes 5 (b ∷ w))) _ _ (subst (λ xs. three_quotes (b ∷ xs) ≡ false) (append-nil w) h.0)
     ∙ ap (option_map suc) (open_verbatim_is w h.1)
 
 open_comment_is : (w : List ℕ) → Throughout closes_comment false w [] → comment_length w ≡ None
 open_comment_is [] h = refl
 open_comment_is (b ∷ w) h =
-    passed (closes_comment (b ∷ w)) _ _ (subst (λ xs. closes_comment (b ∷ xs) ≡ false) (append-nil w) h.0)
+    cond_false (closes_comment (b ∷ w)) _ _ (subst (λ xs. closes_comment (b ∷ xs) ≡ false) (append-nil w) h.0)
     ∙ ap (option_map suc) (open_comment_is w h.1)
 
 open_verbatim_front : (at : ℕ) (os : List Open) (bs : List ℕ) → verbatim_length bs ≡ None
@@ -746,24 +726,24 @@ open_verbatim_front at os bs h = ap (verbatim at os) h
 no_directive_front : (at : ℕ) (l : Line) (bytes : List ℕ) → (l ≢ line.Within → is_directive bytes ≡ false)
     → directive_front at l bytes ≡ Err (fault.BadCharacter at)
 no_directive_front at line.Within bytes h = refl
-no_directive_front at line.Front bytes h = passed (is_directive bytes) _ _ (h (λ e. cc))
-no_directive_front at line.Folded bytes h = passed (is_directive bytes) _ _ (h (λ e. cc))
+no_directive_front at line.Front bytes h = cond_false (is_directive bytes) _ _ (h (λ e. cc))
+no_directive_front at line.Folded bytes h = cond_false (is_directive bytes) _ _ (h (λ e. cc))
 
 -- where no word begins
 nothing_front : (at : ℕ) (os : List Open) (l : Line) (b : ℕ) (bs : List ℕ) → BeginsNothing l b (b ∷ bs)
     → makes_double b bs ≡ false → front_of at os l (b ∷ bs) ≡ Err (fault.BadCharacter at)
 unfolding front_of
 nothing_front at os l b bs h alone =
-    passed (is_blank b) _ _ h.no_blank
-    ∙ passed (is_letter b) _ _ h.no_letter
-    ∙ passed (is_ascii_digit b) _ _ h.no_digit
-    ∙ passed (eqb b 39) _ _ h.no_quote
-    ∙ passed (opens_comment 47 (b ∷ bs)) _ _ h.no_line_comment
-    ∙ passed (opens_comment 42 (b ∷ bs)) _ _ h.no_comment
-    ∙ passed (not (eqb (newline_length (b ∷ bs)) 0)) _ _ h.no_line_end
+    cond_false (is_blank b) _ _ h.no_blank
+    ∙ cond_false (is_letter b) _ _ h.no_letter
+    ∙ cond_false (is_ascii_digit b) _ _ h.no_digit
+    ∙ cond_false (eqb b 39) _ _ h.no_quote
+    ∙ cond_false (opens_comment 47 (b ∷ bs)) _ _ h.no_line_comment
+    ∙ cond_false (opens_comment 42 (b ∷ bs)) _ _ h.no_comment
+    ∙ cond_false (not (eqb (newline_length (b ∷ bs)) 0)) _ _ h.no_line_end
     ∙ if_else (λ o. o ≡ Err (fault.BadCharacter at)) (eqb b 35) _ _
     (λ y. no_directive_front at l (b ∷ bs) (h.no_directive (eqb-true b 35 y)))
-    (λ n. passed (eqb b 123) _ _ h.no_open_brace ∙ passed (eqb b 125) _ _ h.no_close_brace
+    (λ n. cond_false (eqb b 123) _ _ h.no_open_brace ∙ cond_false (eqb b 125) _ _ h.no_close_brace
     ∙ single_mark_front at b bs alone ∙ ap (single at) h.no_mark)
 
 fault_read : (at : ℕ) (os : List Open) (l : Line) (bytes : List ℕ) (f : LexFault) → 0 < length bytes

@@ -4,6 +4,7 @@ use Rattle.std.proofs.Common.{take, Option, Some, None, is_some, unwrap_or, refl
 use Rattle.std.proofs.Common.{length-append}
 use Rattle.std.proofs.lemmas.Bool.{eqb-true}
 use Rattle.std.proofs.lemmas.Bool.Decides.{nat_tests}
+use Rattle.foundation.proofs.Choices.{cond_false, cond_true}
 use Rattle.bicep_lexer.specs.declared.kind.TokenKind.{TokenKind}
 use Rattle.bicep_lexer.specs.declared.kind.TokenKind.TheVariants as k
 use Rattle.bicep_lexer.specs.declared.value.Mode.TheVariants as mode
@@ -11,7 +12,7 @@ use Rattle.bicep_lexer.specs.Escapes.{hexadecimal, is_scalar, simple_escape}
 use Rattle.bicep_lexer.specs.Values.{with_digit, character_of, unescaped_from, unescaped, inside, value_of}
 use Rattle.bicep_lexer.specs.Signs.{Sign, itself, escape, unicode, hexadecimal_from, AreHexadecimal, AreSigns}
 use Rattle.bicep_lexer.specs.Signs.{written, meant, IsBetween}
-use Rattle.bicep_lexer.proofs.Complete.{passed, taken, not_equal, take_seam}
+use Rattle.bicep_lexer.proofs.Complete.{not_equal, take_seam}
 
 hexadecimal-grows : (v : ℕ) (ds : List ℕ) → v ≤ hexadecimal_from v ds
 hexadecimal-grows v [] = omega arith
@@ -38,7 +39,7 @@ braced v [] rest h small = refl
 braced v (d ∷ ds) rest h small =
     let next = 16 * v + unwrap_or (hexadecimal d) 0 in
     let below : next < 0x11_0000 = omega (arith, small, hexadecimal-grows next ds) in
-    passed (eqb d 125) _ _ (digit_no_brace d h.0)
+    cond_false (eqb d 125) _ _ (digit_no_brace d h.0)
     ∙ ap (λ n. unescaped_from (mode.Braced n) (ds ++ 125 ∷ rest)) (with_digit-small v (hexadecimal d) h.0 below)
     ∙ braced next ds rest h.1 small
 
@@ -57,14 +58,14 @@ no_u c h = elim (eqb c 117) as (λ t. eqb c 117 ≡ t → t ≡ false) [
 -- each escape's character in its place
 signs_meant : (ss : List Sign) → AreSigns ss → unescaped (written ss) ≡ meant ss
 signs_meant [] h = refl
-signs_meant (itself c ∷ ss) h = passed (eqb c 92) _ _ (not_equal c 92 h.0.1)
+signs_meant (itself c ∷ ss) h = cond_false (eqb c 92) _ _ (not_equal c 92 h.0.1)
     ∙ ap (λ xs. c ∷ xs) (signs_meant ss h.2)
-signs_meant (escape c ∷ ss) h = passed (eqb c 117) _ _ (no_u c h.0)
+signs_meant (escape c ∷ ss) h = cond_false (eqb c 117) _ _ (no_u c h.0)
     ∙ ap (λ xs. unwrap_or (simple_escape c) c ∷ xs) (signs_meant ss h.2)
 signs_meant (unicode ds ∷ ss) h =
     let v = hexadecimal_from 0 ds in
     braced 0 ds (written ss) h.0.2 (scalar_small v h.0.3)
-    ∙ ap (λ xs. xs ++ unescaped (written ss)) (taken (is_scalar v) (v ∷ []) [] h.0.3)
+    ∙ ap (λ xs. xs ++ unescaped (written ss)) (cond_true (is_scalar v) (v ∷ []) [] h.0.3)
     ∙ ap (λ xs. v ∷ xs) (signs_meant ss h.2)
 
 -- what is inside is what is between the ends

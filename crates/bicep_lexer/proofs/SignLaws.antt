@@ -4,6 +4,7 @@ use Rattle.std.proofs.Common.{eqb, List, [], ◌∷◌, ◌++◌, length, drop, 
 use Rattle.std.proofs.Common.{unwrap_or, refl, ap, sym, subst, ◌∙◌, append_assoc, length-append, arith}
 use Rattle.std.proofs.lemmas.Bool.{eqb-true}
 use Rattle.std.proofs.lemmas.Bool.Decides.{nat_tests}
+use Rattle.foundation.proofs.TruthValues.{not_both}
 use Rattle.bicep_lexer.specs.Bytes.{begins_with}
 use Rattle.bicep_lexer.specs.Escapes.{hexadecimal, is_scalar, simple_escape}
 use Rattle.bicep_lexer.specs.Signs.{Sign, itself, escape, unicode, hexadecimal_from, AreHexadecimal, IsEscape, AreSigns}
@@ -25,10 +26,6 @@ abbrev pub Stops : List ℕ → Type 0
 Stops [] = Unit {0}
 Stops (c ∷ cs) = (is_some (hexadecimal c) ≡ false) × (eqb c 125 ≡ false) × (eqb c 123 ≡ false)
 
-clash : (b : Bool) → b ≡ true → b ≡ false → ⊥
-clash true h i = cc
-clash false h i = cc
-
 differ : (a b : ℕ) → eqb a b ≡ false → a ≢ b
 differ a b h = grind (arith, nat_tests)
 
@@ -38,7 +35,7 @@ no_eqb a b h = grind (arith, nat_tests)
 -- a byte with another test is another byte
 pub not_hex : (d x : ℕ) → is_some (hexadecimal x) ≡ false → is_some (hexadecimal d) ≡ true → eqb d x ≡ false
 not_hex d x other h = elim (eqb d x) as (λ t. eqb d x ≡ t → t ≡ false) [
-  | true ↦ λ e. absurd (clash (is_some (hexadecimal x))
+  | true ↦ λ e. absurd (not_both (is_some (hexadecimal x))
       (subst (λ y. is_some (hexadecimal y) ≡ true) (eqb-true d x e) h) other)
   | false ↦ λ e. refl
 ] refl
@@ -213,7 +210,7 @@ some_of (Some v) h = refl
 
 digits_some : (ds more bs : List ℕ) → bs ≡ ds ++ 125 ∷ more → begins_with 125 bs ≡ false → 1 ≤ length ds
 digits_some [] more bs is h =
-    absurd (clash (begins_with 125 (125 ∷ more)) refl (subst (λ xs. begins_with 125 xs ≡ false) is h))
+    absurd (not_both (begins_with 125 (125 ∷ more)) refl (subst (λ xs. begins_with 125 xs ≡ false) is h))
 digits_some (d ∷ ds) more bs is h = omega arith
 
 -- what a braced scalar is written by
@@ -287,9 +284,9 @@ ends_before : (word rest ds more : List ℕ) → Stops rest → AreHexadecimal d
 ends_before [] [] [] more st h is = absurd cc
 ends_before [] [] (d ∷ ds) more st h is = absurd cc
 ends_before [] (c ∷ cs) [] more st h is =
-    absurd (clash (eqb 125 125) refl (subst (λ x. eqb x 125 ≡ false) (first_is c 125 cs more is) st.1))
+    absurd (not_both (eqb 125 125) refl (subst (λ x. eqb x 125 ≡ false) (first_is c 125 cs more is) st.1))
 ends_before [] (c ∷ cs) (d ∷ ds) more st h is =
-    absurd (clash (is_some (hexadecimal d)) h.0
+    absurd (not_both (is_some (hexadecimal d)) h.0
     (subst (λ x. is_some (hexadecimal x) ≡ false) (first_is c d cs (ds ++ 125 ∷ more) is) st.0))
 ends_before (b ∷ word) rest [] more st h is =
     (word, ap (λ x. x ∷ word) (first_is b 125 (word ++ rest) more is))
@@ -301,7 +298,7 @@ opens_before : (word rest more : List ℕ) → Stops rest → word ++ rest ≡ 1
     × (word ≡ 123 ∷ left)
 opens_before [] [] more st is = absurd cc
 opens_before [] (c ∷ cs) more st is =
-    absurd (clash (eqb 123 123) refl (subst (λ x. eqb x 123 ≡ false) (first_is c 123 cs more is) st.2))
+    absurd (not_both (eqb 123 123) refl (subst (λ x. eqb x 123 ≡ false) (first_is c 123 cs more is) st.2))
 opens_before (b ∷ word) rest more st is = (word, ap (λ x. x ∷ word) (first_is b 123 (word ++ rest) more is))
 
 pass_digits : (ds word rest : List ℕ) → AreHexadecimal ds → Passes false (ds ++ 125 ∷ word) rest

@@ -9,6 +9,7 @@ use Rattle.std.proofs.lemmas.Bool.{eqb-true}
 use Rattle.std.proofs.lemmas.Bool.Decides.{nat_tests}
 use Rattle.std.proofs.lemmas.List.{length-drop, length-take-le, take-append-drop}
 use Rattle.std.proofs.lemmas.List.Folds.{length-prefix_len}
+use Rattle.foundation.proofs.TruthValues.{not_both}
 use Rattle.bicep_lexer.specs.declared.kind.TokenKind.{TokenKind}
 use Rattle.bicep_lexer.specs.declared.kind.TokenKind.TheVariants as k
 use Rattle.bicep_lexer.specs.declared.fault.LexFault.{LexFault}
@@ -51,11 +52,11 @@ use Rattle.bicep_lexer.specs.Grammar.{comment, directive, folded, Part, skip, to
 use Rattle.bicep_lexer.specs.Grammar.{line_after_token, InARow, StandsBefore, NoneIsOpen, Spells}
 use Rattle.bicep_lexer.specs.Faults.{BeginsNothing, IsFault, open_at_end, bad_number, bad_escape, open_at_line}
 use Rattle.bicep_lexer.specs.Faults.{open_at_file, open_verbatim, open_comment, bad_character, Refuses}
-use Rattle.foundation.proofs.Choices.{if_else}
+use Rattle.foundation.proofs.Choices.{if_else, cond_true}
 use Rattle.bicep_lexer.proofs.SignLaws.{Passes, passes_inside, escape_reads, break_stops}
 use Rattle.bicep_lexer.proofs.Spans.{front_span, quotes_is, quotes_reach}
 use Rattle.bicep_lexer.proofs.Steps.{by_front, read_front, reading-skip}
-use Rattle.bicep_lexer.proofs.Complete.{taken, take_seam, drop_seam, single_facts, double_facts, SingleFacts}
+use Rattle.bicep_lexer.proofs.Complete.{take_seam, drop_seam, single_facts, double_facts, SingleFacts}
 use Rattle.bicep_lexer.proofs.Complete.{DoubleFacts}
 
 -- what a front may be
@@ -99,7 +100,7 @@ first_of : (test : ℕ → Bool) (b : ℕ) (bs : List ℕ) → test b ≡ true
     → take (prefix_len test (b ∷ bs)) (b ∷ bs) ≡ b ∷ take (prefix_len test bs) bs
 first_of test b bs h =
     let e : 1 + prefix_len test bs ≡ suc (prefix_len test bs) = omega arith in
-    ap (λ n. take n (b ∷ bs)) (taken (test b) (1 + prefix_len test bs) 0 h ∙ e)
+    ap (λ n. take n (b ∷ bs)) (cond_true (test b) (1 + prefix_len test bs) 0 h ∙ e)
 
 name_good : (os : List Open) (l : Line) (at b : ℕ) (bs : List ℕ) → is_letter b ≡ true
     → OnGood os l at (word k.Name (name_length (b ∷ bs))) (b ∷ bs)
@@ -238,11 +239,7 @@ backslash_inside : (w rest : List ℕ) → Passes false w (92 ∷ rest) → IsIn
 backslash_inside w rest h = passes_inside w (92 ∷ rest) (refl, refl, refl) h
 
 wrong_escape : (rest : List ℕ) → is_escape rest ≡ false → ¬ BeginsEscape (92 ∷ rest)
-wrong_escape rest h e = absurd_both (is_escape rest) (escape_reads rest e) h
-  where
-    absurd_both : (b : Bool) → b ≡ true → b ≡ false → ⊥
-    absurd_both true h i = cc
-    absurd_both false h i = cc
+wrong_escape rest h e = not_both (is_escape rest) (escape_reads rest e) h
 
 text_good : (os : List Open) (l : Line) (at : ℕ) (bs : List ℕ) (e : PieceEnd) → quotes 3 (39 ∷ bs) == 3 ≡ false
     → InsideOf false bs e

@@ -2,6 +2,7 @@
 use Rattle.std.proofs.Common.{◌≡◌, suc, ℕ, ◌+◌, ◌<◌, ◌≤◌, max, nat_lt, nat_le, List, [], ◌∷◌, Bool, true, false, cond}
 use Rattle.std.proofs.Common.{refl, ap, sym, ◌∙◌, arith, subst}
 use Rattle.std.proofs.lemmas.Bool.Decides.{nat_tests}
+use Rattle.foundation.proofs.Comparisons.{le_false, le_true, lt_false}
 use Rattle.bicep_tree.specs.Tree.{Tree, object, Trees, none, more, Holes, no_hole, hole, ObjectTree, MemberTree}
 use Rattle.bicep_tree.specs.Tree.{property, child, MemberTrees, no_member, and_member, ValueTree, plain, each}
 use Rattle.bicep_tree.specs.Tree.{LoopTree, loop, DecoratorTree, decorator, DecoratorTrees, no_decorator}
@@ -57,18 +58,6 @@ module _ (most : ℕ) where
   pub record Stands {X : Type 0} (k : Kept X) (x : X) (n : ℕ) : Type 0 where
     pub whole : n ≤ most → k ≡ (x, n)
     pub deep : most < n → most < k.1
-
-  le_true : (m n : ℕ) → m ≤ n → nat_le m n ≡ true
-  le_true m n h = grind (arith, nat_tests)
-
-  le_false : (m n : ℕ) → n < m → nat_le m n ≡ false
-  le_false m n h = grind (arith, nat_tests)
-
-  lt_true : (m n : ℕ) → m < n → nat_lt m n ≡ true
-  lt_true m n h = grind (arith, nat_tests)
-
-  lt_false : (m n : ℕ) → n ≤ m → nat_lt m n ≡ false
-  lt_false m n h = grind (arith, nat_tests)
 
   pub fits-whole : {X : Type 0} (lost x : X) (n : ℕ) → n ≤ most → fits lost x n ≡ (x, n)
   unfolding fits

@@ -1,8 +1,9 @@
 -- What is read is spelled: each step keeps what was read so far.
-use Rattle.std.proofs.Common.{◌≡◌, suc, ℕ, ◌&&◌, ◌≤◌, nat_le, List, [], ◌∷◌, ◌++◌, Bool, true, false, true≢false}
+use Rattle.std.proofs.Common.{◌≡◌, suc, ℕ, ◌&&◌, ◌≤◌, nat_le, List, [], ◌∷◌, ◌++◌, Bool, true, false}
 use Rattle.std.proofs.Common.{Option, Some, None, option_and_then, cond, codes, bytes_eq, refl, ap, sym, ◌∙◌, arith}
 use Rattle.std.proofs.Common.{subst}
 use Rattle.std.specs.List.{AllByRecursion}
+use Rattle.foundation.proofs.TruthValues.{first_fails_alone}
 use Rattle.bicep_tree.specs.declared.leaf.Name.{Name}
 use Rattle.bicep_tree.specs.declared.leaf.Label.{Label}
 use Rattle.bicep_tree.specs.declared.leaf.Label.TheVariants as label
@@ -35,10 +36,10 @@ use Rattle.bicep_machine.specs.declared.word.Word.TheVariants as w
 use Rattle.bicep_machine.specs.declared.word.Owner.TheVariants as owner
 use Rattle.bicep_machine.specs.Kept.{Kept, flat, put, empty, of_access, of_not_null}
 use Rattle.bicep_machine.specs.Stack as s
-use Rattle.bicep_machine.specs.Stack.{Decorators, Callee, Header, header, Front, nothing_before, Assigned}
-use Rattle.bicep_machine.specs.Stack.{to_metadata, to_scope, to_param, to_var, to_output, Frame, grouping, calling}
-use Rattle.bicep_machine.specs.Stack.{indexing, opened, in_array, in_object, in_text, prefixing, left, asked, chosen}
-use Rattle.bicep_machine.specs.Stack.{valued, assigned, over, body_over, in_names, looped, in_condition, bodied}
+use Rattle.bicep_machine.specs.Stack.{Decorators, Header, header, nothing_before}
+use Rattle.bicep_machine.specs.Stack.{Frame, calling}
+use Rattle.bicep_machine.specs.Stack.{opened, in_array, in_object, left, asked, chosen}
+use Rattle.bicep_machine.specs.Stack.{valued, assigned, in_names, bodied}
 use Rattle.bicep_machine.specs.Stack.{in_file, State, wanted, qualifying, qualified, dotted, done, paused, item}
 use Rattle.bicep_machine.specs.Stack.{for_wanted, names_wanted, one_wanted, one_named, other_wanted, both_named}
 use Rattle.bicep_machine.specs.Stack.{member, labelled, past_member, among, looped_body, condition, guarded, body_end}
@@ -142,10 +143,6 @@ beginning_text u =
     (λ n7. tt)))))))
 
 -- ---- tokens
-
-no_newline : (b : Bool) → (b && true) ≡ false → b ≡ false
-no_newline true e = absurd (true≢false e)
-no_newline false e = refl
 
 weaker : (i : Bool) (m m1 : List Placed) → skipped i m m1 → skipped true m m1
 weaker true m m1 h = h
@@ -359,7 +356,7 @@ module _ (most : ℕ) where
       (closing.ended most S 0 k e (flag S) all m1 m (omega arith) is refl (omega arith)
       (takes_high S (rank e) (omega (arith, pr))) op ex) (to_token (flag S) at (t.RightPiece u) m ts tok)
   gone_stands k S at t.Newline all m ts ne (e, is, pr, (m1, op, ex)) tok =
-      let fl = no_newline (flag S) ne in
+      let fl = first_fails_alone (flag S) ne in
       let line : m ≡ (at, t.Newline) ∷ ts =
       plain_token at t.Newline m ts (subst (λ b. token_at b at t.Newline m ts) fl tok) in (
         refl,
@@ -405,7 +402,7 @@ module _ (most : ℕ) where
       → Holds most (wanted_step b (flag S) S at y) all ts
   wanted_stands true S at t.Newline all m ts ne (io, op) tok =
       let line : m ≡ (at, t.Newline) ∷ ts =
-      plain_token at t.Newline m ts (subst (λ b. token_at b at t.Newline m ts) (no_newline (flag S) ne) tok) in
+      plain_token at t.Newline m ts (subst (λ b. token_at b at t.Newline m ts) (first_fails_alone (flag S) ne) tok) in
       (refl, (io, operator_line S at all ts io (subst (Open most S all) line op)))
   wanted_stands true S at y all m ts ne (io, op) tok = begun_stands S at y all m ts op tok
   wanted_stands false S at y all m ts ne op tok = begun_stands S at y all m ts op tok
@@ -1238,7 +1235,7 @@ module _ (most : ℕ) where
   past_statement_stands j S at t.Newline all m ts ne (st, is, (m1, op, sm)) tok =
       statement_filed most j st S all m1 m ts is op sm
       (subst (λ q. (one is_newline ▹ any is_newline) q ts)
-      (sym (plain_at S at t.Newline m ts (sym (no_newline (flag S) ne)) tok))
+      (sym (plain_at S at t.Newline m ts (sym (first_fails_alone (flag S) ne)) tok))
       (some_one is_newline (at, t.Newline) ts refl))
   past_statement_stands j S at y all m ts ne h tok = tt
 

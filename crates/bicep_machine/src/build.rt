@@ -9,7 +9,7 @@ ghost use Rattle.bicep_machine.specs.Kept.{of_index, of_not_null, of_prefix, of_
 ghost use Rattle.bicep_machine.specs.Views.{kept, kept_items, kept_holes};
 
 use crate::discard::Discard;
-use crate::kept::{Kept, MOST_NESTING, deeper, flat, put};
+use crate::kept::{Kept, MAX_PART_NESTING, deeper, flat, put};
 use arm_value::{OutOfMemory, Text};
 use bicep_tree::{Access, Expr, Function, Hole, Indexing, Literal, Name, Operator, Prefix};
 use std::alloc::Global;
@@ -30,7 +30,7 @@ fn gap_for(alloc: Global, part: Expr) -> Result<Kept<Box<Expr>>, OutOfMemory>
     ensures { IfOk result (λ k. kept k ≡ (gap, 65)) }
 {
     part.discard();
-    boxed(alloc, Expr::Literal(0, Literal::Null), MOST_NESTING + 1)
+    boxed(alloc, Expr::Literal(0, Literal::Null), MAX_PART_NESTING + 1)
 }
 
 // The composite of parts that nest at most so deep.
@@ -38,7 +38,7 @@ fn gap_for(alloc: Global, part: Expr) -> Result<Kept<Box<Expr>>, OutOfMemory>
 fn made(alloc: Global, composite: Expr, below: usize) -> Result<Kept<Box<Expr>>, OutOfMemory>
     ensures { IfOk result (λ k. kept k ≡ made 64 gap (tree_of composite) below) }
 {
-    if below < MOST_NESTING {
+    if below < MAX_PART_NESTING {
         boxed(alloc, composite, below + 1)
     } else {
         gap_for(alloc, composite)

@@ -9,9 +9,9 @@ use std::alloc::Global;
 use std::marker::Model;
 
 /// How deep expressions may nest, as a depth of `Kept`.
-pub const MOST_NESTING: usize = MAX_EXPRESSION_NESTING as usize;
+pub const MAX_PART_NESTING: usize = MAX_EXPRESSION_NESTING as usize;
 
-/// A part of a file, and how deep it nests. A leaf replaces a part that nests above `MOST_NESTING`, and its
+/// A part of a file, and how deep it nests. A leaf replaces a part that nests above `MAX_PART_NESTING`, and its
 /// depth is one more than that; so no tree is kept that nests deeper.
 #[derive(Drop)]
 pub struct Kept<T> {

@@ -27,7 +27,7 @@ pub use closing::closed;
 pub use discard::Discard;
 pub use filing::file;
 pub use frame::{Assigned, Callee, Frame, Front, Header, close, empty_file, header_of, open};
-pub use kept::{Kept, MOST_NESTING, deeper, empty, flat};
+pub use kept::{Kept, MAX_PART_NESTING, deeper, empty, flat};
 pub use laws::{what_is_read_is_spelled, what_is_spelled_is_read};
 pub use pairs::pair_of;
 pub use parts::{

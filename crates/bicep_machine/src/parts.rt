@@ -12,7 +12,7 @@ ghost use Rattle.bicep_machine.specs.Views.{kept_loop, kept_body, kept_decorator
 ghost use Rattle.bicep_machine.specs.Views.{kept_statement, kept_statements, assigned_of};
 
 use crate::frame::Assigned;
-use crate::kept::{Kept, MOST_NESTING, deeper, empty, nothing, put};
+use crate::kept::{Kept, MAX_PART_NESTING, deeper, empty, nothing, put};
 use arm_value::OutOfMemory;
 use bicep_tree::{
     Body, Declaration, Decorator, Expr, Function, Label, Literal, Loop, LoopNames, Member, Object,
@@ -56,7 +56,7 @@ pub fn with_statement(
 pub fn object_of(alloc: Global, at: usize, members: Kept<Vec<Member>>) -> Kept<Object>
     ensures { kept_object result ≡ of_members 64 at (kept_members members) }
 {
-    if members.depth < MOST_NESTING {
+    if members.depth < MAX_PART_NESTING {
         Kept {
             part: Object {
                 at,
@@ -67,7 +67,7 @@ pub fn object_of(alloc: Global, at: usize, members: Kept<Vec<Member>>) -> Kept<O
     } else {
         Kept {
             part: object_gap(alloc),
-            depth: MOST_NESTING + 1,
+            depth: MAX_PART_NESTING + 1,
         }
     }
 }
@@ -97,7 +97,7 @@ pub fn each_of(names: Kept<Box<Loop>>, e: Kept<Box<Expr>>) -> Kept<Value>
     ensures { kept_value result ≡ of_each 64 (kept_loop names) (kept e) }
 {
     let below = deeper(names.depth, e.depth);
-    if below < MOST_NESTING {
+    if below < MAX_PART_NESTING {
         let each = Value::Each(Box::into_inner(names.part), Box::into_inner(e.part));
         Kept {
             part: each,
@@ -107,7 +107,7 @@ pub fn each_of(names: Kept<Box<Loop>>, e: Kept<Box<Expr>>) -> Kept<Value>
         let gap = Value::Plain(Expr::Literal(0, Literal::Null));
         Kept {
             part: gap,
-            depth: MOST_NESTING + 1,
+            depth: MAX_PART_NESTING + 1,
         }
     }
 }
@@ -201,7 +201,7 @@ fn body_gap(alloc: Global) -> Kept<Body>
 {
     Kept {
         part: Body::Plain(object_gap(alloc)),
-        depth: MOST_NESTING + 1,
+        depth: MAX_PART_NESTING + 1,
     }
 }
 
@@ -210,7 +210,7 @@ pub fn body_each(alloc: Global, names: Kept<Box<Loop>>, object: Kept<Object>) ->
     ensures { kept_body result ≡ of_body_each 64 (kept_loop names) (kept_object object) }
 {
     let below = deeper(names.depth, object.depth);
-    if below < MOST_NESTING {
+    if below < MAX_PART_NESTING {
         let each = Body::Each(Box::into_inner(names.part), object.part);
         Kept {
             part: each,
@@ -233,7 +233,7 @@ pub fn body_each_if(
         ≡ of_body_each_if 64 (kept_loop names) at (kept condition) (kept_object object) }
 {
     let below = deeper(names.depth, deeper(condition.depth, object.depth));
-    if below < MOST_NESTING {
+    if below < MAX_PART_NESTING {
         let names = Box::into_inner(names.part);
         let condition = Box::into_inner(condition.part);
         Kept {

@@ -2,7 +2,7 @@
 use Rattle.std.proofs.Common.{◌≡◌, ◌≤◌, List, nat_le, Some, sym, ◌∙◌, subst}
 use Rattle.std.proofs.lemmas.Option.{cond_some, option_and_then_some}
 use Rattle.foundation.specs.declared.limits.TheConstants.{MAX_VALUE_NESTING}
-use Rattle.arm_value.specs.Json.{Json, nesting}
+use Rattle.function_prints.specs.Json.{Json, nesting}
 use Rattle.arm_env.specs.Part.{kept}
 use Rattle.reading.specs.Reading.{done}
 use Rattle.reading.specs.World.{value_in}

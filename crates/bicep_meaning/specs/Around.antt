@@ -1,8 +1,8 @@
 -- What surrounds an expression: the instance of its file, the loops, and what the declarations of the file mean.
 use Rattle.std.specs.Prelude.{ℕ, zero, suc, pos, List, [], ◌∷◌, Option, Some, None}
-use Rattle.arm_value.specs.Json.{Json, int}
-use Rattle.arm_ids.specs.declared.id.Place.{Place}
-use Rattle.arm_ids.specs.declared.id.ResourceId.{ResourceId}
+use Rattle.function_prints.specs.Json.{Json, int}
+use Rattle.deploy_cells.specs.Place.{Place}
+use Rattle.deploy_cells.specs.ResourceId.{ResourceId}
 use Rattle.arm_env.specs.Part.{part_of}
 use Rattle.reading.specs.Reading.{done, pure, none, continued}
 use Rattle.deploy_cells.specs.Cells.{Position}

@@ -1,24 +1,23 @@
 -- What the declarations of a file mean where they are used, by the numbers of their symbols.
 use Rattle.std.specs.Prelude.{ℕ, zero, suc, length, List, [], ◌∷◌, ◌++◌, Option, Some, None, codes, slice_get}
 use Rattle.std.specs.Prelude.{true, option_and_then, if◌then◌else◌}
-use Rattle.arm_value.specs.Json.{Json, bool, text}
-use Rattle.arm_value.specs.Look.{fold}
-use Rattle.arm_ids.specs.Id.{is_whole}
-use Rattle.arm_ids.specs.Segments.{segments, has_slash}
-use Rattle.arm_ids.specs.declared.id.Place.{Place}
-use Rattle.arm_ids.specs.declared.id.ResourceId.{ResourceId}
+use Rattle.function_prints.specs.Json.{Json, bool, text}
+use Rattle.function_prints.specs.Look.{fold}
+use Rattle.deploy_cells.specs.Id.{is_whole}
+use Rattle.deploy_cells.specs.Segments.{segments, has_slash}
+use Rattle.deploy_cells.specs.Place.{Place}
+use Rattle.deploy_cells.specs.ResourceId.{ResourceId}
 use Rattle.function_prints.specs.Printed.{printed}
 use Rattle.reading.specs.Reading.{done, pure, none, read, continued, both}
 use Rattle.deploy_cells.specs.Cells.{variable}
 use Rattle.deploy_cells.specs.Guarded.{Reads}
 use Rattle.deploy_cells.specs.Puts.{id_at}
-use Rattle.bicep_resolved.specs.Source.{SourceTree, ReachTree, ValueTree, LoopTree}
+use Rattle.bicep_resolved.specs.Source.{SourceTree, ReachTree, ValueTree, LoopTree, field_named}
 use Rattle.bicep_resolved.specs.Source as s
 use Rattle.bicep_resolved.specs.Target.{number_of, target_of}
 use Rattle.bicep_declared.specs.Declarations.{BodyTree, DeclaredTree}
 use Rattle.bicep_declared.specs.Declarations as d
 use Rattle.bicep_meaning.specs.Files.{SourceFile, symbol_name, declaration, Parent}
-use Rattle.bicep_resolved.specs.Source.{field_named}
 use Rattle.bicep_meaning.specs.Files.{no_parent, inside, below}
 use Rattle.bicep_meaning.specs.Files.{parent, type_of}
 use Rattle.bicep_meaning.specs.Rows.{and_value}

@@ -1,12 +1,12 @@
 -- The files of a program, once their names are found, and what belongs to a symbol of a file by its number.
 use Rattle.std.specs.Prelude.{ℕ, zero, suc, List, [], ◌++◌, ◌∷◌, length, Bool, Option, Some, None, option_map}
 use Rattle.std.specs.Prelude.{option_and_then, slice_get, codes}
-use Rattle.arm_value.specs.Json.{Json}
+use Rattle.function_prints.specs.Json.{Json}
 use Rattle.template_parts.specs.declared.looping.Batches.{Batches}
 use Rattle.template_parts.specs.declared.looping.Batches.TheVariants.{Parallel}
 use Rattle.bicep_misplaced.specs.Types.{divided}
-use Rattle.bicep_names.specs.declared.kind.Kind.{Kind}
-use Rattle.bicep_names.specs.declared.kind.Kind.TheVariants as k
+use Rattle.bicep_declared.specs.Kind.{Kind}
+use Rattle.bicep_declared.specs.Kind.TheVariants as k
 use Rattle.bicep_resolved.specs.Source.{ReachTree, ValueTree, field_named}
 use Rattle.bicep_resolved.specs.Source as s
 use Rattle.bicep_declared.specs.Declarations.{DeclaredTree, DeclaredFileTree}

@@ -2,33 +2,30 @@
 use Rattle.std.specs.Prelude.{ℕ, pos, nat_le, Bool, true, false, List, [], ◌∷◌, Option, Some, None, bytes_eq}
 use Rattle.std.specs.Prelude.{codes, position}
 use Rattle.std.specs.Prelude.{slice_get, is_some, option_map, option_and_then, if◌then◌else◌}
-use Rattle.arm_value.specs.Json.{Json, bool, int, text, array, object, Member}
-use Rattle.arm_value.specs.Look.{fold}
-use Rattle.arm_ids.specs.declared.id.Place.{Place}
-use Rattle.arm_ids.specs.declared.id.ResourceId.{ResourceId}
-use Rattle.function_lists.specs.Sizes.{size}
+use Rattle.function_prints.specs.Json.{Json, bool, int, text, array, object, Member}
+use Rattle.function_prints.specs.Look.{fold}
+use Rattle.deploy_cells.specs.Place.{Place}
+use Rattle.deploy_cells.specs.ResourceId.{ResourceId}
+use Rattle.function_prints.specs.Sizes.{size}
 use Rattle.reading.specs.Reading.{done, pure, read, continued}
-use Rattle.deploy_cells.specs.Cells.{Step, Position, World, Cell, parameter, variable, offered, output, count}
-use Rattle.deploy_cells.specs.Cells.{included}
-use Rattle.deploy_cells.specs.Cells.{name, deployments, state}
+use Rattle.deploy_cells.specs.Cells.{Step, Position, World, Cell, parameter, variable, offered, output, count, included, name, deployments, state}
 use Rattle.deploy_cells.specs.Guarded.{Reads, Meaning, there_if, itself, guarded}
 use Rattle.deploy_cells.specs.Listing.{listing_value}
 use Rattle.deploy_cells.specs.Puts.{Kind, Kinds, Bodies, key_formed, Desired, IsDesired}
-use Rattle.bicep_names.specs.declared.kind.Kind as symbols
-use Rattle.bicep_names.specs.declared.kind.Kind.TheVariants as k
-use Rattle.bicep_tree.specs.declared.leaf.TypeName.{TypeName}
-use Rattle.bicep_tree.specs.declared.leaf.TypeName.TheVariants as type
-use Rattle.bicep_resolved.specs.Source.{SourceTree, PropertyTrees, ValueTree, LoopTree}
+use Rattle.bicep_declared.specs.Kind as symbols
+use Rattle.bicep_declared.specs.Kind.TheVariants as k
+use Rattle.bicep_resolved.specs.TypeName.{TypeName}
+use Rattle.bicep_resolved.specs.TypeName.TheVariants as type
+use Rattle.bicep_resolved.specs.Source.{SourceTree, PropertyTrees, ValueTree, LoopTree, field_named}
 use Rattle.bicep_resolved.specs.Source as s
 use Rattle.bicep_declared.specs.Declarations.{BodyTree, DeclaredTree, OutputTree}
 use Rattle.bicep_declared.specs.Declarations as d
 use Rattle.bicep_meaning.specs.Files.{SourceFile, symbol_kind, declaration, type_of}
-use Rattle.bicep_resolved.specs.Source.{field_named}
 use Rattle.bicep_meaning.specs.Around.{Here, Frame, run_at}
 use Rattle.bicep_meaning.specs.Meaning.{value, value_of}
 use Rattle.bicep_meaning.specs.Declared.{whole}
 use Rattle.foundation.specs.Options.{or_else}
-use Rattle.arm_ids.specs.Members.{deployment_type}
+use Rattle.deploy_cells.specs.Members.{deployment_type}
 
 -- a program: its files, the main file first; the values that are given for parameters; and where it is deployed
 pub record SourceProgram : Type 0 where

@@ -2,11 +2,11 @@
 -- (Microsoft Learn, "Bicep expressions").
 use Rattle.std.specs.Prelude.{ℕ, Bool, List, [], ◌∷◌, ◌++◌, Option, Some, None, codes, slice_get, option_and_then}
 use Rattle.std.specs.List.{flat_map}
-use Rattle.arm_value.specs.Json.{Json, text, Member}
-use Rattle.arm_value.specs.Look.{fold, look}
-use Rattle.arm_ids.specs.Id.{folded, text_of}
-use Rattle.arm_ids.specs.declared.id.Place.{Place}
-use Rattle.arm_ids.specs.declared.id.ResourceId.{ResourceId}
+use Rattle.function_prints.specs.Json.{Json, text, Member}
+use Rattle.function_prints.specs.Look.{fold, look}
+use Rattle.deploy_cells.specs.Id.{folded, text_of}
+use Rattle.deploy_cells.specs.Place.{Place}
+use Rattle.deploy_cells.specs.ResourceId.{ResourceId}
 use Rattle.arm_env.specs.Object.{object_of}
 use Rattle.function_prints.specs.Printed.{printed}
 use Rattle.reading.specs.Reading.{done, pure, none, read, continued}
@@ -29,7 +29,7 @@ use Rattle.bicep_meaning.specs.Rows.{capped, all, literal_value, operated, condi
 use Rattle.bicep_meaning.specs.Rows.{prefix_value, member_value}
 use Rattle.bicep_meaning.specs.Rows.{index_value, called, array_of, by_both}
 use Rattle.bicep_meaning.specs.Around.{Here, Frame, element, item_of, index_of, looped, Around}
-use Rattle.arm_ids.specs.Members.{deployment_type}
+use Rattle.deploy_cells.specs.Members.{deployment_type}
 
 -- ---- names
 

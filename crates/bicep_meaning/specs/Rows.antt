@@ -2,16 +2,16 @@
 -- share with the functions of templates is defined there.
 use Rattle.std.specs.Prelude.{ℕ, pos, nat_le, Bool, true, false, List, [], ◌∷◌, Option, Some, None, codes}
 use Rattle.std.specs.Prelude.{option_map, option_and_then, if◌then◌else◌}
-use Rattle.arm_value.specs.Json.{Json, null, bool, int, text, array, row}
-use Rattle.arm_value.specs.Look.{is_same_folded}
-use Rattle.arm_ids.specs.declared.id.Place.{Place}
-use Rattle.function_numbers.specs.Kinds.{truth_of, of_none}
-use Rattle.function_numbers.specs.Logic as logic
-use Rattle.function_numbers.specs.Numbers as numbers
-use Rattle.function_texts.specs.Cuts.{texts_in}
-use Rattle.function_lists.specs.Members as members
-use Rattle.function_lists.specs.Sizes.{size_of}
-use Rattle.arm_functions.specs.Values.{function_value}
+use Rattle.function_prints.specs.Json.{Json, null, bool, int, text, array, row}
+use Rattle.function_prints.specs.Look.{is_same_folded}
+use Rattle.deploy_cells.specs.Place.{Place}
+use Rattle.arm_env.specs.Kinds.{truth_of, of_none}
+use Rattle.arm_env.specs.Logic as logic
+use Rattle.arm_env.specs.Numbers as numbers
+use Rattle.function_prints.specs.Cuts.{texts_in}
+use Rattle.function_prints.specs.Members as members
+use Rattle.function_prints.specs.Sizes.{size_of}
+use Rattle.bicep_resolved.specs.Values.{function_value}
 use Rattle.arm_env.specs.declared.function.Strict.{Strict}
 use Rattle.arm_env.specs.declared.function.Strict.TheVariants as strict
 use Rattle.arm_env.specs.Id.{resource_id, subscription_id}
@@ -20,14 +20,14 @@ use Rattle.arm_env.specs.Object as object
 use Rattle.arm_env.specs.Part.{part_of, kept}
 use Rattle.reading.specs.Reading.{done, pure, none, continued, both}
 use Rattle.deploy_cells.specs.Guarded.{Reads}
-use Rattle.bicep_tree.specs.declared.leaf.Indexing.{Indexing}
-use Rattle.bicep_tree.specs.declared.leaf.Indexing.TheVariants as indexing
-use Rattle.bicep_tree.specs.declared.leaf.Literal.{Literal}
-use Rattle.bicep_tree.specs.declared.leaf.Literal.TheVariants as l
-use Rattle.bicep_tree.specs.declared.leaf.Operator.{Operator}
-use Rattle.bicep_tree.specs.declared.leaf.Operator.TheVariants as o
-use Rattle.bicep_tree.specs.declared.leaf.Prefix.{Prefix}
-use Rattle.bicep_tree.specs.declared.leaf.Prefix.TheVariants as prefix
+use Rattle.bicep_resolved.specs.Indexing.{Indexing}
+use Rattle.bicep_resolved.specs.Indexing.TheVariants as indexing
+use Rattle.bicep_resolved.specs.Literal.{Literal}
+use Rattle.bicep_resolved.specs.Literal.TheVariants as l
+use Rattle.bicep_resolved.specs.Operator.{Operator}
+use Rattle.bicep_resolved.specs.Operator.TheVariants as o
+use Rattle.bicep_resolved.specs.Prefix.{Prefix}
+use Rattle.bicep_resolved.specs.Prefix.TheVariants as prefix
 use Rattle.bicep_resolved.specs.declared.leaf.Selector.{Selector}
 use Rattle.bicep_resolved.specs.declared.leaf.Selector.TheVariants as selector
 

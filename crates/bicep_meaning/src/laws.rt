@@ -1,6 +1,6 @@
 // What holds of the meaning of every expression. A law has no body: its contract is the law.
 ghost use Rattle.std.specs.Prelude.{◌≡◌, ◌≤◌, List, Option, Some};
-ghost use Rattle.arm_value.specs.Json.{Json, nesting};
+ghost use Rattle.function_prints.specs.Json.{Json, nesting};
 ghost use Rattle.reading.specs.World.{value_in, reads_in, Agree};
 ghost use Rattle.reading.specs.Knowledge.{Known, told, Grows, IsToldStill};
 ghost use Rattle.deploy_cells.specs.Cells.{Cell, World};

@@ -10,21 +10,16 @@ use Rattle.reading.specs.Knowledge.{Has}
 use Rattle.deploy_cells.specs.Cells as cell
 use Rattle.deploy_cells.specs.Cells.{Cell, World}
 use Rattle.deploy_cells.specs.Guarded.{Reads}
-use Rattle.bicep_resolved.specs.Source.{SourceTree, ReachTree, ValueTree, LoopTree}
-use Rattle.bicep_resolved.specs.Source as s
-use Rattle.bicep_resolved.specs.Target.{number_of, target_of}
-use Rattle.bicep_declared.specs.Declarations.{BodyTree, DeclaredTree}
-use Rattle.bicep_declared.specs.Declarations as d
+use Rattle.bicep_circles.specs.Source.{SourceTree, ReachTree, ValueTree, LoopTree, field_named}
+use Rattle.bicep_circles.specs.Source as s
+use Rattle.bicep_circles.specs.Target.{number_of, target_of}
+use Rattle.bicep_meaning.specs.Declarations.{BodyTree, DeclaredTree}
+use Rattle.bicep_meaning.specs.Declarations as d
 use Rattle.bicep_circles.specs.Mentions.{mentions, value_mentions, each_mentions}
-use Rattle.bicep_meaning.specs.Files.{symbol_name, declaration, Parent, no_parent, inside, below, parent}
-use Rattle.bicep_resolved.specs.Source.{field_named}
-use Rattle.bicep_meaning.specs.Files.{type_of}
+use Rattle.bicep_meaning.specs.Files.{symbol_name, declaration, Parent, no_parent, inside, below, parent, type_of}
 use Rattle.bicep_meaning.specs.Around.{Here, Frame, element, index_of, run_at}
 use Rattle.bicep_meaning.specs.Meaning.{bare, bare_value, value, value_of, frames}
-use Rattle.bicep_meaning.specs.Declared.{symbol_in_loop, named_by_symbol, id_named}
-use Rattle.bicep_meaning.specs.Declared.{id_after, value_or_none, variable_value}
-use Rattle.bicep_meaning.specs.Declared.{over, module_name, name_by, name_value}
-use Rattle.bicep_meaning.specs.Declared.{id_by, id_of, declared, around, body_of}
+use Rattle.bicep_meaning.specs.Declared.{symbol_in_loop, named_by_symbol, id_named, id_after, value_or_none, variable_value, over, module_name, name_by, name_value, id_by, id_of, declared, around, body_of}
 use Rattle.bicep_meaning_laws.specs.Reached.{some_mentions, used_by, parent_used, uses, led_to, all_led_to}
 use Rattle.bicep_meaning_laws.specs.Reached.{IsMentioned, IsOfOne}
 use Rattle.bicep_meaning_laws.proofs.FineLemmas.{Fine, fine-done, fine-read, fine-continued, fine-then, fine-capped}

@@ -16,10 +16,7 @@ use Rattle.deploy_cells.specs.Cells.{Cell, World}
 use Rattle.deploy_cells.specs.Guarded.{Reads}
 use Rattle.bicep_tree.specs.declared.leaf.Operator.{Operator}
 use Rattle.bicep_tree.specs.declared.leaf.Operator.TheVariants as o
-use Rattle.bicep_meaning.specs.Rows.{capped, all, chosen, conditional_value, truth, and_value, or_value, or_if_null}
-use Rattle.bicep_meaning.specs.Rows.{coalesce_value, by_both, operator_value}
-use Rattle.bicep_meaning.specs.Rows.{operated, first_there, coalesced, value_by}
-use Rattle.bicep_meaning.specs.Rows.{called, runs_of}
+use Rattle.bicep_meaning.specs.Rows.{capped, all, chosen, conditional_value, truth, and_value, or_value, or_if_null, coalesce_value, by_both, operator_value, operated, first_there, coalesced, value_by, called, runs_of}
 use Rattle.bicep_meaning.specs.Around.{Frame, element, runs, counted, looped}
 
 module _ (w : World) (P : Cell → Type 0) where

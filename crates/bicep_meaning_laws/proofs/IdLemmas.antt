@@ -18,15 +18,13 @@ use Rattle.reading.proofs.Parts.{value_in-continued, value_in-both}
 use Rattle.deploy_cells.specs.Cells.{Cell, World}
 use Rattle.deploy_cells.specs.Guarded.{Reads}
 use Rattle.deploy_cells.specs.Puts.{id_at}
-use Rattle.bicep_resolved.specs.Target.{number_of, target_of}
-use Rattle.bicep_declared.specs.Declarations.{DeclaredTree}
-use Rattle.bicep_declared.specs.Declarations as d
+use Rattle.bicep_circles.specs.Target.{number_of, target_of}
+use Rattle.bicep_meaning.specs.Declarations.{DeclaredTree}
+use Rattle.bicep_meaning.specs.Declarations as d
 use Rattle.bicep_meaning.specs.Files.{declaration, Parent, no_parent, inside, below, parent, type_of}
 use Rattle.bicep_meaning.specs.Around.{Here, Frame, Around}
 use Rattle.bicep_meaning.specs.Meaning.{frames}
-use Rattle.bicep_meaning.specs.Declared.{name_after, if_whole, id_named, id_with}
-use Rattle.bicep_meaning.specs.Declared.{id_after, name_value, full_name_by, id_by}
-use Rattle.bicep_meaning.specs.Declared.{id_of, declared, around}
+use Rattle.bicep_meaning.specs.Declared.{name_after, if_whole, id_named, id_with, id_after, name_value, full_name_by, id_by, id_of, declared, around}
 use Rattle.foundation.proofs.TruthValues.{neither}
 
 -- ---- segments

@@ -13,22 +13,18 @@ use Rattle.reading.specs.Knowledge.{Has}
 use Rattle.deploy_cells.specs.Cells as cell
 use Rattle.deploy_cells.specs.Cells.{Cell, World}
 use Rattle.deploy_cells.specs.Listing.{Sought, found, left_away, not_here, sought}
-use Rattle.bicep_resolved.specs.declared.leaf.Field.{Field}
-use Rattle.bicep_resolved.specs.declared.leaf.Field.TheVariants as field
-use Rattle.bicep_resolved.specs.declared.leaf.Meaning.{Meaning}
-use Rattle.bicep_resolved.specs.declared.leaf.Meaning.TheVariants as m
-use Rattle.bicep_resolved.specs.Source.{SourceTree, SourceTrees, PieceTrees, ReachTree, PropertyTrees, ValueTree}
-use Rattle.bicep_resolved.specs.Source as s
-use Rattle.bicep_resolved.specs.Target.{number_of, target_of}
-use Rattle.bicep_circles.specs.Mentions.{mentions, reach_mentions, all_mentions, piece_mentions, property_mentions}
-use Rattle.bicep_circles.specs.Mentions.{value_mentions, name_mentions}
+use Rattle.bicep_circles.specs.Field.{Field}
+use Rattle.bicep_circles.specs.Field.TheVariants as field
+use Rattle.bicep_circles.specs.Meaning.{Meaning}
+use Rattle.bicep_circles.specs.Meaning.TheVariants as m
+use Rattle.bicep_circles.specs.Source.{SourceTree, SourceTrees, PieceTrees, ReachTree, PropertyTrees, ValueTree}
+use Rattle.bicep_circles.specs.Source as s
+use Rattle.bicep_circles.specs.Target.{number_of, target_of}
+use Rattle.bicep_circles.specs.Mentions.{mentions, reach_mentions, all_mentions, piece_mentions, property_mentions, value_mentions, name_mentions}
 use Rattle.bicep_meaning.specs.Files.{symbol_name}
 use Rattle.bicep_meaning.specs.Rows.{capped, all, literal_value, prefix_value, member_value, index_value}
 use Rattle.bicep_meaning.specs.Around.{Here, Frame, item_of, index_of}
-use Rattle.bicep_meaning.specs.Meaning.{parameter_entry, named, state_member, field_value, module_key, output_at}
-use Rattle.bicep_meaning.specs.Meaning.{instance_output, found_output, has_key}
-use Rattle.bicep_meaning.specs.Meaning.{output_value, output_name, bare, values, texts}
-use Rattle.bicep_meaning.specs.Meaning.{members, bare_value, frames}
+use Rattle.bicep_meaning.specs.Meaning.{parameter_entry, named, state_member, field_value, module_key, output_at, instance_output, found_output, has_key, output_value, output_name, bare, values, texts, members, bare_value, frames}
 use Rattle.bicep_meaning.specs.Declared.{around}
 use Rattle.bicep_meaning_laws.specs.Reached.{led_to, all_led_to, HasOutput, IsOf}
 use Rattle.bicep_meaning_laws.proofs.SameLemmas.{first, second}

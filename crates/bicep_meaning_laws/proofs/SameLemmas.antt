@@ -5,21 +5,17 @@ use Rattle.std.specs.Prelude.{codes}
 use Rattle.arm_value.specs.Json.{text}
 use Rattle.reading.specs.Reading.{done, pure, continued}
 use Rattle.reading.specs.World.{Each}
-use Rattle.bicep_resolved.specs.declared.leaf.Field.{Field}
-use Rattle.bicep_resolved.specs.declared.leaf.Field.TheVariants as field
-use Rattle.bicep_resolved.specs.declared.leaf.Meaning.{Meaning}
-use Rattle.bicep_resolved.specs.declared.leaf.Meaning.TheVariants as m
-use Rattle.bicep_resolved.specs.Source.{SourceTree, SourceTrees, PieceTrees, ReachTree, PropertyTrees, ValueTree}
-use Rattle.bicep_resolved.specs.Source as s
-use Rattle.bicep_resolved.specs.Target.{number_of, target_of}
-use Rattle.bicep_circles.specs.Mentions.{mentions, reach_mentions, all_mentions, piece_mentions, property_mentions}
-use Rattle.bicep_circles.specs.Mentions.{value_mentions, name_mentions}
-use Rattle.bicep_meaning.specs.Rows.{capped, all, operated, conditional_value, prefix_value, member_value, index_value}
-use Rattle.bicep_meaning.specs.Rows.{called, array_of, by_both}
+use Rattle.bicep_circles.specs.Field.{Field}
+use Rattle.bicep_circles.specs.Field.TheVariants as field
+use Rattle.bicep_circles.specs.Meaning.{Meaning}
+use Rattle.bicep_circles.specs.Meaning.TheVariants as m
+use Rattle.bicep_circles.specs.Source.{SourceTree, SourceTrees, PieceTrees, ReachTree, PropertyTrees, ValueTree}
+use Rattle.bicep_circles.specs.Source as s
+use Rattle.bicep_circles.specs.Target.{number_of, target_of}
+use Rattle.bicep_circles.specs.Mentions.{mentions, reach_mentions, all_mentions, piece_mentions, property_mentions, value_mentions, name_mentions}
+use Rattle.bicep_meaning.specs.Rows.{capped, all, operated, conditional_value, prefix_value, member_value, index_value, called, array_of, by_both}
 use Rattle.bicep_meaning.specs.Around.{Here, Frame, element, looped, Around}
-use Rattle.bicep_meaning.specs.Meaning.{named, id_text, state_member}
-use Rattle.bicep_meaning.specs.Meaning.{field_value, output_value, output_name, printed_before}
-use Rattle.bicep_meaning.specs.Meaning.{joined, member_of, bare, values, texts, members, bare_value, frames}
+use Rattle.bicep_meaning.specs.Meaning.{named, id_text, state_member, field_value, output_value, output_name, printed_before, joined, member_of, bare, values, texts, members, bare_value, frames}
 use Rattle.arm_env.specs.Object.{object_of}
 use Rattle.bicep_meaning_laws.specs.Ranked.{IsSame}
 

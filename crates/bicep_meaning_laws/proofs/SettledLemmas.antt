@@ -9,25 +9,19 @@ use Rattle.reading.specs.Reading.{done, pure, read, continued, both}
 use Rattle.reading.specs.World.{Each}
 use Rattle.deploy_cells.specs.Cells.{variable}
 use Rattle.deploy_cells.specs.Guarded.{Reads}
-use Rattle.bicep_names.specs.declared.kind.Kind.{Kind}
-use Rattle.bicep_names.specs.declared.kind.Kind.TheVariants as k
-use Rattle.bicep_resolved.specs.Source.{SourceTree, ReachTree, PropertyTrees, ValueTree, LoopTree}
-use Rattle.bicep_resolved.specs.Source as s
-use Rattle.bicep_resolved.specs.Target.{number_of, target_of}
-use Rattle.bicep_declared.specs.Declarations.{BodyTree, DeclaredTree}
-use Rattle.bicep_declared.specs.Declarations as d
-use Rattle.bicep_circles.specs.Mentions.{reach_mentions, property_mentions, value_mentions, each_mentions}
-use Rattle.bicep_circles.specs.Mentions.{condition_mentions, body_mentions}
-use Rattle.bicep_meaning.specs.Files.{symbol_kind, symbol_name, declaration, Parent, no_parent}
-use Rattle.bicep_resolved.specs.Source.{field_named}
-use Rattle.bicep_meaning.specs.Files.{inside, below, below_value, fields_parent}
-use Rattle.bicep_meaning.specs.Files.{inside_or, around_kind, parent, type_of}
+use Rattle.bicep_meaning.specs.Kind.{Kind}
+use Rattle.bicep_meaning.specs.Kind.TheVariants as k
+use Rattle.bicep_circles.specs.Source.{SourceTree, ReachTree, PropertyTrees, ValueTree, LoopTree, field_named}
+use Rattle.bicep_circles.specs.Source as s
+use Rattle.bicep_circles.specs.Target.{number_of, target_of}
+use Rattle.bicep_meaning.specs.Declarations.{BodyTree, DeclaredTree}
+use Rattle.bicep_meaning.specs.Declarations as d
+use Rattle.bicep_circles.specs.Mentions.{reach_mentions, property_mentions, value_mentions, each_mentions, condition_mentions, body_mentions}
+use Rattle.bicep_meaning.specs.Files.{symbol_kind, symbol_name, declaration, Parent, no_parent, inside, below, below_value, fields_parent, inside_or, around_kind, parent, type_of}
 use Rattle.bicep_meaning.specs.Rows.{capped, and_value}
 use Rattle.bicep_meaning.specs.Around.{Here, Frame, Around}
 use Rattle.bicep_meaning.specs.Meaning.{frames}
-use Rattle.bicep_meaning.specs.Declared.{body_of, name_after, id_after, id_named, value_or_none, variable_value, over}
-use Rattle.bicep_meaning.specs.Declared.{module_name, name_by, name_value, full_name_by, id_by, id_of, condition_by}
-use Rattle.bicep_meaning.specs.Declared.{condition_of, declared, around}
+use Rattle.bicep_meaning.specs.Declared.{body_of, name_after, id_after, id_named, value_or_none, variable_value, over, module_name, name_by, name_value, full_name_by, id_by, id_of, condition_by, condition_of, declared, around}
 use Rattle.bicep_meaning_laws.specs.Ranked.{mentioned_in, mentioned_around, mentions_at, IsRanked, IsSame, IsSettled}
 use Rattle.bicep_meaning_laws.proofs.SameLemmas.{first, second, reached, same_bare, same_value, same_frames}
 

@@ -1,8 +1,8 @@
 -- Files in which no declaration leads back to itself, and what declarations mean there.
 use Rattle.std.specs.Prelude.{◌≡◌, ◌<◌, ℕ, List, [], ◌++◌, Option, Some, None}
 use Rattle.reading.specs.World.{Each}
-use Rattle.bicep_names.specs.declared.kind.Kind.{Kind}
-use Rattle.bicep_declared.specs.Declarations.{DeclaredTree}
+use Rattle.bicep_meaning.specs.Kind.{Kind}
+use Rattle.bicep_meaning.specs.Declarations.{DeclaredTree}
 use Rattle.bicep_circles.specs.Mentions.{declared_mentions}
 use Rattle.bicep_circles.specs.Links.{parent_mentions}
 use Rattle.bicep_meaning.specs.Files.{SourceFile, symbol_kind, declaration}

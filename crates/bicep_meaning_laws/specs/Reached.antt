@@ -10,14 +10,11 @@ use Rattle.reading.specs.World.{value_in, reads_in}
 use Rattle.reading.specs.Knowledge.{Has}
 use Rattle.deploy_cells.specs.Cells as cell
 use Rattle.deploy_cells.specs.Cells.{Cell, World}
-use Rattle.bicep_resolved.specs.Source.{SourceTree, ValueTree}
-use Rattle.bicep_declared.specs.Declarations.{BodyTree, DeclaredTree}
-use Rattle.bicep_declared.specs.Declarations as d
+use Rattle.bicep_circles.specs.Source.{SourceTree, ValueTree, field_named}
+use Rattle.bicep_meaning.specs.Declarations.{BodyTree, DeclaredTree}
+use Rattle.bicep_meaning.specs.Declarations as d
 use Rattle.bicep_circles.specs.Mentions.{mentions, reach_mentions, value_mentions, each_mentions}
-use Rattle.bicep_meaning.specs.Files.{SourceFile, symbol_name, declaration}
-use Rattle.bicep_resolved.specs.Source.{field_named}
-use Rattle.bicep_meaning.specs.Files.{Parent, no_parent, inside, below}
-use Rattle.bicep_meaning.specs.Files.{parent}
+use Rattle.bicep_meaning.specs.Files.{SourceFile, symbol_name, declaration, Parent, no_parent, inside, below, parent}
 use Rattle.bicep_meaning.specs.Around.{Here, Frame}
 use Rattle.bicep_meaning.specs.Meaning.{module_key, output_at}
 use Rattle.bicep_meaning.specs.Declared.{around}

@@ -4,7 +4,7 @@ ghost use Rattle.arm_value.specs.Json.{text};
 ghost use Rattle.arm_ids.specs.declared.id.ResourceId.{ResourceId};
 ghost use Rattle.reading.specs.World.{value_in, reads_in, Each};
 ghost use Rattle.deploy_cells.specs.Cells.{World};
-ghost use Rattle.bicep_resolved.specs.Source.{SourceTree, ValueTree};
+ghost use Rattle.bicep_circles.specs.Source.{SourceTree, ValueTree};
 ghost use Rattle.bicep_circles.specs.Mentions.{mentions, value_mentions};
 ghost use Rattle.deploy_cells.specs.Puts.{id_at};
 ghost use Rattle.bicep_meaning.specs.Files.{type_of};

@@ -13,14 +13,12 @@ use Rattle.bicep_resolved.specs.Source.{SourceTree, SourceTrees, PieceTrees, Rea
 use Rattle.bicep_resolved.specs.Source.{LoopTree, field_named}
 use Rattle.bicep_resolved.specs.Source as s
 use Rattle.bicep_resolved.specs.Target.{number_of, target_of}
-use Rattle.bicep_names.specs.declared.kind.Kind.{Kind}
-use Rattle.bicep_names.specs.declared.kind.Kind.TheVariants as k
-use Rattle.bicep_names.specs.Resolve.{reach_in}
-use Rattle.bicep_declared.specs.Declarations.{BodyTree, DeclaredTree}
-use Rattle.bicep_declared.specs.Declarations as d
-use Rattle.bicep_circles.specs.Mentions.{name_mentions, mentions, reach_mentions, all_mentions, piece_mentions}
-use Rattle.bicep_circles.specs.Mentions.{property_mentions, value_mentions, loop_mentions, each_mentions}
-use Rattle.bicep_circles.specs.Mentions.{condition_mentions, body_mentions, declared_mentions}
+use Rattle.bicep_circles.specs.Kind.{Kind}
+use Rattle.bicep_circles.specs.Kind.TheVariants as k
+use Rattle.bicep_circles.specs.Resolve.{reach_in}
+use Rattle.bicep_circles.specs.Declarations.{BodyTree, DeclaredTree}
+use Rattle.bicep_circles.specs.Declarations as d
+use Rattle.bicep_circles.specs.Mentions.{name_mentions, mentions, reach_mentions, all_mentions, piece_mentions, property_mentions, value_mentions, loop_mentions, each_mentions, condition_mentions, body_mentions, declared_mentions}
 use Rattle.bicep_circles.specs.Links.{parent_mentions, mentioned}
 use Rattle.bicep_mentions.specs.States.{StateReads, name_reads, field_reads, reads_state, reach_reads, any_reads}
 use Rattle.bicep_mentions.specs.States.{piece_reads, property_reads, value_reads, loop_reads}

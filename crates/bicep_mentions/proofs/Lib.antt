@@ -2,3 +2,4 @@ pub mod AgreeLemmas
 pub mod RankLemmas
 pub mod ThroughLemmas
 pub mod OrderLemmas
+pub use Rattle.bicep_circles.proofs.FillLemmas

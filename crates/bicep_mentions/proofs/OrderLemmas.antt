@@ -1,7 +1,7 @@
 -- An order of the symbols gives each a rank.
 use Rattle.std.proofs.Common.{◌≡◌, ◌<◌, ◌≤◌, ℕ, List, [], ◌∷◌, length, get_or, arith}
-use Rattle.bicep_names.specs.declared.kind.Kind.{Kind}
-use Rattle.bicep_declared.specs.Declarations.{DeclaredTree}
+use Rattle.bicep_circles.specs.Kind.{Kind}
+use Rattle.bicep_circles.specs.Declarations.{DeclaredTree}
 use Rattle.bicep_circles.specs.Links.{links}
 use Rattle.bicep_circles.specs.Orders.{IsLinkOrder}
 use Rattle.bicep_circles.proofs.PlaceLemmas.{place, link_falls, place_within}

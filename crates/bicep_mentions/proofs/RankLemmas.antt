@@ -4,12 +4,12 @@ use Rattle.std.proofs.Common.{length, Option, Some, None, refl, sym, ap, subst, 
 use Rattle.std.specs.Prelude.{Contains}
 use Rattle.std.specs.List.{AllByRecursion}
 use Rattle.std.proofs.lemmas.Option.{none-some}
-use Rattle.bicep_names.specs.declared.kind.Kind.{Kind}
-use Rattle.bicep_program.specs.Circles.{Links}
-use Rattle.bicep_declared.specs.Declarations.{DeclaredTree}
+use Rattle.std.proofs.lemmas.Bool.{cases_lt}
+use Rattle.bicep_circles.specs.Kind.{Kind}
+use Rattle.bicep_circles.specs.Circles.{Links}
+use Rattle.bicep_circles.specs.Declarations.{DeclaredTree}
 use Rattle.bicep_circles.specs.Mentions.{declared_mentions}
 use Rattle.bicep_circles.specs.Links.{parent_mentions, mentioned, links}
-use Rattle.bicep_circles.proofs.FillLemmas.{by_order}
 use Rattle.bicep_mentions.specs.States.{StateReads}
 use Rattle.bicep_mentions.specs.Agreement.{AgreeAt}
 use Rattle.bicep_mentions.specs.Entries.{declaration_at, own_by, whole_by, state_step, reads_within, state_reads}
@@ -98,7 +98,7 @@ module _ (xs : List Kind) (ds : List DeclaredTree) where
     stays zero n within h = absurd (omega (arith, h))
     stays (suc k) n within h =
         step_agrees (reads_within xs ds k) (reads_within xs ds (suc k)) n (declaration_at xs ds n) refl
-        (λ m c. mentioned_stays k n h (λ x w r. stays k x w r) m c (by_order m (length (links xs ds))))
+        (λ m c. mentioned_stays k n h (λ x w r. stays k x w r) m c (cases_lt m (length (links xs ds))))
 
     settled_by : (n : ℕ) → (n < length (links xs ds)) ⊎ (length (links xs ds) ≤ n)
         → AgreeAt (reads_within xs ds (length ds)) (reads_within xs ds (suc (length ds))) n
@@ -112,4 +112,4 @@ module _ (xs : List Kind) (ds : List DeclaredTree) where
     -- the declarations say of each symbol what is known of it
     pub is_settled : (n : ℕ) → AgreeAt (state_reads xs ds) (state_step xs ds (state_reads xs ds)) n
     unfolding reads_within
-    is_settled n = settled_by n (by_order n (length (links xs ds)))
+    is_settled n = settled_by n (cases_lt n (length (links xs ds)))

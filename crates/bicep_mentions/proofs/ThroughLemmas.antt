@@ -3,14 +3,14 @@ use Rattle.std.proofs.Common.{◌≡◌, ◌<◌, ◌≤◌, ◌==◌, ◌&&◌,
 use Rattle.std.proofs.Common.{◌∷◌, length, get_or, refl, sym, ap, ◌∙◌, arith}
 use Rattle.std.specs.Prelude.{Contains, slice_get}
 use Rattle.std.specs.List.{list_any}
-use Rattle.bicep_names.specs.declared.kind.Kind.{Kind}
-use Rattle.bicep_program.specs.Circles.{Links}
-use Rattle.bicep_declared.specs.Declarations.{DeclaredTree}
+use Rattle.std.proofs.lemmas.Bool.{cases_lt}
+use Rattle.bicep_circles.specs.Kind.{Kind}
+use Rattle.bicep_circles.specs.Circles.{Links}
+use Rattle.bicep_circles.specs.Declarations.{DeclaredTree}
 use Rattle.bicep_circles.specs.Links.{links}
 use Rattle.bicep_mentions.specs.Entries.{is_variable}
 use Rattle.bicep_mentions.specs.Through.{leads_to, mentioning_step, mentioning_within, mentioning}
 use Rattle.bicep_mentions.proofs.AgreeLemmas.{both-or}
-use Rattle.bicep_circles.proofs.FillLemmas.{by_order}
 use Rattle.bicep_mentions.proofs.RankLemmas.{IsRanked}
 
 any-same : (f g : ℕ → Bool) (ms : List ℕ) → ((m : ℕ) → Contains ms m → f m ≡ g m) → list_any f ms ≡ list_any g ms
@@ -53,7 +53,7 @@ module _ (xs : List Kind) (ds : List DeclaredTree) (rank : ℕ → ℕ) (ranked 
       any-same (leads_to ds (mentioning_within xs ds limit) n) (leads_to ds (mentioning_within xs ds (suc limit)) n)
       (get_or (links xs ds) k [])
       (λ m c. ap (λ b. (m == n) || (is_variable (slice_get ds m) && b))
-      (mentioned_stays limit k n h (λ x w r. stays limit x n w r) m c (by_order m (length (links xs ds)))))
+      (mentioned_stays limit k n h (λ x w r. stays limit x n w r) m c (cases_lt m (length (links xs ds)))))
 
   settled_by : (k n : ℕ) → (k < length (links xs ds)) ⊎ (length (links xs ds) ≤ k)
       → mentioning_within xs ds (length ds) k n ≡ mentioning_within xs ds (suc (length ds)) k n
@@ -63,4 +63,4 @@ module _ (xs : List Kind) (ds : List DeclaredTree) (rank : ℕ → ℕ) (ranked 
 
   pub is_closed : (k n : ℕ) → mentioning xs ds k n ≡ mentioning_step xs ds (mentioning xs ds) k n
   unfolding mentioning_within
-  is_closed k n = settled_by k n (by_order k (length (links xs ds)))
+  is_closed k n = settled_by k n (cases_lt k (length (links xs ds)))

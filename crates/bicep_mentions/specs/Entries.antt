@@ -4,9 +4,9 @@ use Rattle.std.specs.Prelude.{Some, None, slice_get, zip, if◌then◌else◌}
 use Rattle.bicep_resolved.specs.Source.{ValueTree}
 use Rattle.bicep_resolved.specs.Source as s
 use Rattle.bicep_resolved.specs.Place.{value_offset}
-use Rattle.bicep_names.specs.declared.kind.Kind.{Kind}
-use Rattle.bicep_declared.specs.Declarations.{DeclaredTree}
-use Rattle.bicep_declared.specs.Declarations as d
+use Rattle.bicep_circles.specs.Kind.{Kind}
+use Rattle.bicep_circles.specs.Declarations.{DeclaredTree}
+use Rattle.bicep_circles.specs.Declarations as d
 use Rattle.bicep_mentions.specs.States.{StateReads}
 use Rattle.bicep_mentions.specs.Names.{own_reads, whole_reads}
 use Rattle.foundation.specs.Options.{or_else}

@@ -3,11 +3,11 @@ use Rattle.std.specs.Prelude.{ℕ, ◌||◌, Bool, false, List, [], ◌∷◌, O
 use Rattle.bicep_resolved.specs.Source.{ReachTree, ValueTree, LoopTree, field_named}
 use Rattle.bicep_resolved.specs.Source as s
 use Rattle.bicep_resolved.specs.Target.{number_of, target_of}
-use Rattle.bicep_names.specs.declared.kind.Kind.{Kind}
-use Rattle.bicep_names.specs.declared.kind.Kind.TheVariants as k
-use Rattle.bicep_names.specs.Resolve.{reach_in}
-use Rattle.bicep_declared.specs.Declarations.{BodyTree, DeclaredTree}
-use Rattle.bicep_declared.specs.Declarations as d
+use Rattle.bicep_circles.specs.Kind.{Kind}
+use Rattle.bicep_circles.specs.Kind.TheVariants as k
+use Rattle.bicep_circles.specs.Resolve.{reach_in}
+use Rattle.bicep_circles.specs.Declarations.{BodyTree, DeclaredTree}
+use Rattle.bicep_circles.specs.Declarations as d
 use Rattle.bicep_mentions.specs.States.{StateReads, reads_state, value_reads, loop_reads}
 
 -- for the loop of a body, where it has one, whether its items read state

@@ -1,8 +1,8 @@
 -- What declarations mention through variables.
 use Rattle.std.specs.Prelude.{ℕ, zero, suc, ◌==◌, ◌&&◌, ◌||◌, Bool, false, List, [], length, slice_get, slice_index_or}
 use Rattle.std.specs.List.{list_any}
-use Rattle.bicep_names.specs.declared.kind.Kind.{Kind}
-use Rattle.bicep_declared.specs.Declarations.{DeclaredTree}
+use Rattle.bicep_circles.specs.Kind.{Kind}
+use Rattle.bicep_circles.specs.Declarations.{DeclaredTree}
 use Rattle.bicep_circles.specs.Links.{links}
 use Rattle.bicep_mentions.specs.Entries.{is_variable}
 

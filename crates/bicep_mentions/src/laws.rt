@@ -1,7 +1,7 @@
 //! What holds of every file whose symbols have an order in which each comes after those that its declaration mentions.
 ghost use Rattle.std.specs.Prelude.{◌≡◌, ℕ, List};
-ghost use Rattle.bicep_names.specs.declared.kind.Kind.{Kind};
-ghost use Rattle.bicep_declared.specs.Declarations.{DeclaredTree};
+ghost use Rattle.bicep_circles.specs.Kind.{Kind};
+ghost use Rattle.bicep_circles.specs.Declarations.{DeclaredTree};
 ghost use Rattle.bicep_circles.specs.Links.{links};
 ghost use Rattle.bicep_circles.specs.Orders.{IsLinkOrder};
 ghost use Rattle.bicep_mentions.specs.Entries.{state_reads, state_step};

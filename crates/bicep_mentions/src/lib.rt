@@ -6,3 +6,5 @@
 #![tactic(auto)]
 
 pub mod laws;
+
+pub use bicep_circles::symbol_links;

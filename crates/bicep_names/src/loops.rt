@@ -1,5 +1,5 @@
 // Names of loops, and what a name stands for.
-ghost use Rattle.std.specs.Prelude.{◌≡◌, map, bytes_eq, ◌∷◌, IfOk, IfErr};
+ghost use Rattle.std.specs.Prelude.{◌≡◌, map, ◌∷◌, IfOk, IfErr};
 ghost use Rattle.bicep_names.specs.Scope.{in_loop, loop_from, meaning_of};
 
 use crate::kind::{Named, symbol};
@@ -10,25 +10,19 @@ use bicep_resolved::Meaning;
 use bicep_tree::LoopNames;
 use std::alloc::Global;
 
-fn is_same(name: &Text, other: &Text) -> bool
-    ensures { result ≡ bytes_eq name.now other.now }
-{
-    name.as_str() == other.as_str()
-}
-
 // The item or the index of a loop that is so many loops outwards.
 fn in_loop(outwards: usize, name: &Text, names: &LoopNames) -> Option<Meaning>
     ensures { result ≡ in_loop outwards name.now names.now }
 {
     match names {
-        LoopNames::Item(item) => if is_same(name, &item.text) {
+        LoopNames::Item(item) => if name.is_same(&item.text) {
             Some(Meaning::Item(outwards))
         } else {
             None
         },
-        LoopNames::Both(item, index) => if is_same(name, &item.text) {
+        LoopNames::Both(item, index) => if name.is_same(&item.text) {
             Some(Meaning::Item(outwards))
-        } else if is_same(name, &index.text) {
+        } else if name.is_same(&index.text) {
             Some(Meaning::Index(outwards))
         } else {
             None

@@ -14,11 +14,10 @@ use Rattle.bicep_names.specs.Scope.{Scope, OutputNames}
 use Rattle.bicep_names.specs.Scope as scope
 use Rattle.bicep_symbols.specs.Entries.{Symbol, symbols_of, looked_up, entry_bytes, files_after_statement, first_file}
 use Rattle.bicep_symbols.specs.Entries as entries
-use Rattle.bicep_declared.specs.Declarations.{BodyTree, DeclaredTree, OutputTree, DeclaredFileTree}
-use Rattle.bicep_declared.specs.Declare as spec
-use Rattle.bicep_declared.specs.Declare.{declared, declared_all, part_declared, output_declared, outputs_declared}
-use Rattle.bicep_declared.specs.Declare.{part_output, declared_file}
-use Rattle.bicep_declared.specs.Sites.{declarations_of}
+use Rattle.bicep_circles.specs.Declarations.{BodyTree, DeclaredTree, OutputTree, DeclaredFileTree}
+use Rattle.bicep_circles.specs.Declare as spec
+use Rattle.bicep_circles.specs.Declare.{declared, declared_all, part_declared, output_declared, outputs_declared, part_output, declared_file}
+use Rattle.bicep_circles.specs.Sites.{declarations_of}
 use Rattle.bicep_program.specs.Graphs.{AreWithin}
 use Rattle.bicep_circles.specs.Mentions.{mentions, property_mentions, value_mentions, body_mentions, declared_mentions}
 use Rattle.bicep_circles.specs.Links.{parent_mentions, links}

@@ -12,11 +12,11 @@ use Rattle.bicep_names.specs.Scope.{Scope}
 use Rattle.bicep_names.specs.Resolve.{resolved, resolved_value}
 use Rattle.bicep_symbols.specs.Entries.{Symbol, symbols_of, files_after_statement, first_file}
 use Rattle.bicep_symbols.specs.Entries as entries
-use Rattle.bicep_declared.specs.Declarations.{BodyTree, DeclaredTree}
-use Rattle.bicep_declared.specs.Declare as spec
-use Rattle.bicep_declared.specs.Declare.{declared, declared_all, part_declared}
-use Rattle.bicep_declared.specs.Sites.{declarations_of}
-use Rattle.bicep_declared.specs.Sites as sites
+use Rattle.bicep_circles.specs.Declarations.{BodyTree, DeclaredTree}
+use Rattle.bicep_circles.specs.Declare as spec
+use Rattle.bicep_circles.specs.Declare.{declared, declared_all, part_declared}
+use Rattle.bicep_circles.specs.Sites.{declarations_of}
+use Rattle.bicep_circles.specs.Sites as sites
 use Rattle.bicep_numbers.specs.Sorts.{Sort, a_parameter, a_variable, one_resource, resources, one_module, modules}
 use Rattle.bicep_numbers.specs.Sorts.{symbol_sort, declared_sort, resource_sort, module_sort}
 use Rattle.bicep_numbers.proofs.FoundLemmas.{WhereFound, where-mapped, where-both}

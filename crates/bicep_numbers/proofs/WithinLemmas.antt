@@ -31,8 +31,7 @@ use Rattle.bicep_names.specs.Scope as scope
 use Rattle.bicep_names.specs.Resolve.{resolved, resolved_all, resolved_holes, resolved_object, resolved_members}
 use Rattle.bicep_names.specs.Resolve.{resolved_value, name_at, accessed, member_of, nested_of, nested_at, output_at}
 use Rattle.bicep_names.specs.Resolve.{output_of, called_by, function_name, element_of, indexed}
-use Rattle.bicep_circles.specs.Mentions.{name_mentions, mentions, reach_mentions, all_mentions, piece_mentions}
-use Rattle.bicep_circles.specs.Mentions.{property_mentions, value_mentions}
+use Rattle.bicep_circles.specs.Mentions.{name_mentions, mentions, reach_mentions, all_mentions, piece_mentions, property_mentions, value_mentions}
 use Rattle.bicep_numbers.proofs.FoundLemmas.{WhereFound, where-mapped, where-both, where-then, all-append}
 
 -- ---- names

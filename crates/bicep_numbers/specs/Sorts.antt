@@ -4,8 +4,8 @@ use Rattle.bicep_resolved.specs.Source.{LoopTree}
 use Rattle.bicep_names.specs.declared.kind.Kind.{Kind}
 use Rattle.bicep_names.specs.declared.kind.Kind.TheVariants as k
 use Rattle.bicep_symbols.specs.Entries.{Symbol}
-use Rattle.bicep_declared.specs.Declarations.{DeclaredTree}
-use Rattle.bicep_declared.specs.Declarations as d
+use Rattle.bicep_circles.specs.Declarations.{DeclaredTree}
+use Rattle.bicep_circles.specs.Declarations as d
 
 pub data Sort : Type 0 where
   a_parameter : Sort

@@ -5,3 +5,5 @@
 #![tactic(auto)]
 
 pub mod laws;
+
+pub use bicep_circles::symbol_order;

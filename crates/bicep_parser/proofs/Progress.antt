@@ -4,7 +4,7 @@ use Rattle.std.proofs.Common.{drop, length, Bool, true, false, true≢false, Opt
 use Rattle.std.proofs.Common.{option_and_then, unwrap_or, ◌⊎◌, inl, inr, refl, sym, ap, ◌∙◌, subst, arith}
 use Rattle.std.specs.List.{slice_get}
 use Rattle.std.proofs.lemmas.Bool.Decides.{nat_tests}
-use Rattle.std.proofs.lemmas.List.{drop_all}
+use Rattle.std.proofs.lemmas.List.{drop_all, append-nil}
 use Rattle.bicep_lexer.specs.declared.token.Token.{Token}
 use Rattle.bicep_lexer.specs.Reading.{Standing, standing}
 use Rattle.bicep_tree.specs.declared.terminal.Terminal.{Terminal}
@@ -135,10 +135,6 @@ deep_at ts rest t s i S q p e h =
         (leads_on ts rest t s i S q p e (map placed more)
         ∙ sym (ap (parsed 64) (all_mapped (p.before ++ t ∷ []) more))) (marked_on t s i S q p.marked e) h f sp
 
-nothing_more : {X : Type 0} (xs : List X) → xs ++ [] ≡ xs
-nothing_more [] = refl
-nothing_more (x ∷ xs) = ap (λ ys. x ∷ ys) (nothing_more xs)
-
 no_newline : (i : Bool) (y : Terminal) → BeginsAStatement y → (i && is_newline y) ≡ true → ⊥
 no_newline false y o e = true≢false (sym e)
 no_newline true (t.Name u) o e = true≢false (sym e)
@@ -186,7 +182,7 @@ read_within ts rest t s i S q p e low next o f sp = by (nat_le (file_nesting f) 
     read = spelled_is_read 64 f (map placed p.before) (omega arith) sp
 
     ends_so : finished 64 s S ≡ Some read.0
-    ends_so = p.leads [] ∙ ap (parsed 64) (nothing_more (map placed p.before)) ∙ read.1
+    ends_so = p.leads [] ∙ ap (parsed 64) (append-nil (map placed p.before)) ∙ read.1
 
     by : (b : Bool) → nat_le (file_nesting f) 64 ≡ b → file_nesting f ≤ 64
     by true h = grind (arith, nat_tests)
@@ -250,7 +246,7 @@ pub deep_has_place : (ts : List Standing) (s : State) (i : Bool) (S : List Frame
     → Noted ts [] s i S deep → EndsAt ts at → TellsPlace ts (fault.TooDeep (unwrap_or deep at))
 deep_has_place ts s i S (Some d) at n e = inl n.1
 deep_has_place ts s i S None at n e =
-    inr (e, subst EarlierWithin (sym (n.0.split ∙ nothing_more n.0.before)) n.1.earlier)
+    inr (e, subst EarlierWithin (sym (n.0.split ∙ append-nil n.0.before)) n.1.earlier)
 
 pub begins_noted : (ts : List Standing) → Noted ts ts between false (in_file empty ∷ []) None
 unfolding begins
@@ -260,11 +256,11 @@ begins_noted ts = (begins ts, settled_first)
 pub ends : (ts : List Standing) (s : State) (i : Bool) (S : List Frame) → Progress ts [] s i S
     → finished 64 s S ≡ parsed 64 (map placed ts)
 ends ts s i S p = p.leads []
-    ∙ ap (parsed 64) (nothing_more (map placed p.before) ∙ ap (map placed) (sym (p.split ∙ nothing_more p.before)))
+    ∙ ap (parsed 64) (append-nil (map placed p.before) ∙ ap (map placed) (sym (p.split ∙ append-nil p.before)))
 
 -- where all tokens are read, a file begins with them
 begun_whole : (ts : List Standing) (s : State) (i : Bool) (S : List Frame) → Progress ts [] s i S → BeginAFile ts
-begun_whole ts s i S p = subst BeginAFile (sym (p.split ∙ nothing_more p.before)) (begun_by ts [] s i S p)
+begun_whole ts s i S p = subst BeginAFile (sym (p.split ∙ append-nil p.before)) (begun_by ts [] s i S p)
 
 -- the machine does not end a file after the tokens
 breaks_end : (ts : List Standing) (s : State) (i : Bool) (S : List Frame) (why : Stop) (at : ℕ) → Progress ts [] s i S

@@ -5,7 +5,7 @@ ghost use Rattle.bicep_machine.specs.Views.{callee_of, header_of, front_of, fram
 ghost use Rattle.bicep_parser.specs.Depth.{callee_depth, header_depth, front_depth, frame_depth, top_depth};
 ghost use Rattle.bicep_parser.specs.Depth.{state_depth, noted};
 
-use bicep_machine::{Callee, Frame, Front, Header, MOST_NESTING, State, deeper};
+use bicep_machine::{Callee, Frame, Front, Header, MAX_PART_NESTING, State, deeper};
 
 fn callee_depth(callee: &Callee) -> usize
     ensures { result ≡ callee_depth (callee_of callee.now) }
@@ -97,7 +97,7 @@ pub fn noted(place: Option<usize>, state: &State, stack: &[Frame], at: usize) ->
     match place {
         Some(place) => Some(place),
         None => {
-            if deeper(state_depth(state), top_depth(stack)) > MOST_NESTING {
+            if deeper(state_depth(state), top_depth(stack)) > MAX_PART_NESTING {
                 Some(at)
             } else {
                 None

@@ -16,7 +16,7 @@ use crate::fault::ParseFault;
 use crate::stepping::{finish, step};
 use crate::stops::stopped;
 use bicep_lexer::Token;
-use bicep_machine::{Discard, Kept, MOST_NESTING, State, empty_file};
+use bicep_machine::{Discard, Kept, MAX_PART_NESTING, State, empty_file};
 use bicep_tree::{File, Statement, terminal_of};
 use foundation::Stop;
 use std::alloc::Global;
@@ -86,7 +86,7 @@ fn parsed(alloc: Global, tokens: &[Token]) -> Result<File, ParseFault>
     match read(alloc, tokens) {
         Err(fault) => Err(fault),
         Ok((statements, place)) => {
-            if statements.depth > MOST_NESTING {
+            if statements.depth > MAX_PART_NESTING {
                 stopped(ParseFault::TooDeep(place), statements)
             } else {
                 Ok(statements.part)

@@ -2,7 +2,6 @@
 ghost use Rattle.std.specs.Prelude.{◌≡◌, ◌++◌, ◌∷◌, [], map, chars, slice_get, string_bytes};
 ghost use Rattle.std.specs.Prelude.{IfOk, OnOk};
 ghost use Rattle.std.specs.Option.{option_copied};
-ghost use Rattle.arm_value.specs.Look.{is_same_folded};
 ghost use Rattle.bicep_declared.specs.View.{declared_tree};
 ghost use Rattle.bicep_placed.specs.Kinds as spec;
 
@@ -129,12 +128,6 @@ pub(crate) fn whole_kinds(
     Ok(wholes)
 }
 
-fn is_same(one: &Text, other: &Text) -> bool
-    ensures { result ≡ is_same_folded one.now other.now }
-{
-    other.equals_ignore_case(one.as_str())
-}
-
 // Whether the second list begins with the texts of the first.
 fn begins(front: &[Text], whole: &[Text]) -> bool
     ensures { result ≡ spec.is_folded_front front.now whole.now }
@@ -143,7 +136,7 @@ fn begins(front: &[Text], whole: &[Text]) -> bool
         return false;
     }
     for i in 0..front.len() {
-        if !is_same(&front[i], &whole[i]) {
+        if !front[i].is_same_ignore_case(&whole[i]) {
             return false;
         }
     }

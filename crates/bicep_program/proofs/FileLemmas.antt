@@ -41,10 +41,6 @@ bound_at n [] i h w = absurd (omega arith)
 bound_at n (k ∷ ks) zero h w = w.0
 bound_at n (k ∷ ks) (suc i) h w = bound_at n ks i (omega arith) w.1
 
-pub length-map : {A B : Type 0} (f : A → B) (xs : List A) → length (map f xs) ≡ length xs
-length-map f [] = refl
-length-map f (x ∷ xs) = ap suc (length-map f xs)
-
 pub length-links : (fs : List SourceFile) → length (links_of (map program_file fs)) ≡ length fs
 length-links [] = refl
 length-links (x ∷ fs) = ap suc (length-links fs)

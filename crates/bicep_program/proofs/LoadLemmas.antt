@@ -7,11 +7,12 @@ use Rattle.std.specs.Prelude.{slice_get, bytes_eq, IfOk}
 use Rattle.std.specs.declared.vec.Vec.{Vec}
 use Rattle.std.specs.declared.alloc.Global.{Global}
 use Rattle.std.specs.List.{AllByRecursion, IsDistinct}
+use Rattle.std.proofs.lemmas.List.{map-append}
 use Rattle.bicep_tree.specs.Tree.{FileTree}
 use Rattle.module_links.specs.declared.entry.Entry.{Entry}
 use Rattle.module_links.specs.Paths.{file_at}
 use Rattle.module_links.specs.Links.{entry_names, AreLinked, Adds, IsNamedBy}
-use Rattle.module_links.proofs.LinkLemmas.{get_grown, linked_grown, all_append, map-append}
+use Rattle.module_links.proofs.LinkLemmas.{get_grown, linked_grown, all_append}
 use Rattle.bicep_program.specs.Sources.{Folder, IsReadAs, Lacks}
 use Rattle.bicep_program.specs.Program.{ProgramFile, names_of, module_paths, IsReached, begun, further}
 use Rattle.bicep_program.specs.Refused.{HasFault, IsWritten, IsMissing}

@@ -2,3 +2,10 @@ pub mod Place
 pub mod Source
 pub mod Target
 pub mod View
+pub use Rattle.arm_functions.specs.Table
+pub use Rattle.arm_functions.specs.Values
+pub use Rattle.bicep_tree.specs.declared.leaf.Indexing
+pub use Rattle.bicep_tree.specs.declared.leaf.Literal
+pub use Rattle.bicep_tree.specs.declared.leaf.Operator
+pub use Rattle.bicep_tree.specs.declared.leaf.Prefix
+pub use Rattle.bicep_tree.specs.declared.leaf.TypeName

@@ -1,9 +1,10 @@
 -- The functions that a file may call have ways to be called.
-use Rattle.std.proofs.Common.{◌≡◌, ℕ, ◌&&◌, ◌||◌, Bool, true, false, true≢false, List, [], ◌∷◌, Option, Some, None}
+use Rattle.std.proofs.Common.{◌≡◌, ℕ, ◌||◌, Bool, true, false, true≢false, List, [], ◌∷◌, Option, Some, None}
 use Rattle.std.proofs.Common.{bytes_eq}
 use Rattle.std.proofs.Common.{refl, sym, ap, ap₂, ◌∙◌}
 use Rattle.std.specs.Prelude.{not, is_some, if◌then◌else◌}
 use Rattle.std.specs.List.{list_all}
+use Rattle.foundation.proofs.TruthValues.{both}
 use Rattle.foundation.proofs.Words.{eq_word}
 use Rattle.arm_value.specs.Look.{fold, is_same_folded, is_among}
 use Rattle.arm_functions.specs.declared.plain.Plain.{Plain}
@@ -24,10 +25,6 @@ row_fine r = fine r.0
 all_fine : list_all row_fine functions.table ≡ true
 unfolding reserved table functions.table
 all_fine = refl
-
-both_true : (b c : Bool) → (b && c) ≡ true → (b ≡ true) × (c ≡ true)
-both_true true c e = (refl, e)
-both_true false c e = absurd (true≢false (sym e))
 
 among_same : (a b : List ℕ) → fold a ≡ fold b → (names : List (List ℕ)) → is_among names a ≡ is_among names b
 among_same a b e [] = refl
@@ -55,7 +52,7 @@ is_fine : (name : List ℕ) (rs : List Row) → list_all row_fine rs ≡ true �
 unfolding row_in
 is_fine name [] h e = absurd (true≢false (sym e))
 is_fine name (r ∷ rs) h e =
-    let p = both_true (row_fine r) (list_all row_fine rs) h in
+    let p = both (row_fine r) (list_all row_fine rs) h in
     fine_by name r (row_in name rs) p.0 (is_fine name rs p.1) (is_same_folded name r.0) refl e
 
 has_ways : (x y : Bool) → not x ≡ true → (x || y) ≡ true → y ≡ true
@@ -75,7 +72,7 @@ pub callable : (name : List ℕ) (c : ℕ × Option ℕ) (n : ℕ) → may_call 
     → admits c.0 c.1 n ≡ true → (w : Signatures) × (signatures_of name n ≡ Some w)
 unfolding may_call signatures_of
 callable name c n may is e =
-    let p = both_true (not (is_among reserved name)) (is_some (row_of name)) may in
+    let p = both (not (is_among reserved name)) (is_some (row_of name)) may in
     let f = is_fine name functions.table all_fine p.1 in
     let q = some_ways (signatures_in name table) (has_ways (is_among reserved name) _ p.0 f) in
     (q.0, counted_ways (counts name) c n (signatures_in name table) is e ∙ q.1)

@@ -5,7 +5,8 @@ use Rattle.std.proofs.Common.{◌∙◌, length, not, arith}
 use Rattle.std.specs.Prelude.{codes, option_and_then, if◌then◌else◌}
 use Rattle.std.specs.List.{AllByRecursion, list_all}
 use Rattle.std.proofs.lemmas.Option.{none-some, same_Some}
-use Rattle.std.proofs.lemmas.Bool.Decides.{nat_tests}
+use Rattle.foundation.proofs.Comparisons.{eq_of_true}
+use Rattle.foundation.proofs.TruthValues.{both}
 use Rattle.foundation.proofs.Words.{eq_word}
 use Rattle.arm_value.specs.Json.{Json}
 use Rattle.arm_value.specs.Json as j
@@ -23,7 +24,7 @@ use Rattle.arm_functions.specs.declared.plain.Plain.{Plain}
 use Rattle.arm_functions.specs.Table as functions
 use Rattle.arm_functions.specs.Table.{Row, row_in, row_of}
 use Rattle.arm_functions.specs.Values as values
-use Rattle.arm_functions.specs.Values.{admits, value_of, of_lists, function_value}
+use Rattle.arm_functions.specs.Values.{admits, value_of, of_lists}
 use Rattle.bicep_signatures.specs.declared.signature.Signature.{Signature}
 use Rattle.bicep_signatures.specs.declared.signature.Signatures.{Signatures}
 use Rattle.bicep_signatures.specs.declared.value_type.ValueType.{ValueType}
@@ -114,11 +115,8 @@ ranked type.Bool = refl
 ranked type.Object = refl
 ranked type.Array = refl
 
-same_numbers : (a b : ℕ) → (a == b) ≡ true → a ≡ b
-same_numbers a b e = grind (arith, nat_tests)
-
 same_ranks : (t u : ValueType) → (rank t == rank u) ≡ true → t ≡ u
-same_ranks t u e = sym (ranked t) ∙ ap of_rank (same_numbers (rank t) (rank u) e) ∙ ranked u
+same_ranks t u e = sym (ranked t) ∙ ap of_rank (eq_of_true (rank t) (rank u) e) ∙ ranked u
 
 abbrev way_suits : ValueType → Option Signature → Bool
 way_suits t None = true
@@ -126,10 +124,6 @@ way_suits t (Some s) = (rank s.value == 0) || (rank s.value == rank t)
 
 abbrev suits : ValueType → Signatures → Bool
 suits t w = way_suits t w.one && (way_suits t w.two && way_suits t w.three)
-
-both_true : (b c : Bool) → (b && c) ≡ true → (b ≡ true) × (c ≡ true)
-both_true true c e = (refl, e)
-both_true false c e = absurd (true≢false (sym e))
 
 way_by : (t u : ValueType) (v : Json) (b : Bool) → (rank u == 0) ≡ b → (b || (rank u == rank t)) ≡ true
     → IsOfType t v → IsOfType u v
@@ -142,8 +136,8 @@ way_gives t v (Some s) e h = way_by t s.value v (rank s.value == 0) refl e h
 
 all_give : (t : ValueType) (v : Json) (w : Signatures) → suits t w ≡ true → IsOfType t v → AllGive v w
 all_give t v w e h =
-    let p = both_true _ _ e in
-    let q = both_true _ _ p.1 in
+    let p = both _ _ e in
+    let q = both _ _ p.1 in
     (way_gives t v w.one p.0 h, (way_gives t v w.two q.0 h, way_gives t v w.three q.1 h))
 
 -- ---- what rows say
@@ -210,7 +204,7 @@ ok_by r false false is here e = one_type r here e
 each_ok : (rs : List (List ℕ × Signatures)) → list_all row_ok rs ≡ true → AllByRecursion RowSays rs
 each_ok [] e = tt
 each_ok (r ∷ rs) e =
-    let p = both_true (row_ok r) (list_all row_ok rs) e in
+    let p = both (row_ok r) (list_all row_ok rs) e in
     (ok_by r (suits type.Any r.1) (is_coalesce r.0) refl refl p.0, each_ok rs p.1)
 
 all_split : (n : ℕ) (rs : List (List ℕ × Signatures)) → AllByRecursion RowSays (take n rs)

@@ -8,9 +8,9 @@ use Rattle.std.proofs.lemmas.List.{get_or-set_other, length-set}
 use Rattle.depend_graph.proofs.Keeping.{get_or-replicate, length-replicate}
 use Rattle.bicep_names.specs.declared.kind.Kind.{Kind}
 use Rattle.bicep_declared.specs.Declarations.{DeclaredTree}
-use Rattle.bicep_circles.specs.Links.{links}
-use Rattle.bicep_circles.specs.Orders.{IsLinkOrder}
-use Rattle.bicep_circles.proofs.FillLemmas as fill
+use Rattle.bicep_mentions.specs.Links.{links}
+use Rattle.bicep_mentions.specs.Orders.{IsLinkOrder}
+use Rattle.bicep_mentions.proofs.FillLemmas as fill
 use Rattle.bicep_mentions.specs.States.{StateReads}
 use Rattle.bicep_mentions.specs.Names.{own_reads, whole_reads}
 use Rattle.bicep_mentions.specs.Agreement.{AgreeAt, IsKnown}

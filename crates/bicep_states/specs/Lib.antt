@@ -1,1 +1,2 @@
 pub mod View
+pub use Rattle.bicep_mentions.specs.Entries

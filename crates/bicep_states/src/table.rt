@@ -1,7 +1,7 @@
 // Which symbols of a file read state.
 ghost use Rattle.std.specs.Prelude.{◌≡◌, ◌<◌, false, length, map, replicate, slice_set, IfOk};
-ghost use Rattle.bicep_circles.specs.Links.{links};
-ghost use Rattle.bicep_circles.specs.Orders.{IsLinkOrder};
+ghost use Rattle.bicep_mentions.specs.Links.{links};
+ghost use Rattle.bicep_mentions.specs.Orders.{IsLinkOrder};
 ghost use Rattle.bicep_declared.specs.View.{declared_tree};
 ghost use Rattle.bicep_mentions.specs.Entries.{state_reads};
 ghost use Rattle.bicep_mentions.specs.Names as spec;

@@ -3,7 +3,8 @@ use Rattle.std.proofs.Common.{◌≡◌, ◌<◌, ◌⊎◌, inl, inr, ℕ, zero
 use Rattle.std.proofs.Common.{ap, subst, ◌∙◌, arith, set, drop}
 use Rattle.std.specs.Prelude.{slice_get}
 use Rattle.std.proofs.lemmas.Bool.{cases_eq}
-use Rattle.std.proofs.lemmas.List.{length-set}
+use Rattle.std.proofs.lemmas.List.{length-set, length-map}
+use Rattle.foundation.proofs.Comparisons.{lt_suc_or_is}
 use Rattle.bicep_names.specs.declared.kind.Kind.{Kind}
 use Rattle.bicep_declared.specs.declared.declared.Declared.{Declared}
 use Rattle.bicep_declared.specs.Declarations.{DeclaredTree}
@@ -15,7 +16,7 @@ use Rattle.bicep_typing.specs.Names.{known}
 use Rattle.bicep_symbol_types.specs.SymbolTypes.{symbol_type, with_outputs, AreTypes, symbol_types}
 use Rattle.bicep_symbol_types.specs.Along.{type_by, renewed, types_along, any, none_known}
 use Rattle.bicep_symbol_types.proofs.AgreeLemmas.{AgreeAt}
-use Rattle.bicep_symbol_types.proofs.ListLemmas.{length-map, set_here, set_other, same_lists, step_at, peeled}
+use Rattle.bicep_symbol_types.proofs.ListLemmas.{set_here, set_other, same_lists, step_at, peeled}
 use Rattle.bicep_symbol_types.proofs.ListLemmas.{all_peeled}
 use Rattle.bicep_symbol_types.proofs.SettleLemmas.{length-links, same_next, are_settled}
 
@@ -26,13 +27,6 @@ length-along os ds [] xs = refl
 length-along os ds (n ∷ ns) xs =
     length-along os ds ns (renewed os ds n xs) ∙ length-set xs n (type_by os xs (slice_get ds n))
 
-before_or_last : (j i : ℕ) → j < suc i → (j < i) ⊎ (j ≡ i)
-before_or_last zero zero h = inr refl
-before_or_last zero (suc i) h = inl (omega arith)
-before_or_last (suc j) zero h = absurd (omega (arith, h))
-before_or_last (suc j) (suc i) h =
-    elim (before_or_last j i (omega (arith, h))) [ inl p ↦ inl (omega (arith, p)) | inr e ↦ inr (ap suc e) ]
-
 module _ (os : List (List ValueType)) (ks : List Kind) (ds : List DeclaredTree) (order : List ℕ)
     (many : length ks ≡ length ds) (o : IsLinkOrder (links ks ds) order) (ts : List ValueType)
     (are : AreTypes os ds ts) where
@@ -40,7 +34,7 @@ module _ (os : List (List ValueType)) (ks : List Kind) (ds : List DeclaredTree) 
   Found i xs = (j : ℕ) → j < i → AgreeAt xs ts (get_or order j 0)
 
   size : length ts ≡ length ds
-  size = sym (ap length are) ∙ length-map (symbol_type (with_outputs os ts)) ds
+  size = sym (ap length are) ∙ length-map ds (symbol_type (with_outputs os ts))
 
   -- the type that is found next
   next_type : (i : ℕ) → i < length order → (xs : List ValueType) → length xs ≡ length ds → Found i xs
@@ -72,7 +66,7 @@ module _ (os : List (List ValueType)) (ks : List Kind) (ds : List DeclaredTree) 
       kept n (type_by os xs (slice_get ds n)) xs (omega (arith, p, size_xs))
       (subst (λ k. type_by os xs (slice_get ds k) ≡ known (slice_get ts k)) e (next_type i h xs size_xs found))
       (get_or order j 0)
-      (either i n xs e found j (before_or_last j i w) (cases_eq (get_or order j 0) n))
+      (either i n xs e found j (lt_suc_or_is j i w) (cases_eq (get_or order j 0) n))
 
   along : (ns : List ℕ) (i : ℕ) (xs : List ValueType) → drop i order ≡ ns → length xs ≡ length ds → Found i xs
       → Found (length order) (types_along os ds ns xs)
@@ -100,8 +94,8 @@ pub are_along : (os : List (List ValueType)) (ks : List Kind) (ds : List Declare
     → types_along os ds order (none_known ds) ≡ symbol_types os ds
 are_along os ks ds order many o =
     all_along os ks ds order many o (symbol_types os ds) (are_settled os ks ds order many o) (none_known ds)
-    (length-map any ds)
+    (length-map ds any)
 
 pub many_trees : (ks : List Kind) (ds : List Declared) → length ks ≡ length ds
     → length ks ≡ length (map declared_tree ds)
-many_trees ks ds e = e ∙ sym (length-map declared_tree ds)
+many_trees ks ds e = e ∙ sym (length-map ds declared_tree)

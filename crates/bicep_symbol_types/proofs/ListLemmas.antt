@@ -1,5 +1,5 @@
 -- Types by the numbers of symbols.
-use Rattle.std.proofs.Common.{◌≡◌, ◌<◌, ◌≤◌, ℕ, zero, suc, List, [], ◌∷◌, length, map, refl, sym, ap, ap₂, ◌∙◌, get_or}
+use Rattle.std.proofs.Common.{◌≡◌, ◌<◌, ◌≤◌, ℕ, zero, suc, List, [], ◌∷◌, length, refl, sym, ap, ap₂, ◌∙◌, get_or}
 use Rattle.std.proofs.Common.{arith, set, drop}
 use Rattle.std.specs.Prelude.{Option, Some, None, slice_get, option_map}
 use Rattle.std.proofs.lemmas.List.{get_or-set_other}
@@ -10,10 +10,6 @@ use Rattle.bicep_signatures.specs.declared.value_type.ValueType.TheVariants as t
 use Rattle.bicep_typing.specs.Names.{known}
 use Rattle.bicep_symbol_types.specs.SymbolTypes.{symbol_type, with_outputs, type_step}
 use Rattle.bicep_symbol_types.specs.Along.{type_by}
-
-pub length-map : {A B : Type 0} (f : A → B) (xs : List A) → length (map f xs) ≡ length xs
-length-map f [] = refl
-length-map f (x ∷ xs) = ap suc (length-map f xs)
 
 pub set_past : {A : Type 0} (xs : List A) (n : ℕ) (x : A) → length xs ≤ n → set xs n x ≡ xs
 set_past [] n x h = refl

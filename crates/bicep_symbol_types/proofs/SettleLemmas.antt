@@ -3,6 +3,8 @@ use Rattle.std.proofs.Common.{◌≡◌, ◌<◌, ◌≤◌, ◌⊎◌, inl, inr
 use Rattle.std.proofs.Common.{refl, sym, ap, subst, ◌∙◌, arith}
 use Rattle.std.specs.Prelude.{Option, Some, None, slice_get, Contains}
 use Rattle.std.proofs.lemmas.Option.{none-some, same_Some}
+use Rattle.std.proofs.lemmas.Bool.{cases_lt}
+use Rattle.std.proofs.lemmas.List.{length-map}
 use Rattle.bicep_names.specs.declared.kind.Kind.{Kind}
 use Rattle.bicep_program.specs.Circles.{Links}
 use Rattle.bicep_declared.specs.Declarations.{DeclaredTree}
@@ -15,7 +17,7 @@ use Rattle.bicep_symbol_types.specs.SymbolTypes.{symbol_type, with_outputs, type
 use Rattle.bicep_symbol_types.specs.SymbolTypes.{symbol_types}
 use Rattle.bicep_symbol_types.specs.Along.{type_by}
 use Rattle.bicep_symbol_types.proofs.AgreeLemmas.{AgreeAt, Agree, same_symbol}
-use Rattle.bicep_symbol_types.proofs.ListLemmas.{length-map, known_past, same_lists, step_at}
+use Rattle.bicep_symbol_types.proofs.ListLemmas.{known_past, same_lists, step_at}
 use Rattle.foundation.proofs.Lists.{contained_further}
 
 -- ---- lists
@@ -31,13 +33,6 @@ agree_of : (os : List (List ValueType)) (xs ys : List ValueType) (ms : List ℕ)
 agree_of os xs ys [] f = tt
 agree_of os xs ys (m ∷ ms) f =
     (f m (zero, omega arith, refl), agree_of os xs ys ms (λ y c. f y (contained_further m ms y c)))
-
-by_order : (m n : ℕ) → (m < n) ⊎ (n ≤ m)
-by_order zero zero = inr (omega arith)
-by_order zero (suc n) = inl (omega arith)
-by_order (suc m) zero = inr (omega arith)
-by_order (suc m) (suc n) =
-    elim (by_order m n) [ inl h ↦ inl (omega (arith, h)) | inr h ↦ inr (omega (arith, h)) ]
 
 -- ---- links
 
@@ -63,13 +58,13 @@ few_within : (os : List (List ValueType)) (ds : List DeclaredTree) (k : ℕ)
 unfolding types_within
 few_within os ds zero = omega arith
 few_within os ds (suc k) =
-    let e = length-map (symbol_type (with_outputs os (types_within os ds k))) ds in omega (arith, e)
+    let e = length-map ds (symbol_type (with_outputs os (types_within os ds k))) in omega (arith, e)
 
 all_within : (os : List (List ValueType)) (ds : List DeclaredTree) (k : ℕ) → k ≡ length ds
     → length (types_within os ds k) ≡ length ds
 unfolding types_within
 all_within os ds zero e = e
-all_within os ds (suc k) e = length-map (symbol_type (with_outputs os (types_within os ds k))) ds
+all_within os ds (suc k) e = length-map ds (symbol_type (with_outputs os (types_within os ds k)))
 
 module _ (os : List (List ValueType)) (ks : List Kind) (ds : List DeclaredTree) (order : List ℕ)
     (many : length ks ≡ length ds) (o : IsLinkOrder (links ks ds) order) where
@@ -91,7 +86,7 @@ module _ (os : List (List ValueType)) (ks : List Kind) (ds : List DeclaredTree) 
       same_symbol os xs ys d
       (agree_of os xs ys (declared_mentions d)
       (λ m c. mention xs ys p q j h before m (leads ks ds many (get_or order j 0) d is m c)
-      (by_order m (length (links ks ds)))))
+      (cases_lt m (length (links ks ds)))))
 
   -- what agrees on the symbols before one in the order gives it the same type
   pub same_next : (xs ys : List ValueType) → length xs ≤ length ds → length ys ≤ length ds
@@ -127,8 +122,8 @@ module _ (os : List (List ValueType)) (ks : List Kind) (ds : List DeclaredTree) 
   unfolding types_within
   are_settled =
       same_lists (type_step os ds (symbol_types os ds)) (symbol_types os ds)
-      (length-map (symbol_type (with_outputs os (symbol_types os ds))) ds ∙ sym (all_within os ds (length ds) refl))
-      (λ n h. let size = length-map (symbol_type (with_outputs os (symbol_types os ds))) ds in
+      (length-map ds (symbol_type (with_outputs os (symbol_types os ds))) ∙ sym (all_within os ds (length ds) refl))
+      (λ n h. let size = length-map ds (symbol_type (with_outputs os (symbol_types os ds))) in
       run_all (λ k. types_within os ds (suc k)) (λ k. types_within os ds k) (λ k. few_within os ds (suc k))
       (λ k. few_within os ds k) (λ k. refl) (λ k. refl) n (omega (arith, h, size)))
 
@@ -137,7 +132,7 @@ module _ (os : List (List ValueType)) (ks : List Kind) (ds : List DeclaredTree) 
   unfolding types_within
   are_only xs e =
       let size : length xs ≡ length ds =
-      sym (ap length e) ∙ length-map (symbol_type (with_outputs os xs)) ds in
+      sym (ap length e) ∙ length-map ds (symbol_type (with_outputs os xs)) in
       same_lists xs (symbol_types os ds) (size ∙ sym (all_within os ds (length ds) refl))
       (λ n h. run_all (λ k. xs) (λ k. types_within os ds k) (λ k. omega (arith, size)) (λ k. few_within os ds k)
       (λ k. sym e) (λ k. refl) n (omega (arith, h, size)))

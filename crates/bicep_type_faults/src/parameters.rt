@@ -1,32 +1,19 @@
 // The types of the parameters of a file.
-ghost use Rattle.std.specs.Prelude.{◌≡◌, ◌↔◌, IsTrue, Some, None, option_map, if◌then◌else◌};
-ghost use Rattle.arm_value.specs.Look.{fold, is_same_folded};
-ghost use Rattle.bicep_tree.specs.View.{declaration_of, statement_of, file_of};
+ghost use Rattle.std.specs.Prelude.{◌≡◌, Some, None, option_map, if◌then◌else◌};
+ghost use Rattle.arm_value.specs.Look.{is_same_folded};
+ghost use Rattle.bicep_tree.specs.View.{declaration_of, file_of};
 ghost use Rattle.bicep_type_faults.specs.Parameters as spec;
 
 use crate::places::kinds_of;
-use arm_value::{Text, folded_eq};
+use arm_value::Text;
 use bicep_signatures::Kinds;
 use bicep_tree::{Declaration, Name, Statement, TypeName};
-
-// Whether both names are equal but for the case of ASCII letters.
-fn same_name(one: &Text, other: &Text) -> bool
-    ensures { IsTrue result ↔ (fold one.now ≡ fold other.now) }
-{
-    folded_eq(one.as_str(), other.as_str())
-}
-
-fn is_same(one: &Text, other: &Text) -> bool
-    ensures { result ≡ is_same_folded one.now other.now }
-{
-    same_name(one, other)
-}
 
 // The type, where the parameter has the name, whatever the case of its ASCII letters.
 fn where_named(name: &Text, parameter: &Name, kind: TypeName) -> Option<TypeName>
     ensures { result ≡ (if is_same_folded name.now parameter.now.text then Some kind else None) }
 {
-    if is_same(name, &parameter.text) {
+    if name.is_same_ignore_case(&parameter.text) {
         Some(kind)
     } else {
         None

@@ -1,5 +1,6 @@
 // Type texts: `type@version`.
 ghost use Rattle.std.specs.Prelude.{◌≡◌, ◌&&◌, not, chars, option_map, IfOk};
+ghost use Rattle.arm_ids.specs.Segments.{is_empty};
 ghost use Rattle.bicep_misplaced.specs.Types.{divided, is_undivided};
 ghost use Rattle.bicep_type_texts.specs.Texts as spec;
 
@@ -37,8 +38,8 @@ fn is_undivided(kind: &str) -> bool
     }
 }
 
-fn is_blank(text: &str) -> bool
-    ensures { result ≡ spec.is_blank (chars text.now) }
+fn is_empty(text: &str) -> bool
+    ensures { result ≡ is_empty (chars text.now) }
 {
     is_word(text, "")
 }
@@ -62,12 +63,12 @@ fn is_deployments(alloc: Global, kind: &str) -> Result<bool, OutOfMemory>
 // A type that a resource may have, and a version.
 fn are_whole(alloc: Global, kind: &str, version: &str) -> Result<bool, OutOfMemory>
     ensures { IfOk result (λ b. b ≡ (spec.is_type (chars kind.now)
-        && (not (spec.is_deployments (chars kind.now)) && not (spec.is_blank (chars version.now))))) }
+        && (not (spec.is_deployments (chars kind.now)) && not (is_empty (chars version.now))))) }
 {
     if !is_type(alloc, kind)? {
         return Ok(false);
     }
-    Ok(!is_deployments(alloc, kind)? && !is_blank(version))
+    Ok(!is_deployments(alloc, kind)? && !is_empty(version))
 }
 
 /// Whether the text has a type and a version.
@@ -83,7 +84,7 @@ pub(crate) fn is_whole(alloc: Global, text: &Text) -> Result<bool, OutOfMemory>
 fn is_segment(kind: &str) -> bool
     ensures { result ≡ spec.is_segment (chars kind.now) }
 {
-    is_undivided(kind) && !is_blank(kind)
+    is_undivided(kind) && !is_empty(kind)
 }
 
 /// Whether the text has one segment, and a version or none.
@@ -91,7 +92,7 @@ pub(crate) fn is_part(text: &Text) -> bool
     ensures { result ≡ spec.is_part text.now }
 {
     match divided(text.as_str()) {
-        Some((kind, version)) => is_segment(kind) && !is_blank(version),
+        Some((kind, version)) => is_segment(kind) && !is_empty(version),
         None => is_segment(text.as_str()),
     }
 }

@@ -6,6 +6,7 @@ use Rattle.std.specs.List.{AllByRecursion}
 use Rattle.std.specs.declared.vec.Vec.{Vec}
 use Rattle.std.specs.declared.alloc.Global.{Global}
 use Rattle.std.proofs.lemmas.Option.{slice_get-map, slice_get_read}
+use Rattle.std.proofs.lemmas.List.{length-map}
 use Rattle.bicep_found.specs.Found.{Found, found, unknown, mapped}
 use Rattle.bicep_names.specs.declared.kind.Kind.{Kind}
 use Rattle.bicep_symbols.specs.declared.entry.Entry.{Entry}
@@ -17,8 +18,8 @@ use Rattle.bicep_type_faults.specs.Files.{file_fits}
 use Rattle.bicep_checks.specs.Faults.{links_of, name_at, symbol_kind, kinds_of}
 use Rattle.bicep_checks.proofs.KindLemmas.{kinds_same, same_file}
 use Rattle.depend_graph.specs.declared.order.Sorted.TheVariants as sorted
-use Rattle.bicep_circles.specs.Links.{links}
-use Rattle.bicep_circles.specs.Orders.{AreSorted, IsLinkOrder}
+use Rattle.bicep_numbers.specs.Links.{links}
+use Rattle.bicep_numbers.specs.Orders.{AreSorted, IsLinkOrder}
 use Rattle.bicep_declared.specs.declared.declared.Declared.{Declared}
 use Rattle.bicep_declared.specs.View.{declared_tree}
 use Rattle.bicep_symbol_types.specs.SymbolTypes.{with_outputs, symbol_types}
@@ -31,7 +32,6 @@ use Rattle.bicep_numbers.specs.Sorts.{symbol_sort, declared_sort}
 use Rattle.bicep_numbers.proofs.FileLemmas.{file_sorts}
 use Rattle.bicep_program.specs.Program.{ProgramFile}
 use Rattle.bicep_program.proofs.LoadLemmas.{at_place}
-use Rattle.bicep_symbol_types.proofs.ListLemmas.{length-map}
 use Rattle.bicep_symbol_types.proofs.SettleLemmas.{are_settled}
 use Rattle.resolved_program.specs.Programs.{ResolvedFileTree, with_names, file_symbols, output_texts, scope_in}
 use Rattle.resolved_program.specs.Programs.{resolved_file}
@@ -49,8 +49,8 @@ one_declared : (files : List ProgramFile) (f : ProgramFile) (r : ResolvedFileTre
     → resolved_file files f ≡ found r → HasDeclarations r
 one_declared files f r e =
     declared_by (file_symbols f) (output_texts f) (declared_file (scope_in files f) f.tree) r e
-    (λ t is. sym (length-map symbol_sort (file_symbols f))
-    ∙ ap length (file_sorts f.modules f.tree (scope_in files f) t is) ∙ length-map declared_sort t.declarations)
+    (λ t is. sym (length-map (file_symbols f) symbol_sort)
+    ∙ ap length (file_sorts f.modules f.tree (scope_in files f) t is) ∙ length-map t.declarations declared_sort)
 
 pub all_declared : (files xs : List ProgramFile) (rs : List ResolvedFileTree)
     → map (resolved_file files) xs ≡ map (λ r. found r) rs → AllByRecursion HasDeclarations rs
@@ -94,7 +94,7 @@ module _ (os : List (List ValueType)) (f : ResolvedFile) (order : List ℕ) (h :
     (o : IsLinkOrder (links_of (file_view f)) order) where
   -- as many kinds as declarations
   many : length (kinds_of (file_view f)) ≡ length (file_view f).declared.declarations
-  many = length-map symbol_kind (file_view f).symbols ∙ h
+  many = length-map (file_view f).symbols symbol_kind ∙ h
 
   -- by an order of its symbols the types of a file are settled
   pub settled_along : IsSettledBy os (file_view f)
@@ -106,7 +106,7 @@ module _ (os : List (List ValueType)) (f : ResolvedFile) (order : List ℕ) (h :
       → P (symbol_types os (map declared_tree ds))) → P (symbol_types_by os (file_view f))
   found_along ds P is g =
       subst (λ xs. P (symbol_types os (map declared_tree xs))) is
-      (g (kinds_of (file_view f)) (many ∙ length-map declared_tree f.declared.declarations.items ∙ ap length (sym is))
+      (g (kinds_of (file_view f)) (many ∙ length-map f.declared.declarations.items declared_tree ∙ ap length (sym is))
       (subst (λ xs. IsLinkOrder (links (kinds_of (file_view f)) (map declared_tree xs)) order) (sym is) o))
 
 -- one file more

@@ -2,7 +2,7 @@
 ghost use Rattle.std.specs.Prelude.{◌≡◌, map, IfOk, IfErr, OnOk, None};
 ghost use Rattle.std.specs.List.{AllByRecursion};
 ghost use Rattle.bicep_program.specs.Program.{program_file};
-ghost use Rattle.bicep_circles.specs.Orders.{IsLinkOrder};
+ghost use Rattle.bicep_numbers.specs.Orders.{IsLinkOrder};
 ghost use Rattle.bicep_checks.specs.Faults.{links_of};
 ghost use Rattle.bicep_typing.specs.Names.{listed};
 ghost use Rattle.resolved_program.specs.Faults.{first_in};
@@ -12,7 +12,7 @@ ghost use Rattle.bicep_types.specs.Steps.{HasDeclarations, HasNoCircle, AreFound
 
 use crate::fault::CheckFault;
 use arm_value::OutOfMemory;
-use bicep_circles::symbol_order;
+use bicep_numbers::symbol_order;
 use bicep_program::SourceFile;
 use bicep_signatures::ValueType;
 use bicep_symbol_types::{output_types, symbol_types};

@@ -4,15 +4,15 @@ use Rattle.std.proofs.Common.{List, length}
 use Rattle.std.proofs.Common.{Some, refl, sym, ap, subst, ◌∙◌, arith}
 use Rattle.std.specs.Prelude.{slice_get}
 use Rattle.std.specs.BTreeSet.{BTreeSet}
-use Rattle.std.proofs.lemmas.Option.{slice_get_within}
+use Rattle.std.proofs.lemmas.Option.{slice_get_within, same_Some}
 use Rattle.std.proofs.lemmas.Bool.{cases_eq}
 use Rattle.depend_graph.specs.Shape as graph
-use Rattle.depend_graph.specs.Shape.{Shape, with_edge, with_done}
+use Rattle.depend_graph.specs.Shape.{Shape, with_edge}
 use Rattle.depend_graph.proofs.Keeping.{other_test}
 use Rattle.plan_cells.specs.Known.{Table}
 use Rattle.deploy_histories.specs.Planned.{Planned}
 use Rattle.deploy_histories.specs.Events.{Event, progress, is_waiting}
-use Rattle.point_values.specs.Seen.{IsSeen}
+use Rattle.task_standings.specs.Seen.{IsSeen}
 use Rattle.reading.specs.Knowledge.{Grows}
 use Rattle.task_standings.proofs.Lasting.{scopes_stay}
 use Rattle.task_agenda.specs.declared.agenda.Agenda.{Agenda}
@@ -23,9 +23,6 @@ use Rattle.board_dealing.specs.Kept.{waker, IsNeeded, IsWoken, IsStuckTask, IsCo
 use Rattle.board_dealing.specs.Looks.{IsHeard}
 use Rattle.board_dealing.proofs.Undone.{undone_need}
 use Rattle.board_dealing.proofs.Edges.{undone_there, edge_to, edge_from, edge_holds}
-
-one_event : (e f : Event) → Some e ≡ Some f → e ≡ f
-one_event e f i = cc
 
 pub later_than : (s p : ℕ) → s ≤ p → (p ≡ s → ⊥) → s + 1 ≤ p
 later_than zero zero g n = absurd (n refl)
@@ -168,7 +165,7 @@ module _ (x : Planned) (t : Table) (tasks : ℕ) (h : List Event) (a : Agenda) (
         by_place u i (inl s) =
             let at : slice_get h seen ≡ Some i.happened
             = subst (λ (n : ℕ). slice_get h n ≡ Some i.happened) s i.is_there in
-            let same : f ≡ i.happened = one_event f i.happened (sym there ∙ at) in
+            let same : f ≡ i.happened = same_Some f i.happened (sym there ∙ at) in
             inl (concerned u i (ap waker same ∙ i.wakes))
         by_place u i (inr n) = inr (inl (record {
           place = i.place;

@@ -4,6 +4,7 @@ use Rattle.std.proofs.Common.{Option, Some, None, refl, sym, ap, subst, ◌∙�
 use Rattle.std.specs.Prelude.{slice_get, option_and_then, is_some, option_map, Result, Ok, Err, IfOk, OnErr, is_ok}
 use Rattle.std.specs.Prelude.{if◌then◌else◌}
 use Rattle.std.specs.declared.alloc.AllocError.{AllocError}
+use Rattle.std.proofs.lemmas.Option.{same_Some}
 use Rattle.arm_value.specs.Json.{Json, null, bool, int, text, array, object}
 use Rattle.arm_value.specs.View.{json}
 use Rattle.arm_value.specs.declared.value.Value.{Value}
@@ -30,7 +31,7 @@ use Rattle.deploy_histories.specs.Values.{body_of}
 use Rattle.deploy_histories.proofs.ReadinessLemmas.{ready_says}
 use Rattle.board_history.specs.Past.{Past, with_event}
 use Rattle.board_history.specs.Stages.{refuses}
-use Rattle.point_values.specs.Seen.{IsSeen}
+use Rattle.task_standings.specs.Seen.{IsSeen}
 use Rattle.task_standings.specs.Standings.{FitsTask, IsScopeSeen}
 use Rattle.task_agenda.specs.declared.agenda.Agenda.{Agenda}
 use Rattle.task_agenda.specs.Agendas.{is_scope, HasGraph, is_listed}
@@ -49,12 +50,9 @@ use Rattle.board_dealing.proofs.PassLemmas.{grows_still}
 use Rattle.board_dealing.proofs.Passages.{none_passed}
 use Rattle.board_dealing.proofs.Stepping.{same_agenda, done_agenda}
 
-one_target : (a b : Target) → Some a ≡ Some b → a ≡ b
-one_target a b e = cc
-
 pub put_act : (place : Place) (k : Option Kind) (n : Option Json) (g : Target) → put_target place k n ≡ Some g → g.act
     ≡ Put
-put_act place (Some k) (Some (text n)) g e = sym (ap (λ (t : Target). t.act) (one_target _ g e))
+put_act place (Some k) (Some (text n)) g e = sym (ap (λ (t : Target). t.act) (same_Some _ g e))
 put_act place (Some k) (Some null) g e = let f : None ≡ Some g = e in absurd (cc)
 put_act place (Some k) (Some (bool b)) g e = let f : None ≡ Some g = e in absurd (cc)
 put_act place (Some k) (Some (int i)) g e = let f : None ≡ Some g = e in absurd (cc)
@@ -64,7 +62,7 @@ put_act place (Some k) None g e = let f : None ≡ Some g = e in absurd (cc)
 put_act place None n g e = let f : None ≡ Some g = e in absurd (cc)
 
 pub delete_act : (r : Option HeldResource) (g : Target) → delete_target r ≡ Some g → g.act ≡ Delete
-delete_act (Some r) g e = sym (ap (λ (t : Target). t.act) (one_target _ g e))
+delete_act (Some r) g e = sym (ap (λ (t : Target). t.act) (same_Some _ g e))
 delete_act None g e = let f : None ≡ Some g = e in absurd (cc)
 
 fits_one : (x : Planned) (t : Table) (one : Task) (body : Json) (g : Target) → IsAct one → FitsTask one body
@@ -107,15 +105,12 @@ not_leave (task.delete k) q a e = let f : task.delete k ≡ task.leave q = e in 
 not_leave (task.enter p) q a e = a
 not_leave (task.leave p) q a e = a
 
-some_task : (a b : Task) → Some a ≡ Some b → a ≡ b
-some_task a b e = cc
-
 -- a put or a deletion enters and leaves nothing
 act_scope : (x : Planned) (t : Table) (u : ℕ) (one : Task) → slice_get x.tasks u ≡ Some one → IsAct one
     → IsScopeSeen x t u
 act_scope x t u one i a = record {
-  entered = λ q e c h. absurd (not_enter one q a (some_task one (task.enter q) (sym i ∙ e)));
-  left = λ q n r e f h. absurd (not_leave one q a (some_task one (task.leave q) (sym i ∙ e)));
+  entered = λ q e c h. absurd (not_enter one q a (same_Some one (task.enter q) (sym i ∙ e)));
+  left = λ q n r e f h. absurd (not_leave one q a (same_Some one (task.leave q) (sym i ∙ e)));
 }
 
 module _ (x : Planned) (t : Table)

@@ -2,7 +2,7 @@
 use Rattle.std.proofs.Common.{◌≡◌, ◌⊎◌, inl, inr, ℕ, zero, suc, ◌<◌, true, false, true≢false, List, [], ◌∷◌, ◌++◌}
 use Rattle.std.proofs.Common.{length, Option, Some, None, refl, sym, ap, ◌∙◌, subst}
 use Rattle.std.specs.Prelude.{slice_get}
-use Rattle.std.proofs.lemmas.Option.{slice_get_within}
+use Rattle.std.proofs.lemmas.Option.{slice_get_within, same_Some}
 use Rattle.std.proofs.lemmas.Bool.{cases_eq}
 use Rattle.arm_value.specs.Json.{Json}
 use Rattle.provider_trait.specs.declared.answer.Answer.{Answer}
@@ -16,12 +16,6 @@ use Rattle.board_history.specs.Stages.{refuses}
 use Rattle.history_laws.proofs.Steps.{at_itself, at_other}
 use Rattle.board_dealing.specs.Kept.{waker, Concerns, Does}
 use Rattle.board_dealing.proofs.Covering.{progress_more}
-
-one_number : (u v : ℕ) → Some u ≡ Some v → u ≡ v
-one_number u v e = cc
-
-one_event : (e f : Event) → Some e ≡ Some f → e ≡ f
-one_event e f i = cc
 
 -- the event gives the one task this status
 module _ (h : List Event) (e : Event) (u : ℕ) (s : Status)
@@ -147,21 +141,21 @@ within_after x p crash m all = λ u w b e. absurd (begun_closed (p.status u) w b
 wakes_within : (x : Planned) (p : Progress) (e : Event) → May x p e → AreBegunWithin x p.status → (u : ℕ)
     → waker e ≡ Some u → u < length x.tasks
 wakes_within x p (enter v) m all u e =
-    subst (λ (n : ℕ). n < length x.tasks) (one_number v u e) (slice_get_within x.tasks v _ m.1.is_task)
+    subst (λ (n : ℕ). n < length x.tasks) (same_Some v u e) (slice_get_within x.tasks v _ m.1.is_task)
 wakes_within x p (begin v worker body) m all u e = let f : None ≡ Some u = e in absurd (cc)
 wakes_within x p (answer v a) m all u e =
-    subst (λ (n : ℕ). n < length x.tasks) (one_number v u e) (slice_get_within x.tasks v m.ended m.is_task)
+    subst (λ (n : ℕ). n < length x.tasks) (same_Some v u e) (slice_get_within x.tasks v m.ended m.is_task)
 wakes_within x p (back v) m all u e =
-    subst (λ (n : ℕ). n < length x.tasks) (one_number v u e) (all v m.0 m.1.0 m.1.1)
+    subst (λ (n : ℕ). n < length x.tasks) (same_Some v u e) (all v m.0 m.1.0 m.1.1)
 wakes_within x p (leave v) m all u e =
-    subst (λ (n : ℕ). n < length x.tasks) (one_number v u e) (slice_get_within x.tasks v _ m.1.is_task)
+    subst (λ (n : ℕ). n < length x.tasks) (same_Some v u e) (slice_get_within x.tasks v _ m.1.is_task)
 wakes_within x p crash m all u e = let f : None ≡ Some u = e in absurd (cc)
 
 wakers_from : (x : Planned) (p : Progress) (es : List Event) → IsLegalFrom x p es → AreBegunWithin x p.status
     → (i : ℕ) (e : Event) → slice_get es i ≡ Some e → (u : ℕ) → waker e ≡ Some u → u < length x.tasks
 wakers_from x p [] l all i e g u w = let f : None ≡ Some e = g in absurd (cc)
 wakers_from x p (f ∷ es) l all zero e g u w =
-    wakes_within x p e (subst (λ (d : Event). May x p d) (one_event f e g) l.0) all u w
+    wakes_within x p e (subst (λ (d : Event). May x p d) (same_Some f e g) l.0) all u w
 wakers_from x p (f ∷ es) l all (suc i) e g u w =
     wakers_from x (after f p) es l.1 (within_after x p f l.0 all) i e g u w
 

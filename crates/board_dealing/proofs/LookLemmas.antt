@@ -2,7 +2,7 @@
 use Rattle.std.proofs.Common.{◌≡◌, ◌⊎◌, inl, inr, ℕ, ◌<◌, ◌+◌, Bool, true, false, true≢false}
 use Rattle.std.proofs.Common.{List, length}
 use Rattle.std.proofs.Common.{Option, Some, None, refl, sym, ap, subst, ◌∙◌, arith}
-use Rattle.std.specs.Prelude.{not, slice_get, Result, Ok, Err, IfOk, is_ok, if◌then◌else◌}
+use Rattle.std.specs.Prelude.{slice_get, Result, Ok, Err, IfOk, is_ok, if◌then◌else◌}
 use Rattle.std.specs.declared.alloc.AllocError.{AllocError}
 use Rattle.std.specs.BTreeSet.{BTreeSet, btree_set_len}
 use Rattle.std.proofs.lemmas.Option.{slice_get_within}
@@ -28,7 +28,6 @@ use Rattle.task_standings.specs.Standings.{IsStanding, AreStartNeedsDone, FitsTa
 use Rattle.task_agenda.specs.declared.agenda.Agenda.{Agenda}
 use Rattle.task_agenda.specs.Agendas.{count, is_scope, is_listed, listed_count, IsFirst, HasGraph, TakesOff}
 use Rattle.task_agenda.specs.Lists as lists
-use Rattle.task_agenda.specs.Lists.{IsHeldUp}
 use Rattle.board_dealing.specs.Kept.{enters_or_leaves, IsNeeded, IsKept}
 use Rattle.board_dealing.specs.Looks.{IsReady, IsPrepared, IsFree, IsOff, NeedsAnother, IsPutOff, IsLooked}
 use Rattle.board_dealing.specs.Looks.{IsReadyFirst, NoScopeListed, StaysKept}
@@ -52,9 +51,6 @@ none_undone : (g : Shape) (u v : ℕ) → length (undone_needs g u) ≡ 0 → gr
     → graph.is_done g v ≡ b → b ≡ true
 none_undone g u v e n true f = refl
 none_undone g u v e n false f = let i = undone_there g.done (graph.needs_of g u) v n f in absurd (omega (arith, e, i))
-
-one_task : (a b : Task) → Some a ≡ Some b → a ≡ b
-one_task a b e = cc
 
 pub off_of : (a b : Agenda) (u : ℕ) → TakesOff a b u → IsOff a b u
 off_of a b u o = record { kinds = o.same.kinds; itself = o.itself; others = o.others; fewer = o.fewer }
@@ -238,14 +234,6 @@ first_ready x t tasks h a seen k noted u body f r i = record {
 -- where no task of scopes was listed, none is
 pub no_scopes_still : (a b : Agenda) (u : ℕ) → IsOff a b u → NoScopeListed a → NoScopeListed b
 no_scopes_still a b u o n v s = off_lists a b u o v (n v (sym (off_scope a b u o v) ∙ s))
-
-pub not_false : (b : Bool) → not b ≡ true → b ≡ false
-not_false false e = refl
-not_false true e = absurd (true≢false (sym e))
-
-pub not_true : (b : Bool) → not b ≡ false → b ≡ true
-not_true true e = refl
-not_true false e = absurd (true≢false e)
 
 -- a call that returns Ok has added the need
 pub need_added : (old mid : Agenda) (u v : ℕ) (r : Result (Unit {0}) AllocError) (o : Unit {0}) → r ≡ Ok o

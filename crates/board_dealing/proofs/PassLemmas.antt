@@ -5,7 +5,7 @@ use Rattle.std.specs.Prelude.{slice_get, option_map, if◌then◌else◌, Result
 use Rattle.std.specs.Prelude.{is_ok}
 use Rattle.std.specs.Prelude.{OnErr}
 use Rattle.std.specs.declared.alloc.AllocError.{AllocError}
-use Rattle.std.proofs.lemmas.Option.{slice_get_within}
+use Rattle.std.proofs.lemmas.Option.{slice_get_within, same_Some}
 use Rattle.arm_value.specs.Json.{Json, null}
 use Rattle.reading.specs.Knowledge.{Known, known, absent, missing, Stays, Grows}
 use Rattle.std.proofs.lemmas.Bool.{cases_eq}
@@ -21,7 +21,7 @@ use Rattle.deploy_histories.specs.Answers.{IsScopeEvent}
 use Rattle.deploy_histories.specs.Legal.{MayStart, May, IsAct, IsLegalFrom}
 use Rattle.deploy_histories.proofs.ReadinessLemmas.{ready_says}
 use Rattle.board_history.specs.Past.{Past, with_event}
-use Rattle.point_values.specs.Seen.{IsSeen}
+use Rattle.task_standings.specs.Seen.{IsSeen}
 use Rattle.task_standings.specs.declared.standing.Kind.{Kind}
 use Rattle.task_standings.specs.declared.standing.Kind.TheVariants.{Enter, Put, Delete, Leave}
 use Rattle.task_standings.specs.Standings.{kind_of, IsScopeSeen, AreScopesSeen}
@@ -38,13 +38,10 @@ use Rattle.board_dealing.proofs.Agendas.{later_than}
 use Rattle.board_dealing.proofs.Stepping.{done_agenda}
 use Rattle.board_dealing.proofs.Happening.{entered, left}
 
-one_kind : (a b : Kind) → Some a ≡ Some b → a ≡ b
-one_kind a b e = cc
-
 -- the kind that is told is that of the task
 pub kind_is : (x : Planned) (u : ℕ) (one : Task) (k : Kind) → slice_get x.tasks u ≡ Some one
     → option_map kind_of (slice_get x.tasks u) ≡ Some k → kind_of one ≡ k
-kind_is x u one k i e = one_kind (kind_of one) k (sym (ap (option_map kind_of) i) ∙ e)
+kind_is x u one k i e = same_Some (kind_of one) k (sym (ap (option_map kind_of) i) ∙ e)
 
 pub enter_of : (one : Task) → kind_of one ≡ Enter → (q : Position) × (one ≡ task.enter q)
 enter_of (task.enter q) e = (q, refl)

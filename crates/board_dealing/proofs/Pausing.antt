@@ -1,7 +1,7 @@
 -- Where nothing is listed and all events were looked at, no task may begin.
 use Rattle.std.proofs.Common.{◌≡◌, ◌≢◌, inl, inr, ℕ, ◌<◌, true, false, true≢false, List}
 use Rattle.std.proofs.Common.{length, Some, None, refl, sym, subst, ◌∙◌, arith}
-use Rattle.std.proofs.lemmas.Option.{slice_get_within}
+use Rattle.std.proofs.lemmas.Option.{slice_get_within, same_Some}
 use Rattle.std.specs.Prelude.{slice_get}
 use Rattle.arm_value.specs.Json.{Json, null}
 use Rattle.plan_cells.specs.Known.{Table}
@@ -9,7 +9,7 @@ use Rattle.plan_cells.specs.Tasks as task
 use Rattle.plan_cells.specs.Tasks.{Task}
 use Rattle.deploy_histories.specs.Planned.{Planned}
 use Rattle.deploy_histories.specs.Events as event
-use Rattle.deploy_histories.specs.Events.{Event, Progress, progress, Status, is_waiting, done_status, NoneBegun}
+use Rattle.deploy_histories.specs.Events.{Event, Progress, progress, NoneBegun}
 use Rattle.deploy_histories.specs.Answers.{IsScopeEvent, IsSettled}
 use Rattle.deploy_histories.specs.Legal.{MayStart, May, NothingMay, HasEnded}
 use Rattle.deploy_histories.proofs.ReadinessLemmas.{ready_says}
@@ -23,9 +23,6 @@ use Rattle.board_dealing.specs.Kept.{IsNeeded, IsWoken, IsStuckTask, IsCovered, 
 use Rattle.board_dealing.specs.Looks.{NoScopeListed, IsReadyFirst}
 use Rattle.board_dealing.proofs.Undone.{undone_need}
 
-same_task : (a b : Task) → Some a ≡ Some b → a ≡ b
-same_task a b e = cc
-
 module _ (x : Planned) (t : Table) (tasks : ℕ) (h : List Event) (a : Agenda) (seen : ℕ)
     (k : IsKept x t tasks h a seen) where
   -- a task of which a need is not done may not start
@@ -33,7 +30,7 @@ module _ (x : Planned) (t : Table) (tasks : ℕ) (h : List Event) (a : Agenda) (
   not_held u k2 body m i =
       let n = undone_need a.graph u i in
       let d : IsNeeded x h a u n.need = k.needs_are u n.need n.is_need in
-      let same : d.task ≡ k2 = same_task d.task k2 (sym d.is_task ∙ m.is_task) in
+      let same : d.task ≡ k2 = same_Some d.task k2 (sym d.is_task ∙ m.is_task) in
       let done = needs_come_first x (progress h) m.known m.is_known u k2 body m.is_ready n.need d.other d.is_other
       (subst (λ (z : Task). Needs x (progress h) z d.other) same d.needs) in
       true≢false (sym done ∙ sym (k.done_are n.need (within n.need d.other d.is_other)) ∙ n.is_undone)
@@ -43,7 +40,7 @@ module _ (x : Planned) (t : Table) (tasks : ℕ) (h : List Event) (a : Agenda) (
 
   pub not_stuck : (u : ℕ) (k2 : Task) (body : Json) (m : MayStart x (progress h) u k2 body) → IsStuckTask x h a u → ⊥
   not_stuck u k2 body m s =
-      let same : s.task ≡ k2 = same_task s.task k2 (sym s.is_task ∙ m.is_task) in
+      let same : s.task ≡ k2 = same_Some s.task k2 (sym s.is_task ∙ m.is_task) in
       stuck_is_not_ready x (progress h) m.known m.is_known u k2 body
       (subst (λ (z : Task). IsStuck x (progress h) z) same s.is_stuck) m.is_ready
 

@@ -10,7 +10,7 @@ use Rattle.plan_cells.specs.Known.{Table}
 use Rattle.deploy_histories.specs.Planned.{Planned}
 use Rattle.deploy_histories.specs.Events.{Event, progress, Status, is_waiting, is_begun, is_done, done_status}
 use Rattle.deploy_histories.specs.Legal.{May}
-use Rattle.point_values.specs.Seen.{IsSeen}
+use Rattle.task_standings.specs.Seen.{IsSeen}
 use Rattle.task_standings.specs.Standings.{AreScopesSeen}
 use Rattle.task_agenda.specs.declared.agenda.Agenda.{Agenda}
 use Rattle.task_agenda.specs.Agendas.{HasGraph}

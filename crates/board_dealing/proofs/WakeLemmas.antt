@@ -1,6 +1,6 @@
 -- What a board keeps where it looks at events.
 use Rattle.std.proofs.lemmas.Bool.{ltb-true}
-use Rattle.std.proofs.lemmas.Option.{slice_get_read}
+use Rattle.std.proofs.lemmas.Option.{slice_get_read, same_Some}
 use Rattle.std.proofs.Common.{true, ltb, get_or}
 use Rattle.std.proofs.Common.{◌≡◌, ℕ, zero, suc, ◌≤◌, List, [], ◌∷◌, length, Some, None, refl, sym}
 use Rattle.std.proofs.Common.{ap}
@@ -17,13 +17,10 @@ use Rattle.task_agenda.specs.Agendas.{IsSeenTo}
 use Rattle.board_dealing.specs.Kept.{waker}
 use Rattle.board_dealing.specs.Looks.{IsAwake, IsHeard}
 
-one_number : (u v : ℕ) → Some u ≡ Some v → u ≡ v
-one_number u v e = cc
-
 pub heard : (b : Agenda) (e : Event) (v : ℕ) (r : Result (Unit {0}) AllocError) → waker e ≡ Some v
     → OnOk r (IsSeenTo b v) → OnOk r ((u : ℕ) → Needs b.graph u v → IsSeenTo b u) → OnOk r (IsHeard b e)
 heard b e v (Ok done) w s o = λ u i.
-    subst (λ (n : ℕ). IsAwake b n) (one_number v u (sym w ∙ i)) (record { itself = s; others = o })
+    subst (λ (n : ℕ). IsAwake b n) (same_Some v u (sym w ∙ i)) (record { itself = s; others = o })
 heard b e v (Err refused) w s o = tt
 
 pub unheard : (b : Agenda) (e : Event) → waker e ≡ None → IsHeard b e

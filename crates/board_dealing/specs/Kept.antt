@@ -9,7 +9,7 @@ use Rattle.deploy_histories.specs.Events as event
 use Rattle.deploy_histories.specs.Events.{Event, Progress, progress, is_waiting, done_status}
 use Rattle.deploy_histories.specs.Legal.{IsLegal}
 use Rattle.deploy_histories.specs.Readiness.{needs_first}
-use Rattle.point_values.specs.Seen.{IsSeen}
+use Rattle.task_standings.specs.Seen.{IsSeen}
 use Rattle.task_standings.specs.declared.standing.Kind.{Kind}
 use Rattle.task_standings.specs.declared.standing.Kind.TheVariants.{Enter, Put, Delete, Leave}
 use Rattle.task_standings.specs.Standings.{Needs, IsStuck, AreScopesSeen}

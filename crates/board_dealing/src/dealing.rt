@@ -19,11 +19,10 @@ use crate::passing::settle;
 use arm_value::{OutOfMemory, Value};
 use board_history::History;
 use dealer_trait::Next;
-use point_values::laws::seen_stays;
 use provider_trait::Answer;
 use std::alloc::Global;
 use task_agenda::Agenda;
-use task_standings::Standings;
+use task_standings::{Standings, seen_stays};
 
 /// Whether an answer has refused.
 pub fn is_refused(history: &History) -> bool

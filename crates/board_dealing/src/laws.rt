@@ -5,7 +5,7 @@ ghost use Rattle.plan_cells.specs.Known.{Table};
 ghost use Rattle.deploy_histories.specs.Planned.{Planned};
 ghost use Rattle.deploy_histories.specs.Events.{Event, progress, done_status, NoneBegun};
 ghost use Rattle.deploy_histories.specs.Legal.{May, HasEnded};
-ghost use Rattle.point_values.specs.Seen.{IsSeen};
+ghost use Rattle.task_standings.specs.Seen.{IsSeen};
 ghost use Rattle.task_agenda.specs.declared.agenda.Agenda.{Agenda};
 ghost use Rattle.task_standings.specs.Standings.{AreScopesSeen};
 ghost use Rattle.task_agenda.specs.Agendas.{is_listed, HasGraph};

@@ -4,7 +4,7 @@ ghost use Rattle.std.specs.Prelude.{◌≡◌, ◌<◌, ◌++◌, ◌∷◌, [],
 ghost use Rattle.arm_value.specs.Json.{null};
 ghost use Rattle.deploy_histories.specs.Events as event;
 ghost use Rattle.deploy_histories.specs.Events.{progress, is_waiting};
-ghost use Rattle.point_values.specs.Seen.{IsSeen};
+ghost use Rattle.task_standings.specs.Seen.{IsSeen};
 ghost use Rattle.reading.specs.Knowledge.{Grows};
 ghost use Rattle.task_standings.specs.Standings.{IsScopeSeen};
 ghost use Rattle.task_agenda.specs.Agendas.{count, is_scope};
@@ -17,10 +17,9 @@ use crate::looking::ready_scope;
 use crate::waking::catch_up;
 use arm_value::OutOfMemory;
 use board_history::History;
-use point_values::laws::seen_stays;
 use std::alloc::Global;
 use task_agenda::Agenda;
-use task_standings::{Kind, Standings};
+use task_standings::{Kind, Standings, seen_stays};
 
 // The scope of this task is entered.
 fn enter(history: &mut History, agenda: &mut Agenda, task: u32) -> Result<(), OutOfMemory>

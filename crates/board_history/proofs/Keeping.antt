@@ -5,6 +5,9 @@ use Rattle.std.proofs.Common.{subst, ◌∙◌, arith}
 use Rattle.std.proofs.Common.{length-append, length-set, ◌^◌}
 use Rattle.std.proofs.lemmas.List.{length-map, length-replicate}
 use Rattle.std.specs.Prelude.{nat_eq, slice_get, is_some, if◌then◌else◌}
+use Rattle.std.proofs.lemmas.Bool.{cases_lt}
+use Rattle.foundation.proofs.Comparisons.{eq_itself}
+use Rattle.foundation.proofs.Lists.{got_before, got_last}
 use Rattle.arm_value.specs.Json.{Json}
 use Rattle.provider_trait.specs.declared.answer.Answer.{Answer}
 use Rattle.provider_trait.specs.declared.answer.Answer.TheVariants.{Stored, Gone, Refused}
@@ -32,15 +35,6 @@ after_all_more p (f ∷ es) e = after_all_more (after f p) es e
 pub progress_more : (es : List Event) (e : Event) → progress (es ++ e ∷ []) ≡ after e (progress es)
 progress_more es e = after_all_more at_opening es e
 
-at_before : {A : Type 0} (xs : List A) (a : A) (i : ℕ) → i < length xs → slice_get (xs ++ a ∷ []) i ≡ slice_get xs i
-at_before [] a i h = absurd (omega (arith, h))
-at_before (x ∷ xs) a zero h = refl
-at_before (x ∷ xs) a (suc i) h = at_before xs a i (omega (arith, h))
-
-pub at_last : {A : Type 0} (xs : List A) (a : A) → slice_get (xs ++ a ∷ []) (length xs) ≡ Some a
-at_last [] a = refl
-at_last (x ∷ xs) a = at_last xs a
-
 one_longer : (es : List Event) (e : Event) → length (es ++ e ∷ []) ≡ length es + 1
 one_longer es e = length-append es (e ∷ [])
 
@@ -53,14 +47,6 @@ same_or (suc u) zero = inr (λ e. omega (arith, e))
 same_or (suc u) (suc n) = elim (same_or u n) [
   | inl e ↦ inl (ap (λ (k : ℕ). suc k) e)
   | inr d ↦ inr (λ e. d (omega (arith, e)))
-]
-
-below_or : (u n : ℕ) → (u < n) ⊎ (n ≤ u)
-below_or u zero = inr (omega arith)
-below_or zero (suc n) = inl (omega arith)
-below_or (suc u) (suc n) = elim (below_or u n) [
-  | inl h ↦ inl (omega (arith, h))
-  | inr h ↦ inr (omega (arith, h))
 ]
 
 -- ---- stages
@@ -137,11 +123,11 @@ one_more_closed n ss ns w a s e = record {
     by_place u h (inr d) = stage_other ns n u s d ∙ a.before u (below u h d)
       where
         below : (u : ℕ) → u < n + 1 → ((u ≡ n) → ⊥) → u < n
-        below u h d = elim (below_or u n) [ inl l ↦ l | inr l ↦ absurd (d (omega (arith, h, l))) ]
+        below u h d = elim (cases_lt u n) [ inl l ↦ l | inr l ↦ absurd (d (omega (arith, h, l))) ]
 
 pub all_closed : (ss ns : List Stage) (n : ℕ) → length ss ≤ n → AreClosedTo n ss ns → (u : ℕ)
     → stage_at ns u ≡ closed_stage (stage_at ss u)
-all_closed ss ns n w a u = by_place (below_or u n)
+all_closed ss ns n w a u = by_place (cases_lt u n)
   where
     by_place : (u < n) ⊎ (n ≤ u) → stage_at ns u ≡ closed_stage (stage_at ss u)
     by_place (inl h) = a.before u h
@@ -190,13 +176,13 @@ module _ (es : List Event) where
   -- a stage says as much once there is one event more
   still : (e : Event) (s : Stage) → IsWithin (length es) s → status_by (es ++ e ∷ []) s ≡ status_by es s
   still e Waiting h = refl
-  still e (Begun p) h = ap begun_by (at_before es e p h)
-  still e (Done p) h = ap done_by (at_before es e p h)
+  still e (Begun p) h = ap begun_by (got_before es e p h)
+  still e (Done p) h = ap done_by (got_before es e p h)
 
   still_begin : (e : Event) (s : Stage) → IsWithin (length es) s → IsOfBegin es s → IsOfBegin (es ++ e ∷ []) s
   still_begin e Waiting h i = tt
   still_begin e (Begun p) h i =
-      subst (λ (o : Option Event). begun_status (begun_by o) ≡ true) (sym (at_before es e p h)) i
+      subst (λ (o : Option Event). begun_status (begun_by o) ≡ true) (sym (got_before es e p h)) i
   still_begin e (Done p) h i = tt
 
   still_within : (e : Event) (s : Stage) → IsWithin (length es) s → IsWithin (length (es ++ e ∷ [])) s
@@ -206,17 +192,14 @@ module _ (es : List Event) where
 
   still_refused : (e : Event) (r : Option ℕ) → IsPlace es r → refusal_by (es ++ e ∷ []) r ≡ refusal_by es r
   still_refused e None h = refl
-  still_refused e (Some p) h = ap refusal_in (at_before es e p h.0)
+  still_refused e (Some p) h = ap refusal_in (got_before es e p h.0)
 
   still_place : (e : Event) (r : Option ℕ) → IsPlace es r → IsPlace (es ++ e ∷ []) r
   still_place e None h = tt
   still_place e (Some p) h = (
     (let l = h.0 in omega (arith, l, one_longer es e)),
-    ap (λ (o : Option Event). is_some (refusal_in o)) (at_before es e p h.0) ∙ h.1,
+    ap (λ (o : Option Event). is_some (refusal_in o)) (got_before es e p h.0) ∙ h.1,
   )
-
-same_number : (u : ℕ) → nat_eq u u ≡ true
-same_number u = grind (arith)
 
 number_is : (u v : ℕ) → nat_eq v u ≡ true → v ≡ u
 number_is u v e = grind (arith, e)
@@ -226,7 +209,7 @@ by_two u v P f g = by_bool (nat_eq v u) refl
   where
     by_bool : (b : Bool) → nat_eq v u ≡ b → P
     by_bool true e = f (number_is u v e)
-    by_bool false e = g e (λ i. true≢false (sym (same_number u) ∙ ap (λ (n : ℕ). nat_eq n u) (sym i) ∙ e))
+    by_bool false e = g e (λ i. true≢false (sym (eq_itself u) ∙ ap (λ (n : ℕ). nat_eq n u) (sym i) ∙ e))
 
 module _ (es : List Event) (ss : List Stage) (refusal : Option ℕ) (opened room : ℕ)
     (k : IsKept es ss refusal opened room) where
@@ -250,7 +233,7 @@ module _ (es : List Event) (ss : List Stage) (refusal : Option ℕ) (opened room
     statuses_more v =
         by_two u v ((progress (es ++ e ∷ [])).status v ≡ status_by (es ++ e ∷ []) (stage_at (set ss u s) v))
         (λ i. status_more v ∙ ap (λ (b : Bool). if b then x else (progress es).status v)
-        (ap (λ (n : ℕ). nat_eq n u) i ∙ same_number u) ∙ sym here
+        (ap (λ (n : ℕ). nat_eq n u) i ∙ eq_itself u) ∙ sym here
         ∙ ap (status_by (es ++ e ∷ [])) (sym (stage_set ss u s within) ∙ ap (stage_at (set ss u s)) (sym i)))
         (λ n d. status_more v ∙ ap (λ (b : Bool). if b then x else (progress es).status v) n ∙ k.statuses v
         ∙ sym (still es e (stage_at ss v) (k.within v))
@@ -300,7 +283,7 @@ module _ (es : List Event) (ss : List Stage) (refusal : Option ℕ) (opened room
       } → done_by (Some e) ≡ is_done None → (m : ℕ) → length es + 1 + opened ≤ m
       → IsKept (es ++ e ∷ []) (set ss u (Done (length es))) refusal opened m
   passes e u h w is d m room =
-      no_refusal e u (Done (length es)) h (is_done None) (ap done_by (at_last es e) ∙ d)
+      no_refusal e u (Done (length es)) h (is_done None) (ap done_by (got_last es e) ∙ d)
       (ap (λ (p : Progress). p.status) is) (ap (λ (p : Progress). p.refusal) is) (last_place e) tt opened m
       (let c = count_set ss u (Done (length es)) h in
       let o : open_one (stage_at ss u) ≡ 0 = ap (λ (b : Bool). if b then 1 else 0) (waiting_not_open u w) in
@@ -310,10 +293,10 @@ module _ (es : List Event) (ss : List Stage) (refusal : Option ℕ) (opened room
       → length es + 1 + (opened + 1) ≤ m
       → IsKept (es ++ begin u w b ∷ []) (set ss u (Begun (length es))) refusal (opened + 1) m
   begins_one u w b h waits m room =
-      no_refusal (begin u w b) u (Begun (length es)) h (is_begun w b) (ap begun_by (at_last es (begin u w b)))
+      no_refusal (begin u w b) u (Begun (length es)) h (is_begun w b) (ap begun_by (got_last es (begin u w b)))
       refl refl
       (last_place (begin u w b))
-      (ap (λ (o : Option Event). begun_status (begun_by o)) (at_last es (begin u w b))) (opened + 1) m
+      (ap (λ (o : Option Event). begun_status (begun_by o)) (got_last es (begin u w b))) (opened + 1) m
       (let c = count_set ss u (Begun (length es)) h in
       let o : open_one (stage_at ss u) ≡ 0 = ap (λ (b : Bool). if b then 1 else 0) (waiting_not_open u waits) in
       omega (arith, c, o, k.counted)) room
@@ -350,7 +333,7 @@ module _ (es : List Event) (ss : List Stage) (refusal : Option ℕ) (opened room
       → room ≤ m → IsKept (es ++ answer u a ∷ []) (set ss u (Done (length es))) refusal n m
   finishes u a o b is d n m one more =
       no_refusal (answer u a) u (Done (length es)) (inside u b) (is_done o)
-      (ap done_by (at_last es (answer u a)) ∙ d) (ap (λ (p : Progress). p.status) is)
+      (ap done_by (got_last es (answer u a)) ∙ d) (ap (λ (p : Progress). p.status) is)
       (ap (λ (p : Progress). p.refusal) is) (last_place (answer u a)) tt n m
       (one_less u (Done (length es)) b refl n one) (let r = k.has_room in omega (arith, r, one, more))
 
@@ -373,15 +356,15 @@ module _ (es : List Event) (ss : List Stage) (refusal : Option ℕ) (opened room
           ≡ refusal_by (es ++ answer u (Refused code) ∷ []) (first_of r (length es))
       by_first None e h =
           ap (λ (o : Option Refusal). first_refusal o (record { task = u; code = code })) e
-          ∙ sym (ap refusal_in (at_last es (answer u (Refused code))))
+          ∙ sym (ap refusal_in (got_last es (answer u (Refused code))))
       by_first (Some p) e h =
           by_some (refusal_in (slice_get es p)) (progress es).refusal (record { task = u; code = code }) e h.1
-          ∙ sym (ap refusal_in (at_before es (answer u (Refused code)) p h.0))
+          ∙ sym (ap refusal_in (got_before es (answer u (Refused code)) p h.0))
 
       place_of : (r : Option ℕ) → IsPlace es r → IsPlace (es ++ answer u (Refused code) ∷ []) (first_of r (length es))
       place_of None h = (
         last_place (answer u (Refused code)),
-        ap (λ (o : Option Event). is_some (refusal_in o)) (at_last es (answer u (Refused code))),
+        ap (λ (o : Option Event). is_some (refusal_in o)) (got_last es (answer u (Refused code))),
       )
       place_of (Some p) h = still_place es (answer u (Refused code)) (Some p) h
 
@@ -431,7 +414,7 @@ module _ (es : List Event) where
   closes Waiting h i = refl
   closes (Begun p) h i = begun_closes (begun_by (slice_get es p)) i
   closes (Done p) h i =
-      done_stays (done_by (slice_get es p)) (done_by_is (slice_get es p)) ∙ ap done_by (sym (at_before es crash p h))
+      done_stays (done_by (slice_get es p)) (done_by_is (slice_get es p)) ∙ ap done_by (sym (got_before es crash p h))
 
   closed_within : (s : Stage) → IsWithin (length es) s → IsWithin (length (es ++ crash ∷ [])) (closed_stage s)
   closed_within Waiting h = tt

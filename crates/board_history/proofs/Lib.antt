@@ -1,1 +1,3 @@
 mod Keeping
+pub use Rattle.deploy_histories.proofs.KnownLemmas
+pub use Rattle.deploy_histories.proofs.ReadinessLemmas

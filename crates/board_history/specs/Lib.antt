@@ -1,2 +1,17 @@
 pub mod Past
 pub mod Stages
+pub use Rattle.deploy_histories.specs.Children
+pub use Rattle.deploy_histories.specs.Events
+pub use Rattle.deploy_histories.specs.Known
+pub use Rattle.deploy_histories.specs.Legal
+pub use Rattle.deploy_histories.specs.Meaning
+pub use Rattle.deploy_histories.specs.Outcome
+pub use Rattle.deploy_histories.specs.Planned
+pub use Rattle.deploy_histories.specs.Points
+pub use Rattle.deploy_histories.specs.Readiness
+pub use Rattle.deploy_histories.specs.Reads
+pub use Rattle.deploy_histories.specs.Resources
+pub use Rattle.deploy_histories.specs.Scopes
+pub use Rattle.deploy_histories.specs.Start
+pub use Rattle.deploy_histories.specs.Tasks
+pub use Rattle.deploy_histories.specs.Values

@@ -1,5 +1,6 @@
 -- A task is ready with one body, by whatever is known.
-use Rattle.std.proofs.Common.{◌≡◌, inl, ℕ, Option, Some, refl, sym, ap, subst, ◌∙◌}
+use Rattle.std.proofs.Common.{◌≡◌, inl, ℕ, Option, refl, sym, ap, subst, ◌∙◌}
+use Rattle.std.proofs.lemmas.Option.{same_Some}
 use Rattle.arm_value.specs.Json.{Json}
 use Rattle.reading.specs.Knowledge.{Told, value, told, Grows, IsToldStill}
 use Rattle.reading.proofs.Growth.{told_still}
@@ -47,14 +48,11 @@ module _ (x : Planned) (p : Progress) (s t : Table) (k : IsKnownThen x p s) (l :
   body_same u (enter q) b c f g = sym f.has_body ∙ g.has_body
   body_same u (leave q) b c f g = sym f.has_body ∙ g.has_body
 
-one_task : (a b : Task) → Some a ≡ Some b → a ≡ b
-one_task a b e = cc
-
 -- a task may start with one body alone
 pub one_body : (x : Planned) (p : Progress) (u : ℕ) (one other : Task) (b c : Json) → MayStart x p u one b
     → MayStart x p u other c → b ≡ c
 one_body x p u one other b c m n =
-    let same = one_task other one (sym n.is_task ∙ m.is_task) in
+    let same = same_Some other one (sym n.is_task ∙ m.is_task) in
     body_same x p m.known n.known m.is_known n.is_known u one b c (ready_says x m.known p u one b m.is_ready)
     (ready_says x n.known p u one c
     (subst (λ (z : Task). readiness x n.known p.status u z ≡ ready c) same n.is_ready))

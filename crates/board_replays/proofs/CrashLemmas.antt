@@ -13,7 +13,7 @@ use Rattle.deploy_histories.specs.Events.{is_done}
 use Rattle.deploy_histories.specs.Events.{closed, done_status}
 use Rattle.deploy_histories.specs.Legal.{IsLegalFrom}
 use Rattle.board_history.specs.Past.{Past, with_event}
-use Rattle.point_values.specs.Seen.{IsSeen}
+use Rattle.task_standings.specs.Seen.{IsSeen}
 use Rattle.task_agenda.specs.declared.agenda.Agenda.{Agenda}
 use Rattle.task_agenda.specs.Agendas.{count, IsSeenTo, Keeps}
 use Rattle.task_agenda.specs.Lists as lists

@@ -10,7 +10,7 @@ use Rattle.deploy_histories.specs.Legal.{MayEnd, IsLegalFrom, IsLegal}
 use Rattle.deploy_histories.specs.Answers.{Noted, begin_of, answer_of, last_play, PlaysThen, IsReplay, Follow}
 use Rattle.deploy_histories.specs.Answers.{StopsFollowing}
 use Rattle.history_laws.proofs.Steps.{at_itself, at_other, start_waits}
-use Rattle.history_replays.proofs.Recording.{legal_front, legal_joined}
+use Rattle.task_standings.proofs.Recording.{legal_front, legal_joined}
 use Rattle.board_history.specs.Stages.{refuses}
 use Rattle.board_dealing.proofs.Passages.{progress_by}
 use Rattle.board_replays.specs.Plays.{SuitsNoted, NoneRefuses, AreOpen, AreLate}

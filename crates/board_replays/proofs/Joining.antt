@@ -9,7 +9,7 @@ use Rattle.deploy_histories.specs.Events.{Event, Progress, progress, after, afte
 use Rattle.deploy_histories.specs.Legal.{May, MayEnd, IsLegalFrom, IsLegal}
 use Rattle.deploy_histories.specs.Answers.{Noted, begin_of, answer_of, Settles, PlaysThen, last_play}
 use Rattle.deploy_histories.specs.Answers.{where_refused, IsReplay, Follow}
-use Rattle.history_replays.proofs.Recording.{legal_front}
+use Rattle.task_standings.proofs.Recording.{legal_front}
 use Rattle.board_history.specs.Stages.{refuses}
 use Rattle.board_dealing.proofs.Passages.{after_all_both, progress_by}
 use Rattle.board_replays.specs.Plays.{SuitsNoted, NoneRefuses, ArePlayed, AreLate}

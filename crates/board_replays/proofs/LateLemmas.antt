@@ -12,12 +12,13 @@ use Rattle.deploy_histories.specs.Legal.{MayEnd, IsLegalFrom, IsLegal}
 use Rattle.deploy_histories.specs.Answers as history
 use Rattle.deploy_histories.specs.Answers.{Noted, begin_of, answer_of, last_play, IsReplay, Follow, StopsFollowing}
 use Rattle.std.specs.Prelude.{Result, Ok, Err, OnOk, IfErr}
+use Rattle.foundation.proofs.Lists.{next_after}
 use Rattle.plan_cells.specs.Known.{Table}
 use Rattle.board_history.specs.Past.{Past, with_event}
 use Rattle.task_agenda.specs.declared.agenda.Agenda.{Agenda}
 use Rattle.board_dealing.specs.Kept.{IsKept}
 use Rattle.history_laws.proofs.Steps.{at_other}
-use Rattle.history_replays.proofs.Recording.{legal_joined}
+use Rattle.task_standings.proofs.Recording.{legal_joined}
 use Rattle.board_replays.specs.declared.noted.Noted as code
 use Rattle.board_dealing.proofs.Covering.{progress_more}
 use Rattle.board_replays.specs.Plays.{NoneOf, AreOpen, AreLate, HavePlayed, IsPlayedOn, AreAllPlayed}
@@ -182,11 +183,6 @@ none_played x ns late h e i =
 -- ---- the loops
 
 module _ (A : Type 0) where
-  drop_at : (ls : List A) (i : ℕ) (l : A) → i < length ls → l ≡ get_or ls i l → drop i ls ≡ l ∷ drop (suc i) ls
-  drop_at [] i l h e = absurd (omega (arith, h))
-  drop_at (k ∷ ls) zero l h e = ap (λ (z : A). z ∷ ls) (sym e)
-  drop_at (k ∷ ls) (suc i) l h e = drop_at ls i l (omega (arith, h)) e
-
   length_more : (ys : List A) (l : A) → length (ys ++ l ∷ []) ≡ suc (length ys)
   length_more [] l = refl
   length_more (y ∷ ys) l = ap (λ (n : ℕ). suc n) (length_more ys l)
@@ -194,7 +190,7 @@ module _ (A : Type 0) where
   drop_here : (ls ys : List A) (l : A) → length ys < length ls → l ≡ get_or ls (length ys) l
       → drop (length ys) ls ≡ l ∷ drop (length (ys ++ l ∷ [])) ls
   drop_here ls ys l h e =
-      drop_at ls (length ys) l h e ∙ ap (λ (n : ℕ). l ∷ drop n ls) (sym (length_more ys l))
+      next_after ls (length ys) l h e ∙ ap (λ (n : ℕ). l ∷ drop n ls) (sym (length_more ys l))
 
   drop_all : (ls : List A) (i : ℕ) → i ≡ length ls → drop i ls ≡ []
   drop_all [] zero e = refl

@@ -5,7 +5,7 @@ use Rattle.std.proofs.Common.{map, length, Option, Some, None, refl, sym, ap, su
 use Rattle.std.specs.Prelude.{slice_get, option_map, Result, Ok, Err, IfOk, OnOk, IsTrue, is_ok, if◌then◌else◌}
 use Rattle.std.specs.declared.alloc.AllocError.{AllocError}
 use Rattle.std.proofs.lemmas.Bool.Decides.{nat_tests}
-use Rattle.std.proofs.lemmas.Option.{slice_get_within}
+use Rattle.std.proofs.lemmas.Option.{slice_get_within, same_Some}
 use Rattle.std.proofs.lemmas.List.{append_assoc, map-append}
 use Rattle.arm_value.specs.Json.{Json}
 use Rattle.arm_value.specs.View.{json}
@@ -24,7 +24,7 @@ use Rattle.deploy_histories.specs.Answers.{Noted, begin_of, answer_of, IsReplay,
 use Rattle.history_laws.proofs.Steps.{at_itself, start_waits}
 use Rattle.board_history.specs.Past.{Past, with_event}
 use Rattle.board_history.specs.Stages.{refuses}
-use Rattle.point_values.specs.Seen.{IsSeen}
+use Rattle.task_standings.specs.Seen.{IsSeen}
 use Rattle.task_standings.specs.declared.standing.Kind.{Kind}
 use Rattle.task_standings.specs.declared.standing.Standing.TheVariants.{Ready, Waits, Stuck}
 use Rattle.task_standings.specs.Standings.{kind_of, Needs, IsStuck, IsStanding}
@@ -69,12 +69,6 @@ task_suits (task.delete k) (Refused code) s2 = refl
 task_suits (task.enter p) a s2 = absurd s2
 task_suits (task.leave p) a s2 = absurd s2
 
-one_kind : (a b : Kind) → Some a ≡ Some b → a ≡ b
-one_kind a b e = cc
-
-one_task : (a b : Task) → Some a ≡ Some b → a ≡ b
-one_task a b e = cc
-
 -- the task of a number of which the kind is told
 record IsTaskOf (o : Option Task) (k : Kind) : Type 0 where
   of : Task
@@ -82,7 +76,7 @@ record IsTaskOf (o : Option Task) (k : Kind) : Type 0 where
   kind : kind_of of ≡ k
 
 task_of : (o : Option Task) (k : Kind) → option_map kind_of o ≡ Some k → IsTaskOf o k
-task_of (Some one) k e = record { of = one; is = refl; kind = one_kind (kind_of one) k e }
+task_of (Some one) k e = record { of = one; is = refl; kind = same_Some (kind_of one) k e }
 task_of None k e = let f : None ≡ Some k = e in absurd (cc)
 
 module _ (x : Planned) (n : Noted) where
@@ -99,7 +93,7 @@ module _ (x : Planned) (n : Noted) where
   pub not_suiting : (p : Progress) (k : Kind) → option_map kind_of (slice_get x.tasks n.task) ≡ Some k
       → suits_kind k n.answer ≡ false → IsPlayable x p n false
   not_suiting p k e s m i =
-      let f = one_kind (kind_of i.of) k (sym (ap (option_map kind_of) i.is_task) ∙ e) in
+      let f = same_Some (kind_of i.of) k (sym (ap (option_map kind_of) i.is_task) ∙ e) in
       true≢false (sym (task_suits i.of n.answer i.suits) ∙ ap (λ (l : Kind). suits_kind l n.answer) f ∙ s)
 
   pub not_in_plan : (p : Progress) (tasks : ℕ) → tasks ≡ length x.tasks → tasks ≤ n.task → IsPlayable x p n false
@@ -129,7 +123,7 @@ module _ (x : Planned) (t : Table) (tasks : ℕ) (h : List Event) (a : Agenda) (
 
   pub not_while_waiting : (v : ℕ) → IsStanding x (progress h) t u (Waits v) → IsReadyAs x (progress h) u body false
   not_while_waiting v s one m =
-      let same = one_task s.task one (sym s.is_task ∙ m.is_task) in
+      let same = same_Some s.task one (sym s.is_task ∙ m.is_task) in
       let d = needs_come_first x (progress h) m.known m.is_known u one body m.is_ready v s.stands_as.1.0
       s.stands_as.1.1.0 (subst (λ (z : Task). Needs x (progress h) z s.stands_as.1.0) same
       (inr (record { known = t; is_known = k.is_seen.known_then; waits_for = s.stands_as.1.1.1 }))) in
@@ -137,7 +131,7 @@ module _ (x : Planned) (t : Table) (tasks : ℕ) (h : List Event) (a : Agenda) (
 
   pub not_while_stuck : IsStanding x (progress h) t u Stuck → IsReadyAs x (progress h) u body false
   not_while_stuck s one m =
-      let same = one_task s.task one (sym s.is_task ∙ m.is_task) in
+      let same = same_Some s.task one (sym s.is_task ∙ m.is_task) in
       stuck_is_not_ready x (progress h) m.known m.is_known u one body
       (subst (λ (z : Task). IsStuck x (progress h) z) same
       (record { known = t; is_known = k.is_seen.known_then; lacks = s.stands_as })) m.is_ready
@@ -218,7 +212,7 @@ begun_now x old new n r o e h i =
     act_of : (one other : Task) → slice_get x.tasks n.task ≡ Some one → slice_get x.tasks n.task ≡ Some other
         → SuitsTask other n.answer → IsAct one
     act_of one other p q s =
-        subst (λ (z : Task). IsAct z) (one_task other one (sym q ∙ p)) (suits_act other n.answer s)
+        subst (λ (z : Task). IsAct z) (same_Some other one (sym q ∙ p)) (suits_act other n.answer s)
 
 -- ---- an answer comes, or is kept for later
 

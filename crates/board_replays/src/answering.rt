@@ -11,10 +11,9 @@ ghost use Rattle.board_replays.specs.Plays.{AreOpen};
 use arm_value::OutOfMemory;
 use board_dealing::dealing::take;
 use board_history::History;
-use point_values::laws::seen_stays;
 use provider_trait::Answer;
 use task_agenda::Agenda;
-use task_standings::Standings;
+use task_standings::{Standings, seen_stays};
 
 /// The open Begins have these answers, in this order. It takes no memory.
 pub fn answer_all<S: Standings>(

@@ -23,11 +23,10 @@ use board_dealing::dealing::{is_refusal, take};
 use board_dealing::passing::settle;
 use board_dealing::run_out;
 use board_history::History;
-use point_values::laws::seen_stays;
 use provider_trait::Answer;
 use std::alloc::Global;
 use task_agenda::Agenda;
-use task_standings::Standings;
+use task_standings::{Standings, seen_stays};
 
 // The task is begun with this body.
 fn begin<S: Standings>(

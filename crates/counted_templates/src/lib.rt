@@ -5,3 +5,5 @@
 #![tactic(auto)]
 
 pub mod laws;
+
+pub use file_counts::first_beyond;

@@ -1,6 +1,7 @@
 -- A receive keeps the rule of the orders.
-use Rattle.std.proofs.Common.{cond, ◌⊎◌, inl, inr, zero, suc, ◌≡◌, ◌≢◌, ℕ, true, false, List, [], ◌∷◌, ◌++◌, length}
+use Rattle.std.proofs.Common.{◌⊎◌, inl, inr, zero, suc, ◌≡◌, ◌≢◌, ℕ, true, false, List, [], ◌∷◌, ◌++◌, length}
 use Rattle.std.proofs.Common.{set, sym, refl, ap, ◌∙◌, subst, ⊎_elim, append_assoc}
+use Rattle.foundation.proofs.TruthValues.{impossible}
 use mathlib.Core.Option.{some, some-injective, some-ne-none}
 use lib.ListN.{get_elem?}
 use Rattle.crossbeam_channel.specs.Fifo.{Pops, Pushes, Forks, Merges, Learns}
@@ -61,9 +62,6 @@ all_end F views w old new j u e =
     ⊎_elim (old j u) (λ (x : (length views ≡ j)
     × (w ≡ u)). subst (λ (y : ℕ × Orders). F y.0 y.1) (λ i. (x.0 i, x.1 i)) new) (at_end views w u j e)
 
-no : {A : Type 0} → false ≡ true → A
-no e = absurd (subst (λ b. cond b ⊥ (Unit {0})) e tt)
-
 pub puts : (n port : ℕ) (v : Orders) (x : Order) → v.sends ≡ true
     → Pushes AreInOrder n port v x (λ w. w ≡ orders v.sends v.receives (v.sent ++ x ∷ []) v.got)
 puts n port v x may items views room h at = let w : Orders =
@@ -95,9 +93,9 @@ forks port v may works items views h at =
       h.3,
       h.4,
       all_end (FitsPort h.0 new h.2 h.3) (set views port left) right
-          (all_set (FitsPort h.0 new h.2 h.3) views port left ((λ _. mine.0 may), λ s. no s)
+          (all_set (FitsPort h.0 new h.2 h.3) views port left ((λ _. mine.0 may), λ s. impossible s)
           (λ j u other e. ((h.5 j u e).0, λ s. absurd (other (((h.5 j u e).1 s).0 ∙ sym (mine.1 works).0)))))
-          ((λ d. no d), λ _. (refl, (mine.1 works).1)),
+          ((λ d. impossible d), λ _. (refl, (mine.1 works).1)),
     )
 
 pub merges : (port : ℕ) (v : Orders) (other : ℕ) (w : Orders) → v.sends ≡ true → w.receives ≡ true
@@ -113,7 +111,7 @@ merges port v other w may works items views h at apart there =
       h.2,
       h.3,
       h.4,
-      all_set F (set views port both) other spent ((λ d. no d), λ s. no s)
+      all_set F (set views port both) other spent ((λ d. impossible d), λ s. impossible s)
           (λ j u far e. ⊎_elim
           (λ (x : (j ≡ port) × (both ≡ u)). subst (λ (y : ℕ × Orders). F y.0 y.1) (λ i. (sym x.0 i, x.1 i))
           ((λ _. me), λ _. (refl, its.1)))

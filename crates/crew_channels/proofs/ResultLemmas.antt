@@ -2,6 +2,7 @@
 use Rattle.std.proofs.Common.{◌≡◌, ◌≢◌, ℕ, ◌+◌, ◌≤◌, Bool, cond, eqb, true, false, List, [], ◌∷◌, ◌++◌, length, set}
 use Rattle.std.proofs.Common.{sym, refl, ap, ◌∙◌, subst, ◌⊎◌, inl, inr, ⊎_elim, append_assoc, append-nil, arith, zero}
 use Rattle.std.proofs.Common.{suc, ne_eqb, eq-eqb}
+use Rattle.foundation.proofs.TruthValues.{impossible}
 use mathlib.Core.Option.{some, some-injective, some-ne-none}
 use lib.ListN.{get_elem?}
 use Rattle.crossbeam_channel.specs.Fifo.{Pushes, Pops, Forks, Merges, Learns}
@@ -107,9 +108,6 @@ takes port v may x items views h at =
       refl,
     )
 
-no : {A : Type 0} → false ≡ true → A
-no e = absurd (subst (λ b. cond b ⊥ (Unit {0})) e tt)
-
 pub forks : (port : ℕ) (v : Results) → v.receives ≡ true
     → Forks AreBySeat port v (results true false (v.made + 1) 0 [] v.got) (results false true 0 v.made [] [])
 forks port v may items views h at =
@@ -127,7 +125,7 @@ forks port v may items views h at =
       (λ p late. h.6 p (omega arith)),
       all_end (Fits h.0 (h.1 + 1) seat h.3 h.4) (set views port left) right
           (all_set (Fits h.0 (h.1 + 1) seat h.3 h.4) views port left
-          ((λ _. (me.0, ap (λ m. m + 1) me.1, me.2)), λ s. no s)
+          ((λ _. (me.0, ap (λ m. m + 1) me.1, me.2)), λ s. impossible s)
           (λ j u other e. let theirs = h.7 j u e in (
             (λ d. absurd (other ((theirs.0 d).0 ∙ sym me.0))),
             λ s. let t = theirs.1 s in (
@@ -137,7 +135,7 @@ forks port v may items views h at =
               t.2,
             ),
           ))) (
-            (λ d. no d),
+            (λ d. impossible d),
             λ _. (
               (let m = me.1 in omega arith),
               cond_true (eqb v.made h.1) new (h.2 v.made)
@@ -164,7 +162,7 @@ merges port v other w may serves items views h at apart there =
       h.4,
       h.5,
       h.6,
-      all_set F (set views port both) other spent ((λ d. no d), λ s. no s)
+      all_set F (set views port both) other spent ((λ d. impossible d), λ s. impossible s)
           (λ j u far e. ⊎_elim
           (λ (x : (j ≡ port) × (both ≡ u)). subst (λ (y : ℕ × Results). F y.0 y.1) (λ i. (sym x.0 i, x.1 i)) (
             (λ _. me),
@@ -210,5 +208,5 @@ begins = (
   λ port v e. ⊎_elim (λ (x : get_elem? [] port ≡ some v). absurd (some-ne-none v (sym x)))
       (λ (x : (0 ≡ port) × (results true false 0 0 [] [] ≡ v)).
       subst (λ (y : ℕ × Results). Fits 0 0 (λ _. 0) (λ _. []) [] y.0 y.1) (λ i. (x.0 i, x.1 i))
-      ((λ _. (refl, refl, refl)), λ s. no s)) (at_end [] (results true false 0 0 [] []) v port e),
+      ((λ _. (refl, refl, refl)), λ s. impossible s)) (at_end [] (results true false 0 0 [] []) v port e),
 )

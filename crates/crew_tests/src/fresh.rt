@@ -22,7 +22,7 @@ pub struct Driven<P: Provider> {
 }
 
 // Seats with these providers.
-#[tactic(auto, using(crate::proofs::FreshLemmas::fresh))]
+#[tactic(auto, using(worker_crew::proofs::SeatLemmas::fresh))]
 fn seats_of<P: Provider>(alloc: Global, providers: Vec<P>) -> Result<Vec<Seat<P>>, Fail>
     ensures { IfOk result (λ seats. HasNoJobs (vec_items seats)) }
 {

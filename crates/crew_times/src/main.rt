@@ -31,7 +31,7 @@ const SEATS: u32 = 4;
 const RUNS: u32 = 7;
 
 // So many seats of providers that do nothing.
-#[tactic(auto, using(crate::proofs::SeatLemmas::fresh))]
+#[tactic(auto, using(worker_crew::proofs::SeatLemmas::fresh))]
 fn idle_seats(alloc: Global, count: u32) -> Result<Vec<Seat<Idle>>, AllocError>
     ensures { IfOk result (λ seats. (vec_len seats ≡ count) × HasNoJobs (vec_items seats)) }
 {

@@ -15,8 +15,8 @@ use Rattle.arm_env.specs.Look.{Looking, Surroundings, json_in}
 use Rattle.arm_env.specs.Names.{lazy_named, strict_named}
 use Rattle.arm_env.specs.Held.{held_value}
 use Rattle.arm_env.specs.declared.function.Lazy.TheVariants as lazy
-use Rattle.expression_values.specs.Meaning.{held, value, called}
-use Rattle.expression_values.proofs.Equations.{texts}
+use Rattle.emitted_declarations.specs.Meaning.{held, value, called}
+use Rattle.emitted_declarations.proofs.Equations.{texts}
 use Rattle.function_numbers.specs.Kinds.{truth_of}
 use Rattle.reading.specs.Reading.{done, pure, none, read, continued, both, beside}
 use Rattle.reading.specs.World.{value_in}
@@ -24,14 +24,12 @@ use Rattle.deploy_cells.specs.Guarded.{Reads}
 use Rattle.deploy_cells.specs.Cells as cells
 use Rattle.bicep_tree.specs.declared.leaf.Literal.TheVariants as l
 use Rattle.bicep_tree.specs.declared.leaf.Quoted.{Quoted}
-use Rattle.bicep_resolved.specs.Source.{SourceTree, ReachTree, ValueTree, LoopTree}
-use Rattle.bicep_resolved.specs.Source as s
-use Rattle.bicep_resolved.specs.Target.{number_of, target_of}
-use Rattle.bicep_declared.specs.Declarations.{BodyTree, DeclaredTree}
-use Rattle.bicep_declared.specs.Declarations as d
-use Rattle.bicep_emission.specs.Files.{SourceFile, symbol_name, declaration, Parent, no_parent, inside}
-use Rattle.bicep_resolved.specs.Source.{field_named}
-use Rattle.bicep_emission.specs.Files.{below, parent, type_of}
+use Rattle.bicep_emission.specs.Source.{SourceTree, ReachTree, ValueTree, LoopTree, field_named}
+use Rattle.bicep_emission.specs.Source as s
+use Rattle.bicep_emission.specs.Target.{number_of, target_of}
+use Rattle.emitted_declarations.specs.Declarations.{BodyTree, DeclaredTree}
+use Rattle.emitted_declarations.specs.Declarations as d
+use Rattle.bicep_emission.specs.Files.{SourceFile, symbol_name, declaration, Parent, no_parent, inside, below, parent, type_of}
 use Rattle.bicep_emission.specs.Around as source
 use Rattle.bicep_emission.specs.Around.{Here}
 use Rattle.bicep_emission.specs.Rows.{capped, chosen, truth, and_value, conditional_value}
@@ -54,8 +52,7 @@ use Rattle.bicep_emission.proofs.BinaryLemmas.{like_literal}
 use Rattle.bicep_emission.proofs.StateLemmas.{answered_like, used_same, plain_same}
 use Rattle.bicep_emission.proofs.ExpressionLemmas as expressions
 use Rattle.emitted_declarations.specs.Declared as emission
-use Rattle.emitted_declarations.specs.Declared.{Emission, variable_entry, parts_of, number_of_parts, id_of_parts}
-use Rattle.emitted_declarations.specs.Declared.{with_slash, through, parts_by_number}
+use Rattle.emitted_declarations.specs.Declared.{Emission, variable_entry, parts_of, number_of_parts, id_of_parts, with_slash, through, parts_by_number}
 use Rattle.emitted_declarations.specs.Parts.{PartsStand}
 use Rattle.emitted_declarations.proofs.ChildLemmas.{made_child}
 use Rattle.emitted_declarations.proofs.IdLemmas.{child_parts, id_like, id_plain}

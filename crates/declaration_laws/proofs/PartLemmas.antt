@@ -17,8 +17,8 @@ use Rattle.arm_env.specs.Look as look
 use Rattle.arm_env.specs.Look.{Looking, Surroundings}
 use Rattle.function_texts.specs.Cuts.{texts_in}
 use Rattle.function_numbers.specs.Kinds as kinds
-use Rattle.expression_values.specs.Meaning.{value, values}
-use Rattle.expression_values.proofs.Equations.{texts}
+use Rattle.emitted_declarations.specs.Meaning.{value, values}
+use Rattle.emitted_declarations.proofs.Equations.{texts}
 use Rattle.reading.specs.Reading.{done, pure, none, continued, both}
 use Rattle.reading.specs.World.{value_in}
 use Rattle.deploy_cells.specs.Guarded.{Reads}

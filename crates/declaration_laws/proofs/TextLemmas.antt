@@ -5,10 +5,10 @@ use Rattle.std.specs.Prelude.{◌||◌}
 use Rattle.arm_value.specs.Json.{Json, text}
 use Rattle.arm_expr.specs.Tree.{Tree, call, more}
 use Rattle.arm_expr.specs.Tree as tree
-use Rattle.function_prints.specs.Printed.{printed}
+use Rattle.emitted_declarations.specs.Printed.{printed}
 use Rattle.reading.specs.Reading.{pure, continued, both}
 use Rattle.arm_env.specs.Look.{Surroundings}
-use Rattle.expression_values.specs.Meaning.{value}
+use Rattle.emitted_declarations.specs.Meaning.{value}
 use Rattle.deploy_cells.specs.Guarded.{Reads}
 use Rattle.bicep_emission.specs.Rows.{all, capped}
 use Rattle.bicep_emission.specs.Meaning.{printed_before, joined}

@@ -5,3 +5,4 @@ pub use Rattle.bicep_emission.specs.Emittable
 pub use Rattle.bicep_emission.specs.Emitted
 pub use Rattle.bicep_emission.specs.Spelled
 pub use Rattle.bicep_emission.specs.Texts
+pub use Rattle.emitted_declarations.specs.ChildTypes

@@ -3,14 +3,13 @@ use Rattle.std.specs.Prelude.{◌≡◌, ◌<◌, ℕ, Bool, false, length, List
 use Rattle.arm_value.specs.Look.{fold}
 use Rattle.arm_ids.specs.Segments.{segments}
 use Rattle.bicep_tree.specs.declared.leaf.Quoted.{Quoted}
-use Rattle.bicep_resolved.specs.Source.{SourceTree, ReachTree, ValueTree}
-use Rattle.bicep_resolved.specs.Source as s
-use Rattle.bicep_resolved.specs.Target.{number_of, target_of}
-use Rattle.bicep_declared.specs.Declarations.{BodyTree}
-use Rattle.bicep_declared.specs.Declarations as d
+use Rattle.bicep_emission.specs.Source.{SourceTree, ReachTree, ValueTree, field_named}
+use Rattle.bicep_emission.specs.Source as s
+use Rattle.bicep_emission.specs.Target.{number_of, target_of}
+use Rattle.emitted_declarations.specs.Declarations.{BodyTree}
+use Rattle.emitted_declarations.specs.Declarations as d
 use Rattle.bicep_emission.specs.Declared.{body_at}
 use Rattle.bicep_emission.specs.Files.{SourceFile, declaration, parent, inside, below, type_of}
-use Rattle.bicep_resolved.specs.Source.{field_named}
 use Rattle.bicep_emission.specs.Emittable.{IsEmittable, IsValue, IsReach}
 use Rattle.emitted_declarations.specs.ChildTypes.{IsChildType}
 use Rattle.arm_ids.specs.Members.{deployment_type}

@@ -1,7 +1,7 @@
 // What holds of the declarations of a file that are emitted. A law has no body: its contract is the law.
 ghost use Rattle.std.specs.Prelude.{ℕ, List};
 ghost use Rattle.arm_env.specs.declared.env.Looping.{Looping};
-ghost use Rattle.bicep_resolved.specs.Source.{SourceTree};
+ghost use Rattle.bicep_emission.specs.Source.{SourceTree};
 ghost use Rattle.bicep_emission.specs.Around as source;
 ghost use Rattle.bicep_emission.specs.Around.{Here};
 ghost use Rattle.bicep_emission.specs.Declared as meaning;

@@ -2,6 +2,7 @@
 use Rattle.std.proofs.Common.{◌≡◌, ◌<◌, ◌+◌, ◌⊎◌, inl, inr, ℕ, zero, suc, List, [], ◌∷◌, length, Bool, true, false}
 use Rattle.std.proofs.Common.{refl, ap, sym, ◌∙◌, subst, arith, get_or}
 use Rattle.std.specs.Prelude.{slice_set}
+use Rattle.foundation.proofs.Comparisons.{lt_or_is}
 use Rattle.depend_graph.specs.Orders.{IsAmong}
 
 -- what is set stays so
@@ -22,21 +23,11 @@ set_length [] n = refl
 set_length (b ∷ bs) zero = refl
 set_length (b ∷ bs) (suc n) = ap suc (set_length bs n)
 
-before_or_at : (j i : ℕ) → j < i + 1 → (j < i) ⊎ (j ≡ i)
-before_or_at zero zero h = inr refl
-before_or_at zero (suc i) h = inl (omega arith)
-before_or_at (suc j) zero h = absurd (omega (arith, h))
-before_or_at (suc j) (suc i) h = by (before_or_at j i (omega (arith, h)))
-  where
-    by : (j < i) ⊎ (j ≡ i) → (suc j < suc i) ⊎ (suc j ≡ suc i)
-    by (inl l) = inl (omega (arith, l))
-    by (inr e) = inr (ap suc e)
-
 -- the symbols before the next place are in the table, once the symbol at this place is
 pub one_more_known : (bs : List Bool) (order : List ℕ) (i n : ℕ) → n < length bs → get_or order i 0 ≡ n
     → ((m : ℕ) → IsAmong order i m → get_or bs m false ≡ true)
     → (m : ℕ) → IsAmong order (i + 1) m → get_or (slice_set bs n true) m false ≡ true
-one_more_known bs order i n h at before m among = by (before_or_at among.0 i among.1)
+one_more_known bs order i n h at before m among = by (lt_or_is among.0 i among.1)
   where
     by : (among.0 < i) ⊎ (among.0 ≡ i) → get_or (slice_set bs n true) m false ≡ true
     by (inl l) = stays_set bs n m (before m (among.0, l, among.2))

@@ -13,11 +13,10 @@ use Rattle.declaration_laws.specs.Sound.{IsSound}
 use Rattle.emitted_declarations.specs.Declared.{next, whole}
 use Rattle.emission_laws.specs.Holes.{IsRun}
 use Rattle.emission_laws.specs.Same.{SameEmission}
-use Rattle.ordered_emissions.specs.Known.{known, known_full_name, known_condition}
-use Rattle.ordered_emissions.specs.Orders.{IsPaired, IsOrderOf, kinds}
-use Rattle.ordered_emissions.proofs.TurnLemmas.{earlier_suffice, every_known, heads_known}
-use Rattle.declared_table.specs.Seen.{Shape, file_of, files_of, file_in, files_in, is_known, whole_in, emission_in}
-use Rattle.declared_table.specs.Seen.{sight, whole_sight, full_name_in, condition_in}
+use Rattle.declared_table.specs.Known.{known, known_full_name, known_condition}
+use Rattle.declared_table.specs.Orders.{IsPaired, IsOrderOf, kinds}
+use Rattle.declared_table.proofs.TurnLemmas.{earlier_suffice, every_known, heads_known}
+use Rattle.declared_table.specs.Seen.{Shape, file_of, files_of, file_in, files_in, is_known, whole_in, emission_in, sight, whole_sight, full_name_in, condition_in}
 use Rattle.declared_table.specs.declared.mark.Mark.{Mark}
 
 links_length : (xs : List Kind) (ds : List DeclaredTree) → length xs ≡ length ds → length (links xs ds) ≡ length xs

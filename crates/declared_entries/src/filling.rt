@@ -5,9 +5,8 @@ ghost use Rattle.declaration_laws.specs.Sound.{IsSound};
 ghost use Rattle.emitted_declarations.specs.Declared.{next, whole};
 ghost use Rattle.emission_laws.specs.Holes.{IsRun};
 ghost use Rattle.emission_laws.specs.Same.{SameEmission};
-ghost use Rattle.ordered_emissions.specs.Orders.{IsPaired, IsOrderOf};
-ghost use Rattle.declared_table.specs.Seen.{file_of, files_of, file_in, files_in, whole_in, emission_in, sight};
-ghost use Rattle.declared_table.specs.Seen.{whole_sight, full_name_in, condition_in};
+ghost use Rattle.declared_table.specs.Orders.{IsPaired, IsOrderOf};
+ghost use Rattle.declared_table.specs.Seen.{file_of, files_of, file_in, files_in, whole_in, emission_in, sight, whole_sight, full_name_in, condition_in};
 
 use crate::entries::entry_of;
 use arm_value::OutOfMemory;

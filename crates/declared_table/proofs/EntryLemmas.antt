@@ -3,15 +3,16 @@ use Rattle.std.proofs.Common.{◌≡◌, ◌<◌, ◌⊎◌, inl, inr, ℕ, zero
 use Rattle.std.proofs.Common.{ap, sym, ◌∙◌, arith, subst, replicate}
 use Rattle.std.proofs.lemmas.Option.{none-some, same_Some}
 use Rattle.std.specs.Prelude.{slice_get, slice_set}
-use Rattle.bicep_meaning.specs.Files.{SourceFile}
+use Rattle.foundation.proofs.Lists.{got_before, got_last}
+use Rattle.emitted_expressions.specs.Files.{SourceFile}
 use Rattle.resolved_program.specs.declared.resolved.ResolvedFile.{ResolvedFile}
-use Rattle.emitted_declarations.specs.Declared.{Emission, whole}
+use Rattle.kept_parts.specs.Declared.{Emission, whole}
 use Rattle.declared_types.specs.declared.resources.Typed.{Typed}
 use Rattle.declared_table.specs.Seen.{Shape, file_of, files_of, file_in, whole_in}
 use Rattle.declared_table.specs.Entries.{IsEntry, AreEntries, IsTable}
 use Rattle.declared_table.specs.declared.entry.Entry.{Entry}
 use Rattle.declared_table.specs.declared.mark.Mark.{Mark}
-use Rattle.declared_table.proofs.ListLemmas.{set_cases, front_there, last_there, one_longer}
+use Rattle.declared_table.proofs.ListLemmas.{set_cases, one_longer}
 
 abbrev no_places : ℕ → List (Option ℕ)
 no_places count = replicate count None
@@ -58,11 +59,11 @@ module _ (file : SourceFile) (b : Emission) where
               → IsEntry file b m x
           by (inl same) =
               let at_old = sym same ∙ at in
-              old.is m p x at_old (sym (front_there es e p (old.there m p at_old)) ∙ here)
+              old.is m p x at_old (sym (got_before es e p (old.there m p at_old)) ∙ here)
           by (inr q) =
               subst (λ k. IsEntry file b k x) (sym q.0)
               (subst (IsEntry file b n)
-              (same_Some e x (sym (last_there es e) ∙ ap (slice_get (es ++ e ∷ [])) (last p (sym q.1 ∙ at)) ∙ here))
+              (same_Some e x (sym (got_last es e) ∙ ap (slice_get (es ++ e ∷ [])) (last p (sym q.1 ∙ at)) ∙ here))
               new)
 
 -- a table with one more entry

@@ -3,3 +3,6 @@ mod EntryLemmas
 mod TypeLemmas
 mod PartLemmas
 mod RunLemmas
+pub use Rattle.ordered_emissions.proofs.HeadLemmas
+pub use Rattle.ordered_emissions.proofs.HoleLemmas
+pub use Rattle.ordered_emissions.proofs.TurnLemmas

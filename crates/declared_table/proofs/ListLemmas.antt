@@ -1,5 +1,5 @@
 -- Lists that are changed at a place, or at their end.
-use Rattle.std.proofs.Common.{◌≡◌, ◌<◌, ◌⊎◌, inl, inr, ℕ, zero, suc, List, [], ◌∷◌, ◌++◌, length, Bool, true, false}
+use Rattle.std.proofs.Common.{◌≡◌, ◌⊎◌, inl, inr, ℕ, zero, suc, List, [], ◌∷◌, ◌++◌, length, Bool, true, false}
 use Rattle.std.proofs.Common.{Option, Some, None, refl, ap, arith, map, get_or}
 use Rattle.std.specs.Prelude.{slice_get, slice_set, is_some}
 
@@ -17,16 +17,6 @@ set_cases (x ∷ xs) (suc n) (suc m) y = by (set_cases xs n m y)
         ⊎ ((suc m ≡ suc n) × (slice_get (slice_set xs n y) m ≡ Some y))
     by (inl e) = inl e
     by (inr p) = inr (ap suc p.0, p.1)
-
-pub front_there : {A : Type 0} (xs : List A) (y : A) (p : ℕ) → p < length xs
-    → slice_get (xs ++ y ∷ []) p ≡ slice_get xs p
-front_there [] y p h = absurd (omega (arith, h))
-front_there (x ∷ xs) y zero h = refl
-front_there (x ∷ xs) y (suc p) h = front_there xs y p (omega (arith, h))
-
-pub last_there : {A : Type 0} (xs : List A) (y : A) → slice_get (xs ++ y ∷ []) (length xs) ≡ Some y
-last_there [] y = refl
-last_there (x ∷ xs) y = last_there xs y
 
 pub one_longer : {A : Type 0} (xs : List A) (y : A) → length (xs ++ y ∷ []) ≡ suc (length xs)
 one_longer [] y = refl

@@ -6,11 +6,11 @@ use Rattle.std.specs.Prelude.{slice_index_or, Result}
 use Rattle.std.specs.declared.alloc.AllocError.{AllocError}
 use Rattle.arm_expr.specs.Tree.{Tree, text, call, more, trees}
 use Rattle.arm_expr.specs.declared.expr.Expr.{Expr}
-use Rattle.bicep_meaning.specs.Files.{SourceFile, type_of}
-use Rattle.bicep_emission.specs.Emitted.{Frame, no_value}
-use Rattle.emitted_declarations.specs.Declared.{Emission, id_of_parts}
-use Rattle.emission_laws.specs.Holes.{fill, fill_all, holes, nearest}
-use Rattle.emitted_parts.specs.Built.{Is}
+use Rattle.emitted_expressions.specs.Files.{SourceFile, type_of}
+use Rattle.emitted_expressions.specs.Emitted.{Frame, no_value}
+use Rattle.kept_parts.specs.Declared.{Emission, id_of_parts}
+use Rattle.ordered_emissions.specs.Holes.{fill, fill_all, holes, nearest}
+use Rattle.emitted_expressions.specs.Built.{Is}
 use Rattle.emitted_sizes.specs.Extent.{IsOf}
 use Rattle.emitted_sizes.specs.declared.extent.Extent.{Extent}
 use Rattle.emitted_expressions.specs.Sight.{frame_of, frames_of}

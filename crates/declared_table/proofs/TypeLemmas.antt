@@ -5,8 +5,7 @@ use Rattle.std.proofs.Common.{sym, arith}
 use Rattle.std.proofs.lemmas.Option.{none-some, same_Some, slice_get_past}
 use Rattle.std.specs.Prelude.{slice_get, slice_index_or, option_map, option_and_then}
 use Rattle.foundation.proofs.Comparisons.{lt_of_true, le_of_false}
-use Rattle.bicep_meaning.specs.Files.{SourceFile, declaration, symbol_kind, type_of, type_within, type_by, type_text}
-use Rattle.bicep_meaning.specs.Files.{typed, around_kind}
+use Rattle.emitted_expressions.specs.Files.{SourceFile, declaration, symbol_kind, type_of, type_within, type_by, type_text, typed, around_kind}
 use Rattle.ordered_emissions.specs.Orders.{IsPaired}
 use Rattle.declared_types.specs.Types.{typed_of, AreTypes, AreTypesFrom}
 use Rattle.declared_types.specs.declared.resources.Typed.{Typed}

@@ -1,9 +1,9 @@
 -- Entries of a table.
 use Rattle.std.specs.Prelude.{◌≡◌, ◌<◌, ℕ, Bool, true, false, length, List, [], ◌∷◌, Option, Some, slice_get}
-use Rattle.bicep_meaning.specs.Files.{SourceFile, type_of}
-use Rattle.bicep_emission.specs.Emitted.{no_value}
-use Rattle.emitted_declarations.specs.Declared.{Emission, id_of_parts, whole}
-use Rattle.emission_laws.specs.Holes.{holes}
+use Rattle.emitted_expressions.specs.Files.{SourceFile, type_of}
+use Rattle.emitted_expressions.specs.Emitted.{no_value}
+use Rattle.kept_parts.specs.Declared.{Emission, id_of_parts, whole}
+use Rattle.ordered_emissions.specs.Holes.{holes}
 use Rattle.ordered_emissions.specs.Orders.{IsPaired}
 use Rattle.declared_types.specs.Types.{AreTypes}
 use Rattle.declared_types.specs.declared.resources.Typed.{Typed}

@@ -2,13 +2,13 @@
 use Rattle.std.specs.Prelude.{ℕ, Bool, false, List, [], map, slice_index_or}
 use Rattle.template_parts.specs.declared.looping.Batches.TheVariants.{Parallel}
 use Rattle.bicep_symbols.specs.Entries.{symbol_of}
-use Rattle.bicep_declared.specs.View.{file_tree}
-use Rattle.bicep_meaning.specs.Files.{SourceFile}
+use Rattle.declared_types.specs.View.{file_tree}
+use Rattle.emitted_expressions.specs.Files.{SourceFile}
 use Rattle.arm_expr.specs.Tree.{Tree}
-use Rattle.bicep_emission.specs.Emitted.{Frame}
+use Rattle.emitted_expressions.specs.Emitted.{Frame}
 use Rattle.resolved_program.specs.declared.resolved.ResolvedFile.{ResolvedFile}
-use Rattle.emitted_declarations.specs.Declared.{Emission, whole}
-use Rattle.emission_laws.specs.Holes.{refilled}
+use Rattle.kept_parts.specs.Declared.{Emission, whole}
+use Rattle.ordered_emissions.specs.Holes.{refilled}
 use Rattle.emitted_expressions.specs.Sight.{Sight}
 use Rattle.ordered_emissions.specs.Known.{known, known_full_name, known_condition}
 use Rattle.declared_table.specs.declared.mark.Mark.{Mark}

@@ -1,9 +1,9 @@
 //! The expressions that a table has.
 ghost use Rattle.std.specs.Prelude.{◌≡◌, ◌∷◌, [], option_map, option_and_then, slice_get, MatchOption};
-ghost use Rattle.bicep_meaning.specs.Files.{symbol_name, type_of, typed};
-ghost use Rattle.bicep_emission.specs.Emitted.{output_named};
-ghost use Rattle.emission_laws.specs.Holes.{fill, holes, nearest};
-ghost use Rattle.emitted_parts.specs.Built.{Is, IsText};
+ghost use Rattle.emitted_expressions.specs.Files.{symbol_name, type_of, typed};
+ghost use Rattle.emitted_expressions.specs.Emitted.{output_named};
+ghost use Rattle.ordered_emissions.specs.Holes.{fill, holes, nearest};
+ghost use Rattle.emitted_expressions.specs.Built.{Is, IsText};
 ghost use Rattle.emitted_expressions.specs.Sight.{frames_of};
 ghost use Rattle.declared_types.specs.Types.{typed_of};
 ghost use Rattle.declared_table.specs.Seen.{sight, file_in, files_in, file_outside, whole_in};
@@ -17,8 +17,7 @@ use arm_expr::Expr;
 use arm_value::{OutOfMemory, Text};
 use bicep_resolved::Target;
 use declared_types::Typed;
-use emitted_expressions::{Declarations, Turn};
-use emitted_parts::literals::no_value;
+use emitted_expressions::{Declarations, Turn, no_value};
 use resolved_program::ResolvedFile;
 use std::alloc::Global;
 

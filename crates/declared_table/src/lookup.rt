@@ -1,19 +1,17 @@
 //! Runs of loops where entries of a table are used.
 ghost use Rattle.std.specs.Prelude.{[], List, map, option_to_list};
 ghost use Rattle.arm_expr.specs.Tree.{Tree};
-ghost use Rattle.bicep_emission.specs.Emitted.{Frame};
-ghost use Rattle.emission_laws.specs.Holes.{fill, nearest};
-ghost use Rattle.emitted_declarations.specs.Declared.{id_of_parts};
+ghost use Rattle.emitted_expressions.specs.Emitted.{Frame};
+ghost use Rattle.ordered_emissions.specs.Holes.{fill, nearest};
+ghost use Rattle.kept_parts.specs.Declared.{id_of_parts};
 ghost use Rattle.emitted_expressions.specs.Sight.{frames_of};
-ghost use Rattle.emitted_parts.specs.Built.{Is};
+ghost use Rattle.emitted_expressions.specs.Built.{Is};
 ghost use Rattle.measured_expressions.specs.Spans.{IsSpan, AreSpans};
 ghost use Rattle.kept_parts.specs.Kept.{IsKeptHoles, AreKeptHoles};
 
 use arm_expr::Expr;
 use arm_value::{OutOfMemory, Text};
-use emitted_expressions::Turn;
-use emitted_parts::letting_go;
-use emitted_parts::literals::no_value;
+use emitted_expressions::{Turn, letting_go, no_value};
 use emitted_sizes::literals as literal_sizes;
 use kept_parts::{KeptHoles, id_of_parts};
 use measured_expressions::Span;

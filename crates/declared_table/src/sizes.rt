@@ -1,9 +1,9 @@
 //! The extents that a table has.
 ghost use Rattle.std.specs.Prelude.{◌∷◌, [], List, option_to_list};
 ghost use Rattle.arm_expr.specs.Tree.{text as text_tree};
-ghost use Rattle.bicep_meaning.specs.Files.{type_of};
-ghost use Rattle.bicep_emission.specs.Emitted.{Frame};
-ghost use Rattle.emission_laws.specs.Holes.{fill, holes};
+ghost use Rattle.emitted_expressions.specs.Files.{type_of};
+ghost use Rattle.emitted_expressions.specs.Emitted.{Frame};
+ghost use Rattle.ordered_emissions.specs.Holes.{fill, holes};
 ghost use Rattle.emitted_sizes.specs.Extent.{IsOf};
 ghost use Rattle.measured_expressions.specs.Spans.{IsSpan, AreSpans};
 ghost use Rattle.declared_table.specs.Seen.{file_in, whole_in, full_name_in, condition_in};

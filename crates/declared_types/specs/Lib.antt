@@ -1,1 +1,2 @@
 pub mod Types
+pub use Rattle.bicep_declared.specs.View

@@ -13,7 +13,7 @@ use Rattle.depend_graph.specs.Kept.{IsKept}
 use Rattle.depend_graph.specs.Circles.{can_start, HasCome, KeepsCircles, work}
 use Rattle.depend_graph.proofs.Counts.{times-append, is_there}
 use Rattle.depend_graph.proofs.Keeping.{kept_done, length-filter_cons, same_test, other_test, undone_less}
-use Rattle.foundation.proofs.TruthValues.{both}
+use Rattle.foundation.proofs.TruthValues.{both, of_not}
 
 -- ---- circles and nodes without an undone need
 
@@ -296,12 +296,8 @@ marked_next g dependents first done unmet fewer ready left new node k h popped f
       where
         undone_now : get_or (set done node true) u false ≡ false
         undone_now =
-            negated (get_or (set done node true) u false)
+            of_not (get_or (set done node true) u false)
             (both (not (get_or (set done node true) u false)) (get_or fewer u 0 == 0) can).0
-          where
-            negated : (b : Bool) → not b ≡ true → b ≡ false
-            negated true e = absurd (true≢false (sym e))
-            negated false e = refl
 
         by : (node ≡ u) ⊎ (node ≡ u → ⊥) → (node ≡ u → ⊥) × (get_or done u false ≡ false)
         by (inl same) =

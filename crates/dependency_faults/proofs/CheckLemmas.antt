@@ -6,6 +6,7 @@ use Rattle.std.proofs.lemmas.List.{length-map, get_or-map}
 use Rattle.std.specs.Prelude.{slice_get}
 use Rattle.std.specs.declared.vec.Vec.{Vec}
 use Rattle.std.specs.declared.alloc.Global.{Global}
+use Rattle.std.proofs.lemmas.Option.{slice_get_within}
 use Rattle.foundation.proofs.Comparisons.{lt_or_is}
 use Rattle.foundation.proofs.Options.{same_some}
 use Rattle.arm_value.specs.Json.{Json}
@@ -28,15 +29,15 @@ use Rattle.plan_table.specs.declared.table.Table.{Table}
 use Rattle.plan_table.specs.Lines.{line_at}
 use Rattle.plan_table.specs.Whole.{whole_of, scopes_of}
 use Rattle.plan_table.specs.Found.{scope_at}
-use Rattle.plan_table.proofs.SpotLemmas.{got, got_within}
+use Rattle.plan_table.proofs.SpotLemmas.{got}
 use Rattle.plan_tasks.specs.InOrder.{is_in}
 use Rattle.plan_tasks.specs.Start.{start_of, task_of, IsInstance, IsFound, IsTaskOf}
 use Rattle.plan_tasks.specs.declared.task.ScopeTask.{ScopeTask}
 use Rattle.plan_tasks.specs.declared.task.ScopeTask.TheVariants.{Enter, Put}
 use Rattle.plan_tasks.specs.declared.instance.Found.{Found}
 use Rattle.plan_tasks.specs.declared.instance.Found.TheVariants.{LeftAway, Resource, Scope}
-use Rattle.plan_needs.specs.Lists.{values_in}
-use Rattle.plan_needs.specs.Needs.{AreElements}
+use Rattle.argument_faults.specs.Lists.{values_in}
+use Rattle.argument_faults.specs.Needs.{AreElements}
 use Rattle.plan_openers.specs.declared.opener.Opener.{Opener}
 use Rattle.plan_faults.specs.Known.{IsElementAt}
 use Rattle.plan_faults.specs.Dependencies.{is_title_at, IsNamed, IsUnknown, IsAmbiguous}
@@ -144,7 +145,7 @@ module _ (t : Table) (p : Position) (s : Step) (vs : List Json)
       subst (λ y. told q (reading_at d.template d.place (body_site d.template y s) (tree_value e.tree)) ≡ value v) i
       (subst (λ y. told q (reading_at d.template d.place (body_site d.template e.position y) (tree_value e.tree))
       ≡ value v) j (ap (told q) e.is ∙ h)) in
-      let within = got_within vs e.number here.given here.has in
+      let within = slice_get_within vs e.number here.given here.has in
       subst (IsMet t p) (value_is _ here.given v here.is is)
       (met e.number (omega (arith, within, long)) here.given here.has)
 

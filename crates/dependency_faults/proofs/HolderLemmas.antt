@@ -4,6 +4,7 @@ use Rattle.std.proofs.Common.{Some, refl, sym, ap, subst, ◌∙◌, arith}
 use Rattle.std.proofs.lemmas.List.{length-map}
 use Rattle.std.proofs.lemmas.Slice.Eq.{bytes_eq-Decides}
 use Rattle.std.specs.Prelude.{option_map, option_and_then}
+use Rattle.std.proofs.lemmas.Bool.{cases_eq}
 use Rattle.foundation.proofs.Options.{same_some}
 use Rattle.arm_value.specs.Json.{Json, text}
 use Rattle.arm_ids.specs.declared.id.ResourceId.{ResourceId}
@@ -33,12 +34,12 @@ use Rattle.plan_table.specs.Opened.{opened_of}
 use Rattle.plan_table.specs.Lines.{line_at}
 use Rattle.plan_table.specs.Whole.{whole_of, scopes_of}
 use Rattle.plan_table.specs.Found.{scope_at}
-use Rattle.plan_table.proofs.CountLemmas.{is_number, other_number}
+use Rattle.plan_table.proofs.CountLemmas.{other_number}
 use Rattle.plan_table.proofs.SpotLemmas.{got}
 use Rattle.plan_tasks.specs.Start.{start_of, IsStartTable, IsInstance}
-use Rattle.plan_needs.specs.Numbers.{number_in}
-use Rattle.plan_needs.proofs.NumberLemmas.{number_at}
-use Rattle.plan_needs.proofs.InstanceLemmas.{title as own_name, listed_there, name_there}
+use Rattle.argument_faults.specs.Numbers.{number_in}
+use Rattle.argument_faults.proofs.NumberLemmas.{number_at}
+use Rattle.argument_faults.proofs.InstanceLemmas.{title as own_name, listed_there, name_there}
 use Rattle.argument_faults.proofs.LineLemmas.{name_line}
 use Rattle.plan_faults.specs.Dependencies.{IsNamed}
 use Rattle.dependency_faults.specs.Names.{spot_names, key_class, spot_class, names_in, classes_of}
@@ -116,7 +117,7 @@ module _ (t : Table) (start : IsStartTable t) where
     of_name : (j g r i : ℕ) → j < length t.lines.items → (line_at t.lines.items j).spot ≡ Name g r i
         → shares asks (spot_names t (Name g r i)) ≡ true → NamesLine j
     of_name j g r i k e s =
-        elim (is_number f g) [
+        elim (cases_eq f g) [
           | inl same ↦ here same
           | inr apart ↦ absurd (true≢false
               (sym shared ∙ elsewhere f g (other_number f g apart) (form_at (template_at d.template (at f)))

@@ -1,8 +1,9 @@
 -- The lines of conditions and of names are of instances that are there, and lists by lines.
 use Rattle.std.proofs.Common.{◌≡◌, ◌⊎◌, inl, inr, ℕ, zero, suc, ◌+◌, ◌<◌, ◌≤◌, List, [], ◌∷◌, ◌++◌, map, length}
 use Rattle.std.proofs.Common.{drop, Option, Some, None, refl, sym, ap, subst, ◌∙◌, arith, append_assoc}
-use Rattle.std.proofs.lemmas.List.{length-map}
+use Rattle.std.proofs.lemmas.List.{length-map, append-nil}
 use Rattle.std.specs.Prelude.{nat_lt, slice_get}
+use Rattle.foundation.proofs.Lists.{nothing_left}
 use Rattle.foundation.proofs.Comparisons.{lt_of_true}
 use Rattle.foundation.proofs.Options.{same_some}
 use Rattle.arm_value.specs.Json.{Json}
@@ -117,20 +118,10 @@ lines_more f ls i done new y h e g c =
     ∙ ap (λ (j : ℕ). done ++ (f (line_at ls i) ∷ map f (drop j ls))) (let z : i + 1 ≡ suc i = omega arith in z)
     ∙ ap (λ xs. done ++ map f xs) (sym (line_drop ls i h)) ∙ c
 
-nothing_left : (ls : List Line) (i : ℕ) → length ls ≤ i → drop i ls ≡ []
-nothing_left [] zero h = refl
-nothing_left [] (suc i) h = refl
-nothing_left (l ∷ ls) zero h = absurd (omega (arith, h))
-nothing_left (l ∷ ls) (suc i) h = nothing_left ls i (omega (arith, h))
-
-nil_right : {B : Type 0} (xs : List B) → xs ++ [] ≡ xs
-nil_right [] = refl
-nil_right (x ∷ xs) = ap (λ ys. x ∷ ys) (nil_right xs)
-
 pub lines_end : {B : Type 0} (f : Line → B) (ls : List Line) (i : ℕ) (done : List B) → length ls ≤ i
     → LinesLeft f ls done i → done ≡ map f ls
 lines_end f ls i done h c =
-    sym (nil_right done) ∙ ap (λ xs. done ++ map f xs) (sym (nothing_left ls i h)) ∙ c
+    sym (append-nil done) ∙ ap (λ xs. done ++ map f xs) (sym (nothing_left ls i h)) ∙ c
 
 -- what a list by lines has at a number
 pub record IsByLine {B : Type 0} (f : Line → B) (ls : List Line) (j : ℕ) (y : B) : Type 0 where

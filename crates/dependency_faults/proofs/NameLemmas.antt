@@ -2,6 +2,7 @@
 use Rattle.std.proofs.Common.{◌≡◌, ℕ, Bool, true, false, List, [], ◌∷◌, ◌++◌, Option, Some, None, refl, ap, ap₂, ◌∙◌}
 use Rattle.std.specs.Prelude.{nat_eq, ◌&&◌, ◌||◌, bytes_eq}
 use Rattle.std.specs.List.{list_any}
+use Rattle.foundation.proofs.Comparisons.{eq_itself}
 use Rattle.foundation.proofs.TruthValues.{and_false_is}
 use Rattle.arm_value.specs.Json.{Json, null, bool, int, text, array, object}
 use Rattle.arm_value.specs.Look.{fold}
@@ -20,7 +21,6 @@ use Rattle.plan_cells.specs.Needs.{is_loop, value_names}
 use Rattle.plan_codes.specs.NameCodes.{loop_code, keyed, spelled, symbolic, loop_names, symbol_names, names_of}
 use Rattle.plan_codes.specs.NameCodes.{key_asks, asks_in_one, value_asks}
 use Rattle.plan_codes.proofs.NameLemmas.{value_named}
-use Rattle.plan_table.proofs.CountLemmas.{same_number}
 
 pub nothing_shared : (xs : List (List ℕ)) → shares xs [] ≡ false
 nothing_shared [] = refl
@@ -119,7 +119,7 @@ pub named_here : (f : ℕ) (form : Form) (place : Place) (t : Option TemplateTre
     (n : List ℕ)
     → shares (value_asks f form t v) (names_of f form place r i n) ≡ value_names form place t v r i (text n)
 named_here f form place t v r i n =
-    value_named f f place r i n form t v ∙ ap (λ b. b && value_names form place t v r i (text n)) (same_number f)
+    value_named f f place r i n form t v ∙ ap (λ b. b && value_names form place t v r i (text n)) (eq_itself f)
 
 -- ---- what was listed after nothing
 

@@ -14,7 +14,7 @@ use Rattle.plan_table.specs.declared.table.Table.{Table}
 use Rattle.plan_table.specs.Whole.{whole_of, scopes_of}
 use Rattle.plan_table.specs.Found.{scope_at}
 use Rattle.plan_tasks.specs.Start.{start_of}
-use Rattle.plan_needs.specs.Numbers.{number_in}
+use Rattle.argument_faults.specs.Numbers.{number_in}
 use Rattle.dependency_titles.specs.declared.titles.ScopeTitles.{ScopeTitles}
 use Rattle.dependency_titles.specs.Titles.{scope_titles}
 

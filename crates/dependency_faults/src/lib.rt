@@ -10,4 +10,5 @@ mod element;
 mod fault;
 mod names;
 
+pub use argument_faults::check_arguments;
 pub use check::check_dependencies;

@@ -10,7 +10,7 @@ ghost use Rattle.plan_table.specs.Lines.{line_at};
 ghost use Rattle.plan_table.specs.Whole.{whole_of, scopes_of};
 ghost use Rattle.plan_table.specs.Found.{scope_at};
 ghost use Rattle.plan_tasks.specs.Start.{start_of, IsStartTable, IsInstance};
-ghost use Rattle.plan_needs.specs.Numbers.{number_in};
+ghost use Rattle.argument_faults.specs.Numbers.{number_in};
 ghost use Rattle.dependency_faults.specs.Names.{spot_names, key_class, spot_class, names_in, classes_of};
 
 use arm_ids::Key;

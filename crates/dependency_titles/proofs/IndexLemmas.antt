@@ -13,7 +13,7 @@ use Rattle.std.proofs.lemmas.Fmt.{IsAscii-decimal}
 use Rattle.std.proofs.lemmas.Slice.Eq.{bytes_eq-Decides}
 use Rattle.foundation.proofs.Lists.{next_item}
 use Rattle.foundation.proofs.AsciiWords.{one_ascii}
-use Rattle.foundation.proofs.TruthValues.{both_ways}
+use Rattle.foundation.proofs.TruthValues.{both_ways, unless}
 use Rattle.arm_eval.specs.Titles.{grown, number_from, element}
 
 -- ---- the number in the brackets of a text, character by character
@@ -41,10 +41,6 @@ in_brackets i h =
     IsAscii-append (codes "[") (decimal i ++ codes "]") (one_ascii 91 (lit< tt))
     (IsAscii-append (decimal i) (codes "]") (IsAscii-decimal i h) (one_ascii 93 (lit< tt)))
 
-false_if : (b : Bool) → (b ≡ true → ⊥) → b ≡ false
-false_if false n = refl
-false_if true n = absurd (n refl)
-
 -- a text that ends in these bytes is what comes before them, and they
 pub ends_so : (s n m base : List ℕ) (k : ℕ) → FindsTextSuffix n s (Some k) → base ≡ take (length s - k) s → n ≡ m
     → s ≡ base ++ m
@@ -68,7 +64,7 @@ base_is text bytes base own i h e k u g x =
 pub no_base : (text bytes n : List ℕ) (i : ℕ) → i < 2 ^ 64 → bytes ≡ encodes text → n ≡ index i
     → ((front : List ℕ) → bytes ≢ front ++ n) → (x : List ℕ) → bytes_eq text (element x i) ≡ false
 no_base text bytes n i h e g missing x =
-    false_if (bytes_eq text (element x i)) (λ b. missing (encodes x) (written b))
+    unless (bytes_eq text (element x i)) (λ b. missing (encodes x) (written b))
   where
     same : encodes (index i) ≡ n
     same =

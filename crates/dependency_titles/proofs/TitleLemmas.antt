@@ -3,6 +3,7 @@ use Rattle.std.proofs.Common.{◌≡◌, ℕ, Bool, true, false, ◌||◌, ◌&&
 use Rattle.std.proofs.Common.{Option, Some, None, refl, sym, ap, ap₂, ◌∙◌}
 use Rattle.std.specs.Prelude.{is_some, if◌then◌else◌}
 use Rattle.std.specs.List.{list_any}
+use Rattle.foundation.proofs.TruthValues.{or_crossed}
 use Rattle.arm_eval.specs.Titles.{number_from}
 use Rattle.arm_value.specs.Look.{is_same_folded}
 use Rattle.name_set.specs.Names.{is_listed, is_named}
@@ -24,16 +25,10 @@ none_any : {A : Type 0} (f : A → Bool) → ((x : A) → f x ≡ false) → (xs
 none_any f h [] = refl
 none_any f h (x ∷ xs) = none_any f h xs ∙ ap (λ b. b || list_any f xs) (sym (h x))
 
-mixed : (a b c d : Bool) → ((a || b) || (c || d)) ≡ ((a || c) || (b || d))
-mixed true b c d = refl
-mixed false true true d = refl
-mixed false true false d = refl
-mixed false false c d = refl
-
 any_or : {A : Type 0} (f g : A → Bool) (xs : List A)
     → list_any (λ x. f x || g x) xs ≡ (list_any f xs || list_any g xs)
 any_or f g [] = refl
-any_or f g (x ∷ xs) = ap (λ b. (f x || g x) || b) (any_or f g xs) ∙ mixed (f x) (g x) (list_any f xs) (list_any g xs)
+any_or f g (x ∷ xs) = ap (λ b. (f x || g x) || b) (any_or f g xs) ∙ or_crossed (f x) (g x) (list_any f xs) (list_any g xs)
 
 -- ---- symbolic names
 
@@ -52,10 +47,6 @@ symbols_listed t (r ∷ rs) =
 none_indexed : (t : List ℕ) (n : Option ℕ) → is_indexed t n None ≡ false
 none_indexed t None = refl
 none_indexed t (Some i) = refl
-
-and_false : (b : Bool) → (b && false) ≡ false
-and_false true = refl
-and_false false = refl
 
 one_looped : (t : List ℕ) (b c : Bool) (o : Option (List ℕ)) (ys : List (List ℕ))
     → is_any_indexed ((if b && c then symbol_title o else []) ++ ys) t

@@ -3,6 +3,7 @@ use Rattle.std.proofs.Common.{◌≡◌, ℕ, zero, suc, Bool, true, false, true
 use Rattle.std.proofs.Common.{Option, Some, None, refl, sym, ap, ◌∙◌, subst}
 use Rattle.std.specs.Prelude.{◌&&◌, ◌||◌, slice_get, option_map, if◌then◌else◌}
 use Rattle.std.specs.List.{list_any}
+use Rattle.std.proofs.lemmas.Option.{same_Some}
 use Rattle.arm_value.specs.Json.{row, items}
 use Rattle.foundation.proofs.TruthValues.{both, and_true}
 use Rattle.deploy_cells.specs.Listing.{Named, named_json, instances_json, listing_json, named_of, instances_of}
@@ -29,13 +30,10 @@ module _ (test : List ℕ → Bool) where
   IsFirst ns (Some i) = (n : Named) × ((slice_get ns i ≡ Some n) × Passes n)
   IsFirst ns None = (i : ℕ) (n : Named) → slice_get ns i ≡ Some n → chosen n ≡ false
 
-  some_is : (m n : Named) → Some m ≡ Some n → m ≡ n
-  some_is m n e = cc
-
   none_first : (n : Named) (ns : List Named) → chosen n ≡ false
       → ((i : ℕ) (m : Named) → slice_get ns i ≡ Some m → chosen m ≡ false)
       → (i : ℕ) (m : Named) → slice_get (n ∷ ns) i ≡ Some m → chosen m ≡ false
-  none_first n ns c h zero m e = ap chosen (sym (some_is n m e)) ∙ c
+  none_first n ns c h zero m e = ap chosen (sym (same_Some n m e)) ∙ c
   none_first n ns c h (suc i) m e = h i m e
 
   further : (n : Named) (ns : List Named) → chosen n ≡ false → (o : Option ℕ) → IsFirst ns o
@@ -60,13 +58,10 @@ module _ (test : List ℕ → Bool) where
       → IsListed (ns ∷ nss) (suc k) i n
   pushed ns nss k i n l = record { of = l.of; has = l.has; is = l.is }
 
-  list_is : (xs ys : List Named) → Some xs ≡ Some ys → xs ≡ ys
-  list_is xs ys e = cc
-
   none_of : (ns : List Named) (nss : List (List Named)) → IsFirst ns None → IsFirstOf nss None
       → (k i : ℕ) (n : Named) → IsListed (ns ∷ nss) k i n → chosen n ≡ false
   none_of ns nss f g zero i n l =
-      f i n (ap (λ xs. slice_get xs i) (list_is ns l.of l.has) ∙ l.is)
+      f i n (ap (λ xs. slice_get xs i) (same_Some ns l.of l.has) ∙ l.is)
   none_of ns nss f g (suc k) i n l = g k i n (record { of = l.of; has = l.has; is = l.is })
 
   here_is : (ns : List Named) (nss : List (List Named)) (o : Option ℕ) (q : Option (ℕ × ℕ)) → IsFirst ns o
@@ -86,7 +81,7 @@ module _ (test : List ℕ → Bool) where
   IsAnyOf ns false = (i : ℕ) (n : Named) → slice_get ns i ≡ Some n → test n.name ≡ false
 
   none_any : (n : Named) (ns : List Named) → test n.name ≡ false → IsAnyOf ns false → IsAnyOf (n ∷ ns) false
-  none_any n ns e f zero m g = ap (λ (x : Named). test x.name) (sym (some_is n m g)) ∙ e
+  none_any n ns e f zero m g = ap (λ (x : Named). test x.name) (sym (same_Some n m g)) ∙ e
   none_any n ns e f (suc i) m g = f i m g
 
   by_any : (n : Named) (ns : List Named) (b c : Bool) → test n.name ≡ b → IsAnyOf ns c → IsAnyOf (n ∷ ns) (b || c)
@@ -105,7 +100,7 @@ module _ (test : List ℕ → Bool) where
 
   none_named : (ns : List Named) (nss : List (List Named)) → IsAnyOf ns false → IsNamedIn nss false
       → IsNamedIn (ns ∷ nss) false
-  none_named ns nss f g zero i n l = f i n (ap (λ xs. slice_get xs i) (list_is ns l.of l.has) ∙ l.is)
+  none_named ns nss f g zero i n l = f i n (ap (λ xs. slice_get xs i) (same_Some ns l.of l.has) ∙ l.is)
   none_named ns nss f g (suc k) i n l = g k i n (record { of = l.of; has = l.has; is = l.is })
 
   by_named : (ns : List Named) (nss : List (List Named)) (b c : Bool) → IsAnyOf ns b → IsNamedIn nss c

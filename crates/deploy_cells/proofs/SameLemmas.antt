@@ -1,6 +1,7 @@
 -- The test whether two cells are one.
 use Rattle.std.proofs.Common.{◌≡◌, ℕ, true, true≢false, List, [], ◌∷◌, refl, sym, ap, ◌∙◌, arith}
 use Rattle.std.specs.Prelude.{nat_eq, ◌&&◌, bytes_eq}
+use Rattle.foundation.proofs.Comparisons.{eq_itself, eq_of_true}
 use Rattle.arm_ids.specs.declared.id.ResourceId.{ResourceId}
 use Rattle.foundation.proofs.TruthValues.{both, and_true}
 use Rattle.foundation.proofs.Words.{eq_word, itself}
@@ -8,25 +9,19 @@ use Rattle.deploy_cells.specs.Cells.{Step, Position, Cell, parameter, variable, 
 use Rattle.deploy_cells.specs.Cells.{name, deployments, state}
 use Rattle.deploy_cells.specs.Same.{same_step, same_position, same_texts, same_id, same_named, same_instance, same}
 
-nat_is : (a b : ℕ) → nat_eq a b ≡ true → a ≡ b
-nat_is a b e = grind (arith)
-
-nat_same : (a : ℕ) → nat_eq a a ≡ true
-nat_same a = grind (arith)
-
-step_is : (s t : Step) → same_step s t ≡ true → s ≡ t
+pub step_is : (s t : Step) → same_step s t ≡ true → s ≡ t
 step_is s t e =
     let h = both (nat_eq s.resource t.resource) (nat_eq s.copy t.copy) e in
-    let a : s.resource ≡ t.resource = nat_is s.resource t.resource h.0 in
-    let b : s.copy ≡ t.copy = nat_is s.copy t.copy h.1 in
+    let a : s.resource ≡ t.resource = eq_of_true s.resource t.resource h.0 in
+    let b : s.copy ≡ t.copy = eq_of_true s.copy t.copy h.1 in
     ap (λ (r : ℕ). let x : Step = record { resource = r; copy = s.copy } in x) a
     ∙ ap (λ (i : ℕ). let x : Step = record { resource = t.resource; copy = i } in x) b
 
-step_same : (s : Step) → same_step s s ≡ true
+pub step_same : (s : Step) → same_step s s ≡ true
 step_same s =
-    and_true (nat_eq s.resource s.resource) (nat_eq s.copy s.copy) (nat_same s.resource) (nat_same s.copy)
+    and_true (nat_eq s.resource s.resource) (nat_eq s.copy s.copy) (eq_itself s.resource) (eq_itself s.copy)
 
-position_is : (p q : Position) → same_position p q ≡ true → p ≡ q
+pub position_is : (p q : Position) → same_position p q ≡ true → p ≡ q
 position_is [] [] e = refl
 position_is [] (t ∷ q) e = absurd (true≢false (sym e))
 position_is (s ∷ p) [] e = absurd (true≢false (sym e))
@@ -35,11 +30,11 @@ position_is (s ∷ p) (t ∷ q) e =
     let a : s ≡ t = step_is s t h.0 in
     let b : p ≡ q = position_is p q h.1 in cc
 
-position_same : (p : Position) → same_position p p ≡ true
+pub position_same : (p : Position) → same_position p p ≡ true
 position_same [] = refl
 position_same (s ∷ p) = and_true (same_step s s) (same_position p p) (step_same s) (position_same p)
 
-texts_are : (xs ys : List (List ℕ)) → same_texts xs ys ≡ true → xs ≡ ys
+pub texts_are : (xs ys : List (List ℕ)) → same_texts xs ys ≡ true → xs ≡ ys
 texts_are [] [] e = refl
 texts_are [] (y ∷ ys) e = absurd (true≢false (sym e))
 texts_are (x ∷ xs) [] e = absurd (true≢false (sym e))
@@ -93,7 +88,7 @@ count_is : (p : Position) (r : ℕ) (q : Position) (s : ℕ) → (nat_eq r s && 
     → count p r ≡ count q s
 count_is p r q s e =
     let h = both (nat_eq r s) (same_position p q) e in
-    let a : r ≡ s = nat_is r s h.0 in
+    let a : r ≡ s = eq_of_true r s h.0 in
     let b : p ≡ q = position_is p q h.1 in λ t. count (b t) (a t)
 
 pub cell_same : (c : Cell) → same c c ≡ true
@@ -101,7 +96,7 @@ cell_same (parameter p x) = named_same p x
 cell_same (variable p x) = named_same p x
 cell_same (offered p x) = named_same p x
 cell_same (output p x) = named_same p x
-cell_same (count p r) = and_true (nat_eq r r) (same_position p p) (nat_same r) (position_same p)
+cell_same (count p r) = and_true (nat_eq r r) (same_position p p) (eq_itself r) (position_same p)
 cell_same (included p s) = instance_same p s
 cell_same (name p s) = instance_same p s
 cell_same (deployments p) = position_same p

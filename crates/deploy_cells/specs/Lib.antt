@@ -4,3 +4,10 @@ pub mod Listing
 pub mod Puts
 pub mod Same
 pub mod Followed
+pub use Rattle.arm_ids.specs.Held
+pub use Rattle.arm_ids.specs.Id
+pub use Rattle.arm_ids.specs.Members
+pub use Rattle.arm_ids.specs.Parent
+pub use Rattle.arm_ids.specs.declared.id.Place
+pub use Rattle.arm_ids.specs.declared.id.ResourceId
+pub use Rattle.arm_ids.specs.Segments

@@ -22,6 +22,8 @@ use Rattle.seat_calls.specs.Called.{Kind}
 use Rattle.seat_calls.specs.declared.seat.Seat.{Seat}
 use Rattle.deployment_theorem.specs.Builds.{IsBuilt}
 use Rattle.deployment_theorem.specs.Deploying.{terms, around}
+use Rattle.deployment_theorem.proofs.CauseLemmas.{caused}
+use Rattle.deployment_theorem.proofs.CompleteLemmas.{completed}
 use Rattle.deployment_theorem.proofs.RunLemmas.{came_more}
 
 -- the template that was built was deployed
@@ -51,12 +53,17 @@ pub ran_by : (o : Outside) (before now : Moment) (words : List (List ℕ)) (k : 
     → CountsTree before.tree_faults now.tree_faults c.report
     → Says (output_at o before) (output_at o now) c.report ran.status → ran.history ≡ c.history
     → HasRun o before now words ran
-ran_by o before now words k c ran e does tree says handed = record {
-  outcome = c;
-  runs = record {
-    does = subst (λ (q : Option Request). Does o before now q c) e does;
-    tree = tree;
-    says = says;
-  };
-  handed = handed;
-}
+ran_by o before now words k c ran e does tree says handed =
+    let did = subst (λ (q : Option Request). Does o before now q c) e does in
+    let cause = caused o before now (command_of words) c ran.status did tree says in
+    record {
+      outcome = c;
+      runs = record {
+        does = did;
+        tree = tree;
+        says = says;
+        cause = cause;
+        complete = completed o before now (command_of words) c ran.status says cause;
+      };
+      handed = handed;
+    }

@@ -1,2 +1,1 @@
 pub mod CliLemmas
-pub mod SeatLemmas

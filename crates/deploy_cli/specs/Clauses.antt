@@ -82,7 +82,7 @@ AreFree seats = HasNoJobs (vec_items seats)
 abbrev pub HasSeats : {P : Type 0} → ℕ → Vec (Seat P) Global → Type 0
 HasSeats count seats = (vec_len seats ≡ count) × HasNoJobs (vec_items seats)
 
--- both
+-- there are 1 to 4,294,967,295 seats, of which none has a job
 abbrev pub MayDeploy : {P : Type 0} → Vec (Seat P) Global → Type 0
 MayDeploy seats = AreReady (vec_items seats)
 

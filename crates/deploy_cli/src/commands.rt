@@ -58,6 +58,7 @@ pub(crate) fn deploy<R: Threads + Wait + Sync, T: Tree, P: Provider>(
     requires { spec.MayDeploy seats.old }
     ensures came { spec.HasDeployed P.may P.tells P.faults P.calls seats.old seats.new result T.tells_files
         (T.file tree.old) deploy.now }
+    ensures seats { spec.MayDeploy seats.new }
     ensures tree { spec.CountsTree (T.faults tree.old) (T.faults tree.new) result.report }
 {
     plans_are_of_sources();

@@ -70,6 +70,7 @@ fn carried_out<R: Threads + Wait + Sync, T: Tree, P: Provider>(
     requires { spec.MayDeploy seats.old }
     ensures does { spec.HasDone P.may P.tells P.faults P.calls seats.old seats.new result T.tells_files
         (T.file tree.old) command.now }
+    ensures seats { spec.MayDeploy seats.new }
     ensures tree { spec.CountsTree (T.faults tree.old) (T.faults tree.new) result.report }
 {
     match command {
@@ -102,9 +103,9 @@ pub fn run<R: Threads + Wait + Sync, T: Tree, D: Disk, P: Provider, L: Link, O: 
     alloc: Global,
     words: &[String],
     tree: &mut T,
-    _disk: &mut D,
+    disk: &mut D,
     seats: &mut Vec<Seat<P>>,
-    _link: &mut L,
+    link: &mut L,
     out: &mut O,
 ) -> Ran
     requires few { spec.AreFew seats.old }
@@ -116,6 +117,9 @@ pub fn run<R: Threads + Wait + Sync, T: Tree, D: Disk, P: Provider, L: Link, O: 
         (spec.moment (T.faults tree.new) (spec.seats_in P.faults P.calls seats.new)
         (O.faults out.new) (O.written out.new))
         (spec.bytes_of words.now) result }
+    ensures seats { spec.MayDeploy seats.new }
+    ensures disk { spec.IsSame disk.new disk.old }
+    ensures link { spec.IsSame link.new link.old }
 {
     let command = command_of(words);
     let outcome = carried_out(rt, alloc, &command, tree, seats);

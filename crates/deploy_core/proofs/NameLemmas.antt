@@ -2,6 +2,7 @@
 use Rattle.std.proofs.Common.{◌≡◌, ℕ, List, ◌++◌, codes, chars, Option, Some, None, refl, sym, ap, ◌∙◌}
 use Rattle.std.specs.Prelude.{option_map, option_and_then, Result, Ok, Err, IfOk}
 use Rattle.std.specs.declared.alloc.AllocError.{AllocError}
+use Rattle.std.proofs.lemmas.Option.{same_Some}
 use Rattle.deploy_cells.specs.Cells.{Position}
 use Rattle.plan_cells.specs.Tasks as task
 use Rattle.plan_cells.specs.Tasks.{Task}
@@ -14,43 +15,37 @@ use Rattle.task_standings.specs.Standings.{kind_of, scope_of}
 use Rattle.deploy_core.specs.Names.{name_in}
 use Rattle.foundation.proofs.AsciiWords.{word}
 
-one_text : (a b : List ℕ) → Some a ≡ Some b → a ≡ b
-one_text a b e = cc
-
-one_kind : (a b : Kind) → Some a ≡ Some b → a ≡ b
-one_kind a b e = cc
-
 pub scope_there : (o : Option Task) (k : Kind) → option_map kind_of o ≡ Some k → k ≡ Enter
     → (q : Position) × (option_and_then scope_of o ≡ Some q)
 scope_there None k e i = let f : None ≡ Some k = e in absurd (cc)
 scope_there (Some (task.enter q)) k e i = (q, refl)
 scope_there (Some (task.leave q)) k e i = (q, refl)
-scope_there (Some (task.put p s)) k e i = absurd (let f : Put ≡ Enter = one_kind Put k e ∙ i in cc)
-scope_there (Some (task.delete c)) k e i = absurd (let f : Delete ≡ Enter = one_kind Delete k e ∙ i in cc)
+scope_there (Some (task.put p s)) k e i = absurd (let f : Put ≡ Enter = same_Some Put k e ∙ i in cc)
+scope_there (Some (task.delete c)) k e i = absurd (let f : Delete ≡ Enter = same_Some Delete k e ∙ i in cc)
 
 pub scope_left : (o : Option Task) (k : Kind) → option_map kind_of o ≡ Some k → k ≡ Leave
     → (q : Position) × (option_and_then scope_of o ≡ Some q)
 scope_left None k e i = let f : None ≡ Some k = e in absurd (cc)
 scope_left (Some (task.enter q)) k e i = (q, refl)
 scope_left (Some (task.leave q)) k e i = (q, refl)
-scope_left (Some (task.put p s)) k e i = absurd (let f : Put ≡ Leave = one_kind Put k e ∙ i in cc)
-scope_left (Some (task.delete c)) k e i = absurd (let f : Delete ≡ Leave = one_kind Delete k e ∙ i in cc)
+scope_left (Some (task.put p s)) k e i = absurd (let f : Put ≡ Leave = same_Some Put k e ∙ i in cc)
+scope_left (Some (task.delete c)) k e i = absurd (let f : Delete ≡ Leave = same_Some Delete k e ∙ i in cc)
 
 pub act_put : (o : Option Task) (k : Kind) → option_map kind_of o ≡ Some k → k ≡ Put
     → (one : Task) × ((o ≡ Some one) × IsAct one)
 act_put None k e i = let f : None ≡ Some k = e in absurd (cc)
 act_put (Some (task.put p s)) k e i = (task.put p s, (refl, tt))
 act_put (Some (task.delete c)) k e i = (task.delete c, (refl, tt))
-act_put (Some (task.enter q)) k e i = absurd (let f : Enter ≡ Put = one_kind Enter k e ∙ i in cc)
-act_put (Some (task.leave q)) k e i = absurd (let f : Leave ≡ Put = one_kind Leave k e ∙ i in cc)
+act_put (Some (task.enter q)) k e i = absurd (let f : Enter ≡ Put = same_Some Enter k e ∙ i in cc)
+act_put (Some (task.leave q)) k e i = absurd (let f : Leave ≡ Put = same_Some Leave k e ∙ i in cc)
 
 pub act_delete : (o : Option Task) (k : Kind) → option_map kind_of o ≡ Some k → k ≡ Delete
     → (one : Task) × ((o ≡ Some one) × IsAct one)
 act_delete None k e i = let f : None ≡ Some k = e in absurd (cc)
 act_delete (Some (task.put p s)) k e i = (task.put p s, (refl, tt))
 act_delete (Some (task.delete c)) k e i = (task.delete c, (refl, tt))
-act_delete (Some (task.enter q)) k e i = absurd (let f : Enter ≡ Delete = one_kind Enter k e ∙ i in cc)
-act_delete (Some (task.leave q)) k e i = absurd (let f : Leave ≡ Delete = one_kind Leave k e ∙ i in cc)
+act_delete (Some (task.enter q)) k e i = absurd (let f : Enter ≡ Delete = same_Some Enter k e ∙ i in cc)
+act_delete (Some (task.leave q)) k e i = absurd (let f : Leave ≡ Delete = same_Some Leave k e ∙ i in cc)
 
 module _ (titled : Planned → Position → List ℕ) (x : Planned) (t : List ℕ) where
   pub named_enter : (o : Option Task) (k : Kind) → option_map kind_of o ≡ Some k → k ≡ Enter
@@ -59,9 +54,9 @@ module _ (titled : Planned → Position → List ℕ) (x : Planned) (t : List �
   named_enter None k e i n = let f : None ≡ Some k = e in absurd (cc)
   named_enter (Some (task.enter q)) k e i n =
       ap (λ w. Some (w ++ titled x q)) (sym (word (codes "enter ") refl)) ∙ n
-  named_enter (Some (task.leave q)) k e i n = absurd (let f : Leave ≡ Enter = one_kind Leave k e ∙ i in cc)
-  named_enter (Some (task.put p s)) k e i n = absurd (let f : Put ≡ Enter = one_kind Put k e ∙ i in cc)
-  named_enter (Some (task.delete c)) k e i n = absurd (let f : Delete ≡ Enter = one_kind Delete k e ∙ i in cc)
+  named_enter (Some (task.leave q)) k e i n = absurd (let f : Leave ≡ Enter = same_Some Leave k e ∙ i in cc)
+  named_enter (Some (task.put p s)) k e i n = absurd (let f : Put ≡ Enter = same_Some Put k e ∙ i in cc)
+  named_enter (Some (task.delete c)) k e i n = absurd (let f : Delete ≡ Enter = same_Some Delete k e ∙ i in cc)
 
   pub named_leave : (o : Option Task) (k : Kind) → option_map kind_of o ≡ Some k → k ≡ Leave
       → option_map (λ q. chars (codes "leave ") ++ titled x q) (option_and_then scope_of o) ≡ Some t
@@ -69,9 +64,9 @@ module _ (titled : Planned → Position → List ℕ) (x : Planned) (t : List �
   named_leave None k e i n = let f : None ≡ Some k = e in absurd (cc)
   named_leave (Some (task.leave q)) k e i n =
       ap (λ w. Some (w ++ titled x q)) (sym (word (codes "leave ") refl)) ∙ n
-  named_leave (Some (task.enter q)) k e i n = absurd (let f : Enter ≡ Leave = one_kind Enter k e ∙ i in cc)
-  named_leave (Some (task.put p s)) k e i n = absurd (let f : Put ≡ Leave = one_kind Put k e ∙ i in cc)
-  named_leave (Some (task.delete c)) k e i n = absurd (let f : Delete ≡ Leave = one_kind Delete k e ∙ i in cc)
+  named_leave (Some (task.enter q)) k e i n = absurd (let f : Enter ≡ Leave = same_Some Enter k e ∙ i in cc)
+  named_leave (Some (task.put p s)) k e i n = absurd (let f : Put ≡ Leave = same_Some Put k e ∙ i in cc)
+  named_leave (Some (task.delete c)) k e i n = absurd (let f : Delete ≡ Leave = same_Some Delete k e ∙ i in cc)
 
   pub named_act : (o : Option Task) (one : Task) → o ≡ Some one → IsAct one
       → option_map (λ a. a.id) (option_and_then (target x) o) ≡ Some t → name_in titled x o ≡ Some t
@@ -92,4 +87,4 @@ pub scope_named : (o : Option Position) (f : Position → List ℕ) (w place t :
     → t ≡ w ++ place → option_map (λ q. w ++ f q) o ≡ Some t
 scope_named None f w place t e i = let g : None ≡ Some place = e in absurd (cc)
 scope_named (Some q) f w place t e i =
-    ap (λ (k : List ℕ). Some (w ++ k)) (one_text (f q) place e) ∙ ap (λ (k : List ℕ). Some k) (sym i)
+    ap (λ (k : List ℕ). Some (w ++ k)) (same_Some (f q) place e) ∙ ap (λ (k : List ℕ). Some k) (sym i)

@@ -6,7 +6,7 @@ use Rattle.std.specs.Prelude.{slice_get, slice_index_or, map, option_map, replic
 use Rattle.std.specs.Prelude.{if◌then◌else◌}
 use Rattle.std.specs.declared.alloc.AllocError.{AllocError}
 use Rattle.std.proofs.lemmas.List.{length-map, map-append, take_more}
-use Rattle.std.proofs.lemmas.Option.{get_or_from_slice_get, slice_get_within}
+use Rattle.std.proofs.lemmas.Option.{get_or_from_slice_get, slice_get_within, same_Some}
 use Rattle.depend_graph.specs.Shape as graph
 use Rattle.depend_graph.specs.Shape.{Shape, times, with_edge}
 use Rattle.depend_graph.proofs.Keeping.{get_or-replicate, length-replicate}
@@ -16,7 +16,7 @@ use Rattle.plan_cells.specs.Tasks as task
 use Rattle.plan_cells.specs.Tasks.{Task}
 use Rattle.deploy_histories.specs.Planned.{Planned}
 use Rattle.deploy_histories.specs.Events.{at_opening}
-use Rattle.point_values.specs.Seen.{IsSeen}
+use Rattle.task_standings.specs.Seen.{IsSeen}
 use Rattle.task_standings.specs.declared.standing.Kind.{Kind}
 use Rattle.task_standings.specs.Standings.{kind_of}
 use Rattle.task_agenda.specs.declared.agenda.Agenda.{Agenda}
@@ -122,13 +122,10 @@ need_added a b i j p q g kinds ns h = record {
           ),
         )
 
-one_task : (a b : Task) → Some a ≡ Some b → a ≡ b
-one_task a b e = cc
-
 scope_at : (ts : List Task) (u : ℕ) (one : Task) → slice_get ts u ≡ Some one
     → slice_index_or (map enters_or_leaves ts) u false ≡ enters_or_leaves one
 scope_at [] u one e = let f : None ≡ Some one = e in absurd (cc)
-scope_at (k ∷ ts) zero one e = ap enters_or_leaves (one_task k one e)
+scope_at (k ∷ ts) zero one e = ap enters_or_leaves (same_Some k one e)
 scope_at (k ∷ ts) (suc u) one e = scope_at ts u one e
 
 pub there : (ts : List Task) (u : ℕ) → u < length ts → (one : Task) × (slice_get ts u ≡ Some one)
@@ -203,9 +200,6 @@ scope_kind (task.leave q) = refl
 scope_kind (task.put p s) = refl
 scope_kind (task.delete k) = refl
 
-one_kind : (a b : Kind) → Some a ≡ Some b → a ≡ b
-one_kind a b e = cc
-
 kinds_by : (ts : List Task) (i : ℕ) (k : Kind) (o : Option Task) → slice_get ts i ≡ o → option_map kind_of o ≡ Some k
     → map enters_or_leaves (take (i + 1) ts) ≡ map enters_or_leaves (take i ts) ++ kind_of_scope k ∷ []
 kinds_by ts i k None s e = let f : None ≡ Some k = e in absurd (cc)
@@ -214,7 +208,7 @@ kinds_by ts i k (Some one) s e =
     ∙ map-append enters_or_leaves (take i ts) (get_or ts i one ∷ [])
     ∙ ap (λ (b : Bool). map enters_or_leaves (take i ts) ++ b ∷ [])
     (ap enters_or_leaves (get_or_from_slice_get ts i one one s) ∙ sym (scope_kind one)
-    ∙ ap kind_of_scope (one_kind (kind_of one) k e))
+    ∙ ap kind_of_scope (same_Some (kind_of one) k e))
 
 -- one task more of which the kind is known
 pub kinds_more : (ts : List Task) (i : ℕ) (k : Kind) → option_map kind_of (slice_get ts i) ≡ Some k

@@ -5,6 +5,7 @@ use Rattle.std.specs.Prelude.{option_map, option_and_then, slice_get, if◌then�
 use Rattle.std.specs.declared.alloc.AllocError.{AllocError}
 use Rattle.std.proofs.lemmas.Bool.{cases_eq}
 use Rattle.std.proofs.lemmas.List.{append-nil}
+use Rattle.std.proofs.lemmas.Option.{same_Some}
 use Rattle.arm_value.specs.Json.{Json, null}
 use Rattle.provider_trait.specs.Answer.{Suits}
 use Rattle.provider_trait.specs.Work.{Work}
@@ -162,9 +163,6 @@ module _ (x : Planned) where
   pub is_begun_by : (h : List Event) → IsLegal x h → (u : ℕ) → dealer.IsBegun u (steps_of x h) → IsBegun (progress h) u
   is_begun_by h l u b = waits_none ((progress h).status u) u b.0 (sym (open_of h l u) ∙ b.1)
 
-  one_job : (i j : Work) → Some i ≡ Some j → i ≡ j
-  one_job i j f = cc
-
   record HasAim (u : ℕ) (job : Work) : Type 0 where
     aim : Target
     is_aim : target_of x u ≡ Some aim
@@ -176,7 +174,7 @@ module _ (x : Planned) where
   aim_of u w b (Some aim) job t e = record {
     aim = aim;
     is_aim = t;
-    acts = ap (λ (j : Work). j.act) (sym (one_job _ job e));
+    acts = ap (λ (j : Work). j.act) (sym (same_Some _ job e));
   }
 
   record IsTaskOf (u : ℕ) (aim : Target) : Type 0 where

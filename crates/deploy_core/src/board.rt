@@ -1,7 +1,7 @@
 // The board.
 
 ghost use Rattle.std.specs.Prelude.{◌≡◌, ◌<◌, ℕ, IfErr, IfOk, OnErr, Some, [], length, map};
-ghost use Rattle.point_values.specs.Seen.{IsSeen};
+ghost use Rattle.task_standings.specs.Seen.{IsSeen};
 ghost use Rattle.deploy_core.specs.Opens.{AreStartNeeds};
 ghost use Rattle.deploy_histories.specs.Events as event;
 ghost use Rattle.deploy_histories.specs.Events.{at_opening, progress, IsBegun};

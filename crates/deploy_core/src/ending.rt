@@ -6,7 +6,7 @@ ghost use Rattle.depend_graph.specs.Shape.{undone_needs};
 ghost use Rattle.deploy_histories.specs.Events.{Progress, progress, done_status, is_waiting};
 ghost use Rattle.deploy_histories.specs.Legal.{HasEnded};
 ghost use Rattle.task_agenda.specs.Agendas.{count};
-ghost use Rattle.point_values.specs.Seen.{IsSeen};
+ghost use Rattle.task_standings.specs.Seen.{IsSeen};
 ghost use Rattle.task_standings.specs.Failures.{IsFailing};
 ghost use Rattle.task_standings.specs.Outputs.{IsAllSeen};
 ghost use Rattle.task_standings.specs.Standings.{AreScopesSeen};

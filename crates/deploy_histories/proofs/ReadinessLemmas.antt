@@ -3,6 +3,7 @@ use Rattle.std.proofs.Common.{◌≡◌, inl, inr, ℕ, zero, suc, ◌<◌, Bool
 use Rattle.std.proofs.Common.{Option, Some, None, refl, sym, ap, subst, ◌∙◌, arith}
 use Rattle.std.specs.Prelude.{◌&&◌, ◌||◌, not, slice_get, option_map, if◌then◌else◌}
 use Rattle.std.specs.List.{list_any}
+use Rattle.std.proofs.lemmas.Option.{same_Some}
 use Rattle.arm_value.specs.Json.{Json}
 use Rattle.reading.specs.World.{reads_in}
 use Rattle.reading.specs.Knowledge.{Known, known, absent, missing, Told, value, no_value, waits, told, known_value}
@@ -47,18 +48,15 @@ NonePasses test ts = (i : ℕ) (t : Task) → slice_get ts i ≡ Some t → test
 abbrev later : (ℕ → Task → Bool) → ℕ → Task → Bool
 later test n u = test (suc n) u
 
-same_some : {A : Type 0} (a b : A) → Some a ≡ Some b → a ≡ b
-same_some a b e = cc
-
 first_by : (test : ℕ → Task → Bool) (t : Task) (ts : List Task) (v : ℕ) (b : Bool) (o : Option ℕ) → test zero t ≡ b
     → ((w : ℕ) → o ≡ Some w → IsFirst (later test) ts w)
     → (if b then Some zero else option_map (λ n. suc n) o) ≡ Some v → IsFirst test (t ∷ ts) v
 first_by test t ts v true o b rest e =
-    subst (λ (n : ℕ). IsFirst test (t ∷ ts) n) (same_some zero v e)
+    subst (λ (n : ℕ). IsFirst test (t ∷ ts) n) (same_Some zero v e)
     (record { found = t; has = refl; passes = b; before = λ i u h f. absurd (omega arith) })
 first_by test t ts v false None b rest e = cc
 first_by test t ts v false (Some w) b rest e =
-    subst (λ (n : ℕ). IsFirst test (t ∷ ts) n) (same_some (suc w) v e) (after_one (rest w refl))
+    subst (λ (n : ℕ). IsFirst test (t ∷ ts) n) (same_Some (suc w) v e) (after_one (rest w refl))
   where
     after_one : IsFirst (later test) ts w → IsFirst test (t ∷ ts) (suc w)
     after_one f = record {
@@ -70,7 +68,7 @@ first_by test t ts v false (Some w) b rest e =
       where
         earlier : IsFirst (later test) ts w → (i : ℕ) (u : Task) → i < suc w → slice_get (t ∷ ts) i ≡ Some u
             → test i u ≡ false
-        earlier g zero u h e = ap (test zero) (sym (same_some t u e)) ∙ b
+        earlier g zero u h e = ap (test zero) (sym (same_Some t u e)) ∙ b
         earlier g (suc i) u h e = g.before i u (omega arith) e
 
 pub first_is : (test : ℕ → Task → Bool) (ts : List Task) (v : ℕ) → first_task test ts ≡ Some v → IsFirst test ts v
@@ -83,7 +81,7 @@ none_by : (test : ℕ → Task → Bool) (t : Task) (ts : List Task) (b : Bool) 
     → NonePasses test (t ∷ ts)
 none_by test t ts true o b rest e i u h = cc
 none_by test t ts false (Some w) b rest e i u h = cc
-none_by test t ts false None b rest e zero u h = ap (test zero) (sym (same_some t u h)) ∙ b
+none_by test t ts false None b rest e zero u h = ap (test zero) (sym (same_Some t u h)) ∙ b
 none_by test t ts false None b rest e (suc i) u h = rest refl i u h
 
 pub none_is : (test : ℕ → Task → Bool) (ts : List Task) → first_task test ts ≡ None → NonePasses test ts
@@ -104,7 +102,7 @@ pub is_first : (test : ℕ → Task → Bool) (ts : List Task) (v : ℕ) → IsF
 is_first test [] v f = let h = f.has in cc
 is_first test (t ∷ ts) zero f =
     ap (λ (b : Bool). if b then Some zero else option_map (λ n. suc n) (first_task (later test) ts))
-    (ap (test zero) (same_some t f.found f.has) ∙ f.passes)
+    (ap (test zero) (same_Some t f.found f.has) ∙ f.passes)
 is_first test (t ∷ ts) (suc v) f =
     ap (λ (b : Bool). if b then Some zero else option_map (λ n. suc n) (first_task (later test) ts))
     (f.before zero t (omega arith) refl)
@@ -305,7 +303,7 @@ module _ (x : Planned) (t : Table) where
         before = λ b h. absurd h;
         here = n;
       },
-      same_some (fault_of_part x.deployment t a.part) f e,
+      same_Some (fault_of_part x.deployment t a.part) f e,
     ),
   )
 

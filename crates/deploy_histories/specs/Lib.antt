@@ -7,3 +7,14 @@ pub mod Legal
 pub mod Answers
 pub mod Outcome
 pub mod Endings
+pub use Rattle.plan_cells.specs.Children
+pub use Rattle.plan_cells.specs.Desired
+pub use Rattle.plan_cells.specs.Known
+pub use Rattle.plan_cells.specs.Meaning
+pub use Rattle.plan_cells.specs.Reads
+pub use Rattle.plan_cells.specs.Resources
+pub use Rattle.plan_cells.specs.Scopes
+pub use Rattle.plan_cells.specs.Sites
+pub use Rattle.plan_cells.specs.Start
+pub use Rattle.plan_cells.specs.TaskOf
+pub use Rattle.plan_cells.specs.Tasks

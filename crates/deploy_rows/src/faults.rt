@@ -42,6 +42,15 @@ fn each_call_of_the_tree_is_told(rt: HostRuntime) -> Result<(), Fail> {
     check_tree(&rt, rt.alloc(), (WITH_FILE, THREE), 3, "0 Succeeded first")
 }
 
+// The status, and what is printed of the storage account.
+const WHOLE: &str = "0 Succeeded first\nblob=\"https://stve2cs42otwiw2.blob.core.windows.net/\"";
+
+#[test]
+fn a_file_that_is_read_once_is_one_call(rt: HostRuntime) -> Result<(), Fail> {
+    check_tree(&rt, rt.alloc(), (WORDS, STORAGE), 0, "4 fault tree")?;
+    check_tree(&rt, rt.alloc(), (WORDS, STORAGE), 1, WHOLE)
+}
+
 // Compares what is printed of a deployment where the call of this number of the output fails.
 fn check_out<R: Threads + Wait + Sync>(
     rt: &R,
@@ -56,8 +65,21 @@ fn check_out<R: Threads + Wait + Sync>(
     check_run(rt, alloc, (WORDS, STORAGE, wanted), failing)
 }
 
+// What is printed of the storage account: 70 bytes, in ten calls of seven.
+const PRINTED: &str = "Succeeded first\nblob=\"https://stve2cs42otwiw2.blob.core.windows.net/\"\n";
+
+// Compares what is printed where the call of this number of the output fails: what the calls before it took.
+fn check_cut<R: Threads + Wait + Sync>(rt: &R, alloc: Global, call: u64) -> Result<(), Fail> {
+    let taken = call.saturating_mul(7) as usize;
+    let begun = PRINTED.get(..taken).unwrap_or("none");
+    let wanted = format!(in alloc; "5 {begun}")?;
+    check_out(rt, alloc, call, wanted.as_str())
+}
+
 #[test]
-fn an_output_that_fails_ends_with_status_five(rt: HostRuntime) -> Result<(), Fail> {
-    check_out(&rt, rt.alloc(), 0, "5 ")?;
-    check_out(&rt, rt.alloc(), 1, "5 Succeed")
+fn each_call_of_the_output_is_told(rt: HostRuntime) -> Result<(), Fail> {
+    for call in 0..10 {
+        check_cut(&rt, rt.alloc(), call)?;
+    }
+    check_out(&rt, rt.alloc(), 10, WHOLE)
 }

@@ -16,3 +16,9 @@ mod outcomes;
 mod refusals;
 #[cfg(test)]
 mod rows;
+#[cfg(test)]
+mod second;
+#[cfg(test)]
+mod sizes;
+#[cfg(test)]
+mod sources;

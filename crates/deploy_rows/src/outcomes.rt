@@ -100,7 +100,43 @@ output size int = Size
 {"parameters":{"word":{"value":"x"},"size":{"value":3}}}
 => 0 Succeeded d
 same="x"
-size=3"#;
+size=3
+
+deploy main.bicep --group g --name e --mode complete
+=> 0 Succeeded e
+
+deploy main.bicep --group=G --subscription s --name d
+resource a 'Demo.Lab/things@2024-01-01' = { name: 'a' }
+output id string = a.id
+=> 0 Succeeded d
+id="/subscriptions/s/resourceGroups/G/providers/Demo.Lab/things/a"
+
+deploy main.bicep --group g --name d
+param p bool = true
+resource a 'Demo.Lab/things@2024-01-01' = if (p) { name: 'a' }
+resource b 'Demo.Lab/things@2024-01-01' = if (!p) { name: 'a' }
+output id string = a.id
+=> 0 Succeeded d
+id="§Demo.Lab/things/a"
+
+deploy main.bicep --group g --name d
+output z string = 'last'
+output a string = 'first'
+output B int = 2
+=> 0 Succeeded d
+B=2
+a="first"
+z="last"
+
+deploy main.bicep --group g --name d
+@batchSize(2)
+resource a 'Demo.Lab/things@2024-01-01' = [for i in range(0, 5): {
+  name: 'a${i}'
+  properties: { n: i }
+}]
+output n int = a[4].properties.n
+=> 0 Succeeded d
+n=4"#;
 
 #[test]
 fn deployments_that_succeed(rt: HostRuntime) -> Result<(), Fail> {
@@ -108,6 +144,21 @@ fn deployments_that_succeed(rt: HostRuntime) -> Result<(), Fail> {
 }
 
 const FAILURES: &str = r#"deploy main.bicep --group g --name d
+param use bool = true
+resource st 'Demo.Lab/things@2024-01-01' existing = { name: 'st' }
+var p = st.properties.no.deep
+output o string = use ? p : 'none'
+=> 3 Failed d: NoValue: leave /: /outputs/o/value
+
+deploy main.bicep --group g --name d
+resource a 'Demo.Lab/things@2024-01-01' = {
+  name: 'a'
+  properties: { x: 'y' }
+}
+output o int = a.properties.x
+=> 3 Failed d: InvalidParameter: leave /: WrongType o
+
+deploy main.bicep --group g --name d
 resource st 'Demo.Lab/things@2024-01-01' existing = { name: 'st' }
 output o string = st.properties.no.deep
 => 3 Failed d: NoValue: leave /: /outputs/o/value

@@ -84,6 +84,27 @@ fn parameters_and_names(rt: HostRuntime) -> Result<(), Fail> {
     check_rows(&rt, rt.alloc(), PARAMETERS)
 }
 
+const NAMES: &str =
+    r#"deploy main.bicep --group gggggggggggggggggggggggggggggg----------..........(((((((((())))))))))__________9999999999 --name nnnnnnnnnnnnnnnnnnnnnnnnnnnnnn----------.(_).(_).(_).(_).(_).(_)
+=> 0 Succeeded nnnnnnnnnnnnnnnnnnnnnnnnnnnnnn----------.(_).(_).(_).(_).(_).(_)
+
+deploy main.bicep --group gggggggggggggggggggggggggggggg----------..........(((((((((())))))))))__________9999999999G --name d
+=> 1 error InvalidParameter: BadName gggggggggggggggggggggggggggggg----------..........(((((((((())))))))))__________9999999999G
+
+deploy main.bicep --group g --name nnnnnnnnnnnnnnnnnnnnnnnnnnnnnn----------.(_).(_).(_).(_).(_).(_)N
+=> 1 error InvalidParameter: BadName nnnnnnnnnnnnnnnnnnnnnnnnnnnnnn----------.(_).(_).(_).(_).(_).(_)N
+
+deploy main.bicep --group g --name=-
+=> 1 error InvalidParameter: BadName -
+
+deploy main.bicep --group .(g)_- --name .(d)_-
+=> 0 Succeeded .(d)_-"#;
+
+#[test]
+fn names_at_and_beyond_their_limits(rt: HostRuntime) -> Result<(), Fail> {
+    check_rows(&rt, rt.alloc(), NAMES)
+}
+
 const TEMPLATES: &str = r#"deploy main.bicep --group g --name d
 resource a 'Demo.Lab/things@2024-01-01' = if (true) { name: 'a' }
 resource b 'Demo.Lab/things@2024-01-01' = if (true) { name: 'a' }

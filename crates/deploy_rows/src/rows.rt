@@ -30,10 +30,10 @@ fn apart(alloc: Global, text: &str) -> Result<Vec<String>, AllocError> {
     Ok(words)
 }
 
-fn file_of(alloc: Global, name: &str, text: &str) -> Result<MemFile, AllocError> {
+fn file_of(alloc: Global, name: &str, bytes: &[u8]) -> Result<MemFile, AllocError> {
     Ok(MemFile {
         name: String::from_str(alloc, name)?,
-        bytes: Bytes::from_vec(Vec::from_slice(alloc, text.as_bytes())?),
+        bytes: Bytes::from_vec(Vec::from_slice(alloc, bytes)?),
     })
 }
 
@@ -51,7 +51,7 @@ fn folder(alloc: Global, text: &str, fails: &[u64]) -> Result<MemTree, AllocErro
     let mut files = Vec::new(alloc);
     for part in text.split("\n--- ") {
         let (name, text) = named(part, files.is_empty());
-        files.push(file_of(alloc, name, text)?)?;
+        files.push(file_of(alloc, name, text.as_bytes())?)?;
     }
     Ok(MemTree::new(alloc, files, fails.to_vec(alloc)?))
 }
@@ -67,7 +67,7 @@ fn no_disk(alloc: Global) -> Result<MemDisk, AllocError> {
 }
 
 // Four seats over the catalogue.
-#[tactic(auto, using(deploy_cli::proofs::SeatLemmas::fresh))]
+#[tactic(auto, using(worker_crew::proofs::SeatLemmas::fresh))]
 fn crew_of(alloc: Global) -> Result<Vec<Seat<Catalog>>, AllocError>
     ensures { spec.IfOk result spec.AreFree }
 {
@@ -150,6 +150,19 @@ pub const NONE: Failing<'static> = Failing {
     out: &[],
 };
 
+// The status of these words over that tree, and what is printed. The calls of the output of those numbers fail.
+fn ran_over<R: Threads + Wait + Sync>(
+    rt: &R,
+    alloc: Global,
+    words: &str,
+    tree: &mut MemTree,
+    fails: &[u64],
+) -> Result<String, Fail> {
+    let mut out = sink_of(alloc, fails)?;
+    let printed = printed(rt, alloc, words, tree, &mut out);
+    letting_go(printed, out)
+}
+
 // The status of these words over these files, and what is printed.
 fn ran<R: Threads + Wait + Sync>(
     rt: &R,
@@ -159,9 +172,8 @@ fn ran<R: Threads + Wait + Sync>(
     failing: Failing,
 ) -> Result<String, Fail> {
     let mut tree = folder(alloc, files, failing.tree)?;
-    let mut out = sink_of(alloc, failing.out)?;
-    let printed = printed(rt, alloc, words, &mut tree, &mut out);
-    letting_go(printed, (tree, out))
+    let found = ran_over(rt, alloc, words, &mut tree, failing.out);
+    letting_go(found, tree)
 }
 
 // Adds a character of what is wanted, or what it is in the place of.
@@ -220,4 +232,28 @@ pub fn check_rows<R: Threads + Wait + Sync>(rt: &R, alloc: Global, rows: &str) -
         check_row(rt, alloc, row)?;
     }
     Ok(())
+}
+
+// A tree whose file `main.bicep` has these bytes.
+fn tree_of(alloc: Global, bytes: &[u8]) -> Result<MemTree, AllocError> {
+    let mut files = Vec::new(alloc);
+    files.push(file_of(alloc, "main.bicep", bytes)?)?;
+    Ok(MemTree::new(alloc, files, Vec::new(alloc)))
+}
+
+fn compare_found(found: Result<String, Fail>, wanted: &str) -> Result<(), Fail> {
+    compare("the bytes", found?.as_str().trim_end(), wanted)
+}
+
+/// Compares what is printed of the deployment of a main file of these bytes with what is wanted.
+pub fn check_bytes<R: Threads + Wait + Sync>(
+    rt: &R,
+    alloc: Global,
+    bytes: &[u8],
+    wanted: &str,
+) -> Result<(), Fail> {
+    let mut tree = tree_of(alloc, bytes)?;
+    let words = "deploy main.bicep --group g --name d";
+    let found = ran_over(rt, alloc, words, &mut tree, &[]);
+    compare_found(letting_go(found, tree), wanted)
 }

@@ -1,7 +1,4 @@
-//! Tests that cross crates, and the plain programs that they compare with.
-//!
-//! A plain program computes an answer in the slowest and most literal way, and its contract is the
-//! definition itself (`specs/Edges`). Tests run it beside the crate that keeps counts and lists.
+//! Tests of whole deployments: what is printed, the status, and the calls of the providers.
 #![tactic(auto)]
 
 #[cfg(test)]
@@ -9,7 +6,8 @@ mod calls;
 #[cfg(test)]
 mod checks;
 #[cfg(test)]
-mod graphs;
-pub mod plain_graph;
+mod first_path;
 #[cfg(test)]
-mod providers;
+mod real_files;
+#[cfg(test)]
+mod seats;

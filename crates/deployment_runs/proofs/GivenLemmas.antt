@@ -28,7 +28,7 @@ use Rattle.deploy_histories.specs.Events.{after_all, after_answer, at_opening, p
 use Rattle.deploy_histories.specs.Legal.{IsLegal, IsLegalFrom}
 use Rattle.deploy_histories.specs.Outcome.{Target, target_of, IsGivenTo, IsGiven, AreGiven}
 use Rattle.history_laws.proofs.Steps.{at_itself, at_other, start_waits}
-use Rattle.board_dealing.specs.Boards.{job_of}
+use Rattle.deploy_core.specs.Boards.{job_of}
 use Rattle.deploy_core.specs.Steps as board
 use Rattle.deploy_core.specs.Steps.{begins, open_job, steps_after, steps_from, or_later, has_crash, until_crash}
 

@@ -1,3 +1,5 @@
 pub mod OrderlyLemmas
 pub mod SourceLemmas
+pub mod CauseLemmas
+pub mod CompleteLemmas
 pub use Rattle.request_deployments.proofs.RunLemmas

@@ -15,7 +15,7 @@ use Rattle.plan_cells.specs.Desired.{Satisfies}
 use Rattle.request_deployments.specs.Deployed.{place_in}
 use Rattle.request_deployments.specs.Refused.{IsRefused}
 use Rattle.request_deployments.specs.Requested.{IsAsked}
-use Rattle.run_reports.specs.declared.outcome.Outcome.{Outcome}
+use Rattle.request_deployments.specs.Outcome.{Outcome}
 use Rattle.source_builds.specs.Builds.{IsBuilt}
 use Rattle.source_builds.specs.Refusals.{IsNotBuilt}
 use Rattle.source_deployments.specs.Laws.{IsOfSource}

@@ -1,6 +1,8 @@
 pub mod Sides
 pub mod Counts
 pub mod Commands
+pub mod Causes
+pub mod Completeness
 pub mod Theorem
 pub mod Laws
 pub use Rattle.source_builds.specs.Builds

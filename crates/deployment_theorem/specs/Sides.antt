@@ -4,9 +4,9 @@ use Rattle.bicep_program.specs.Sources.{Folder, folder_of}
 use Rattle.command_reports.specs.Reports.{Output}
 use Rattle.request_deployments.specs.Tells.{tells}
 use Rattle.request_deployments.specs.Requested.{Files}
-use Rattle.run_reports.specs.Deployments.{Surroundings}
-use Rattle.run_reports.specs.Reported.{surroundings}
-use Rattle.run_reports.specs.Sides.{ProviderSide}
+use Rattle.request_deployments.specs.Deployments.{Surroundings}
+use Rattle.request_deployments.specs.Reported.{surroundings}
+use Rattle.request_deployments.specs.Sides.{ProviderSide}
 use Rattle.seat_calls.specs.Called.{Kind}
 use Rattle.seat_calls.specs.declared.seat.Seat.{Seat}
 

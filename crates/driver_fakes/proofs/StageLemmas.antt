@@ -14,7 +14,7 @@ use Rattle.driver_fakes.specs.Stages.{is_waiting, is_open, is_done, stage_after,
 use Rattle.driver_fakes.specs.Stages.{has_refusal, stage_at, count_open, is_ready, is_ready_at}
 use Rattle.driver_fakes.specs.declared.stage.Stage.{Stage}
 use Rattle.driver_fakes.specs.declared.stage.Stage.TheVariants.{Waiting, Open, Done}
-use Rattle.foundation.proofs.TruthValues.{or_assoc, or_false}
+use Rattle.foundation.proofs.TruthValues.{or_assoc, or_false, first_of_both, never_true}
 
 -- ---- one step more
 
@@ -23,12 +23,6 @@ pub stage_from-push : (task : ℕ) (stage : Stage) (steps : List DealerStep) (st
 unfolding stage_from
 stage_from-push task stage [] step = refl
 stage_from-push task stage (s ∷ rest) step = stage_from-push task (stage_after task stage s) rest step
-
-pub or_comm : (a b : Bool) → (a || b) ≡ (b || a)
-or_comm true true = refl
-or_comm true false = refl
-or_comm false true = refl
-or_comm false false = refl
 
 pub has_refusal-push : (steps : List DealerStep) (step : DealerStep)
     → has_refusal (steps ++ step ∷ []) ≡ (has_refusal steps || is_refusal step)
@@ -95,14 +89,10 @@ done_is Waiting e = absurd (cc)
 done_is Open e = absurd (cc)
 done_is Done e = refl
 
-and_first : (a b : Bool) → (a && b) ≡ true → a ≡ true
-and_first true b e = refl
-and_first false b e = absurd (cc)
-
 -- a task that may begin waits
 pub ready_waits : (stages : List Stage) (needs : List ℕ) (task : ℕ) → is_ready_at stages needs task ≡ true
     → stage_at stages task ≡ Waiting
-ready_waits stages needs task e = waiting_is (stage_at stages task) (and_first _ _ e)
+ready_waits stages needs task e = waiting_is (stage_at stages task) (first_of_both _ _ e)
 
 not_ready : (s : Stage) (b : Bool) → s ≡ Done → (is_waiting s && b) ≡ false
 not_ready Done b e = refl
@@ -232,10 +222,7 @@ set_other true s x e n = absurd (n refl)
 set_other false s x e n = e
 
 same_place : (task k : ℕ) → eqb task k ≡ true → task ≡ k
-same_place task k e = elim (eqb_tells task k) [ inl p ↦ p.1 | inr q ↦ absurd (not_both (eqb task k) q.0 e) ]
-  where
-    not_both : (b : Bool) → b ≡ false → b ≡ true → ⊥
-    not_both b f t = cc
+same_place task k e = elim (eqb_tells task k) [ inl p ↦ p.1 | inr q ↦ absurd (never_true (eqb task k) q.0 e) ]
 
 -- the tasks that are done stay so, where another task gets a stage
 pub done_after : (stages : List Stage) (task low : ℕ) (s : Stage) → task < length stages

@@ -2,6 +2,7 @@
 use Rattle.std.proofs.Common.{arith, true, false, cond, eqb, ◌≡◌, ◌≢◌, ◌<◌, ⊎_elim, ℕ, zero, suc, List, [], ◌∷◌}
 use Rattle.std.proofs.Common.{◌++◌, refl, sym, ap, ◌∙◌, subst, length, get_or, set, Option, None, Some, eq-eqb, ne_eqb}
 use Rattle.std.proofs.lemmas.Bool.Decides.{eqb_tells}
+use Rattle.std.proofs.lemmas.Option.{same_Some}
 use Rattle.provider_trait.specs.Work.{Work}
 use Rattle.dealer_trait.specs.declared.dealer_step.DealerStep.{DealerStep}
 use Rattle.dealer_trait.specs.declared.dealer_step.DealerStep.TheVariants.{Begin}
@@ -37,9 +38,6 @@ else_set (x ∷ l) zero (suc j) a d n = refl
 else_set (x ∷ l) (suc i) zero a d n = refl
 else_set (x ∷ l) (suc i) (suc j) a d n = else_set l i j a d (λ e. n (ap suc e))
 
-some_same : {A : Type 0} (a b : A) → Some a ≡ Some b → a ≡ b
-some_same a b e = cc
-
 no_some : {A : Type 0} (o : Option A) (a : A) → o ≡ None → o ≡ Some a → ⊥
 no_some o a p q = cc
 
@@ -53,7 +51,7 @@ module _ (steps : List DealerStep) (opens : List (Option OpenJob)) (tied : Tied 
         (λ (x : (eqb j k ≡ true) × (j ≡ k)).
         let own : Some o ≡ Some p = sym (here_set opens k (Some o) None low)
         ∙ ap (λ n. open_at (set opens k (Some o)) n) (sym x.1) ∙ e in
-        subst (λ (y : ℕ × OpenJob). IsRight (steps ++ Begin job ∷ []) y.0 y.1) (λ i. (sym x.1 i, some_same o p own i))
+        subst (λ (y : ℕ × OpenJob). IsRight (steps ++ Begin job ∷ []) y.0 y.1) (λ i. (sym x.1 i, same_Some o p own i))
         (record {
           task = task ∙ ap (λ (b : Work). b.task) (sym is);
           act = act ∙ ap (λ (b : Work). b.act) (sym is);
@@ -77,7 +75,7 @@ module _ (steps : List DealerStep) (opens : List (Option OpenJob)) (tied : Tied 
         (eqb_tells j k);
     all = λ t b e. ⊎_elim
         (λ (x : (eqb job.task t ≡ true) × (job.task ≡ t)).
-        let own : job ≡ b = some_same job b (sym (begun_more t steps (Begin job)
+        let own : job ≡ b = same_Some job b (sym (begun_more t steps (Begin job)
         ∙ cond_true (eqb job.task t) (Some job) (begun t steps) x.0) ∙ e) in (
           ap (λ (y : Work). y.task) (sym own) ∙ x.1,
           ap (λ (y : Work). job_at (set opens k (Some o)) y.worker) (sym own)
@@ -107,7 +105,7 @@ module _ (steps : List DealerStep) (opens : List (Option OpenJob)) (tied : Tied 
             (λ (x : (eqb j k ≡ false) × (j ≢ k)).
             let r = tied.right j p (sym (else_set opens k j None None x.1) ∙ e) in
             let other : o.task ≢ p.task = λ t. x.1 (sym r.worker
-            ∙ ap (λ (y : Work). y.worker) (some_same p.job.value o.job.value (sym r.open_there
+            ∙ ap (λ (y : Work). y.worker) (same_Some p.job.value o.job.value (sym r.open_there
             ∙ ap (λ n. begun n steps) (sym t) ∙ mine.open_there)) ∙ mine.worker) in
             record {
               task = r.task;
@@ -126,7 +124,7 @@ module _ (steps : List DealerStep) (opens : List (Option OpenJob)) (tied : Tied 
             let a = tied.all t b (sym (begun_more t steps s ∙ ends t (begun t steps)
             ∙ cond_false (eqb o.task t) None (begun t steps) x.0) ∙ e) in
             let other : b.worker ≢ k = λ w. x.1 (mine.task
-            ∙ ap (λ (y : Work). y.task) (some_same o.job.value b (sym (ap job_in was)
+            ∙ ap (λ (y : Work). y.task) (same_Some o.job.value b (sym (ap job_in was)
             ∙ ap (λ n. job_at opens n) (sym w) ∙ a.1)) ∙ a.0) in (
               a.0,
               ap job_in (else_set opens k b.worker None None other) ∙ a.1,

@@ -1,5 +1,6 @@
 -- What is begun after one step more.
-use Rattle.std.proofs.Common.{◌≡◌, ℕ, List, [], ◌∷◌, ◌++◌, Option, None, Some, refl, sym, ◌∙◌}
+use Rattle.std.proofs.Common.{◌≡◌, ℕ, List, [], ◌∷◌, ◌++◌, Option, None, Some, refl}
+use Rattle.std.proofs.lemmas.Option.{same_Some}
 use Rattle.provider_trait.specs.Work.{Work}
 use Rattle.provider_trait.specs.Answer.{Suits}
 use Rattle.provider_trait.specs.declared.act.Act.{Act}
@@ -21,12 +22,9 @@ pub record IsBegunAs (was : Option Work) (act : Act) : Type 0 where
   pub is : was ≡ Some job
   pub act_is : job.act ≡ act
 
-act_same : (a b : Act) → Some a ≡ Some b → a ≡ b
-act_same a b e = cc
-
 pub begun_as : (was : Option Work) (act : Act) → act_of was ≡ Some act → IsBegunAs was act
 begun_as None act e = absurd (cc)
-begun_as (Some job) act e = record { job = job; is = refl; act_is = act_same job.act act e }
+begun_as (Some job) act e = record { job = job; is = refl; act_is = same_Some job.act act e }
 
 pub suits_refused : (act : Act) (code : List ℕ) → Suits act (Refused code)
 suits_refused Put code = tt

@@ -14,17 +14,17 @@ use Rattle.bicep_tree.specs.declared.leaf.Operator.{Operator}
 use Rattle.bicep_tree.specs.declared.leaf.Operator.TheVariants as o
 use Rattle.bicep_tree.specs.declared.leaf.Prefix.{Prefix}
 use Rattle.bicep_tree.specs.declared.leaf.Prefix.TheVariants as prefix
-use Rattle.arm_functions.specs.Table.{table, row_in}
-use Rattle.bicep_names.specs.Functions.{may_call, reserved}
-use Rattle.bicep_resolved.specs.declared.leaf.Field.{Field}
-use Rattle.bicep_resolved.specs.declared.leaf.Field.TheVariants as field
-use Rattle.bicep_resolved.specs.declared.leaf.Meaning.{Meaning}
-use Rattle.bicep_resolved.specs.declared.leaf.Meaning.TheVariants as m
-use Rattle.bicep_resolved.specs.declared.leaf.Selector.{Selector}
-use Rattle.bicep_resolved.specs.declared.leaf.Selector.TheVariants as selector
-use Rattle.bicep_resolved.specs.Source.{SourceTree, SourceTrees, PieceTrees, ReachTree, PropertyTrees, ValueTree}
-use Rattle.bicep_resolved.specs.Source as s
-use Rattle.bicep_resolved.specs.Target.{number_of, target_of}
+use Rattle.bicep_declared.specs.Table.{table, row_in}
+use Rattle.bicep_declared.specs.Functions.{may_call, reserved}
+use Rattle.bicep_declared.specs.Field.{Field}
+use Rattle.bicep_declared.specs.Field.TheVariants as field
+use Rattle.bicep_declared.specs.Meaning.{Meaning}
+use Rattle.bicep_declared.specs.Meaning.TheVariants as m
+use Rattle.bicep_declared.specs.Selector.{Selector}
+use Rattle.bicep_declared.specs.Selector.TheVariants as selector
+use Rattle.bicep_declared.specs.Source.{SourceTree, SourceTrees, PieceTrees, ReachTree, PropertyTrees, ValueTree}
+use Rattle.bicep_declared.specs.Source as s
+use Rattle.bicep_declared.specs.Target.{number_of, target_of}
 use Rattle.bicep_meaning_laws.specs.Files.{SourceFile, symbol_name, type_of}
 use Rattle.declaration_laws.specs.Emittable.{IsEmittable, AreEmittable, AreHoles, AreMembers, IsValue, IsReach}
 use Rattle.declaration_laws.specs.Emitted.{Frame, Scope, element, three, item_of, index_of, parameter_of, literal_of}

@@ -8,14 +8,13 @@ use Rattle.foundation.proofs.Lists.{map-push}
 use Rattle.arm_ids.specs.Segments.{segments}
 use Rattle.arm_expr.specs.Tree.{Tree, text, int, call, index, more, trees}
 use Rattle.bicep_tree.specs.declared.leaf.Literal.TheVariants as l
-use Rattle.bicep_resolved.specs.Source.{SourceTree, ReachTree, ValueTree, LoopTree}
-use Rattle.bicep_resolved.specs.Source as s
-use Rattle.bicep_resolved.specs.Target.{number_of, target_of}
+use Rattle.bicep_declared.specs.Source.{SourceTree, ReachTree, ValueTree, LoopTree, field_named}
+use Rattle.bicep_declared.specs.Source as s
+use Rattle.bicep_declared.specs.Target.{number_of, target_of}
 use Rattle.bicep_meaning_laws.specs.Mentions.{mentions}
 use Rattle.bicep_declared.specs.Declarations.{BodyTree, DeclaredTree}
 use Rattle.bicep_declared.specs.Declarations as d
 use Rattle.bicep_meaning_laws.specs.Files.{SourceFile, symbol_name, declaration, Parent, no_parent, inside}
-use Rattle.bicep_resolved.specs.Source.{field_named}
 use Rattle.bicep_meaning_laws.specs.Files.{below}
 use Rattle.bicep_meaning_laws.specs.Files.{parent, type_of}
 use Rattle.bicep_meaning_laws.specs.Declared.{body_of, body_at}

@@ -2,13 +2,13 @@
 use Rattle.std.proofs.Common.{◌≡◌, ℕ, List, [], ◌∷◌, ◌++◌, codes, refl, ap, ◌∙◌}
 use Rattle.arm_expr.specs.Tree.{text, call, more}
 use Rattle.reading.specs.World.{Each}
-use Rattle.bicep_resolved.specs.declared.leaf.Field.{Field}
-use Rattle.bicep_resolved.specs.declared.leaf.Field.TheVariants as field
-use Rattle.bicep_resolved.specs.declared.leaf.Meaning.{Meaning}
-use Rattle.bicep_resolved.specs.declared.leaf.Meaning.TheVariants as m
-use Rattle.bicep_resolved.specs.Source.{SourceTree, SourceTrees, PieceTrees, ReachTree, PropertyTrees, ValueTree}
-use Rattle.bicep_resolved.specs.Source as s
-use Rattle.bicep_resolved.specs.Target.{number_of, target_of}
+use Rattle.bicep_declared.specs.Field.{Field}
+use Rattle.bicep_declared.specs.Field.TheVariants as field
+use Rattle.bicep_declared.specs.Meaning.{Meaning}
+use Rattle.bicep_declared.specs.Meaning.TheVariants as m
+use Rattle.bicep_declared.specs.Source.{SourceTree, SourceTrees, PieceTrees, ReachTree, PropertyTrees, ValueTree}
+use Rattle.bicep_declared.specs.Source as s
+use Rattle.bicep_declared.specs.Target.{number_of, target_of}
 use Rattle.bicep_meaning_laws.specs.Mentions.{mentions, reach_mentions, all_mentions, piece_mentions, property_mentions}
 use Rattle.bicep_meaning_laws.specs.Mentions.{value_mentions, name_mentions}
 use Rattle.bicep_meaning_laws.specs.Files.{SourceFile, type_of}

@@ -5,17 +5,16 @@ use Rattle.std.proofs.Common.{ap, ◌∙◌, cond, arith, codes}
 use Rattle.std.specs.Prelude.{bytes_eq, option_and_then}
 use Rattle.arm_expr.specs.Tree.{Tree, call}
 use Rattle.reading.specs.World.{Each}
-use Rattle.bicep_names.specs.declared.kind.Kind.{Kind}
-use Rattle.bicep_names.specs.declared.kind.Kind.TheVariants as k
-use Rattle.bicep_resolved.specs.Source.{SourceTree, ReachTree, PropertyTrees, ValueTree, LoopTree}
-use Rattle.bicep_resolved.specs.Source as s
-use Rattle.bicep_resolved.specs.Target.{number_of, target_of}
+use Rattle.bicep_declared.specs.Kind.{Kind}
+use Rattle.bicep_declared.specs.Kind.TheVariants as k
+use Rattle.bicep_declared.specs.Source.{SourceTree, ReachTree, PropertyTrees, ValueTree, LoopTree, field_named}
+use Rattle.bicep_declared.specs.Source as s
+use Rattle.bicep_declared.specs.Target.{number_of, target_of}
 use Rattle.bicep_declared.specs.Declarations.{BodyTree, DeclaredTree}
 use Rattle.bicep_declared.specs.Declarations as d
 use Rattle.bicep_meaning_laws.specs.Mentions.{mentions, reach_mentions, property_mentions, value_mentions, each_mentions}
 use Rattle.bicep_meaning_laws.specs.Mentions.{condition_mentions, body_mentions}
 use Rattle.bicep_meaning_laws.specs.Files.{SourceFile, symbol_kind, symbol_name, declaration, Parent, no_parent}
-use Rattle.bicep_resolved.specs.Source.{field_named}
 use Rattle.bicep_meaning_laws.specs.Files.{inside, below, below_value, fields_parent, inside_or, around_kind, parent}
 use Rattle.bicep_meaning_laws.specs.Files.{type_of}
 use Rattle.bicep_meaning_laws.specs.Declared.{body_of}

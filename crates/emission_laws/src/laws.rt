@@ -1,6 +1,6 @@
 // What holds of all emitted declarations. A law has no body: its contract is the law.
 ghost use Rattle.std.specs.Prelude.{◌≡◌, ◌<◌, ℕ, List};
-ghost use Rattle.bicep_resolved.specs.Source.{SourceTree};
+ghost use Rattle.bicep_declared.specs.Source.{SourceTree};
 ghost use Rattle.bicep_meaning_laws.specs.Files.{SourceFile};
 ghost use Rattle.bicep_meaning_laws.specs.Ranked.{IsRanked};
 ghost use Rattle.declaration_laws.specs.Emitted.{Frame, emitted};

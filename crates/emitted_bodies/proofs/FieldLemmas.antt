@@ -5,7 +5,7 @@ use Rattle.bicep_resolved.specs.Source.{PropertyTrees}
 use Rattle.bicep_resolved.specs.Source as s
 use Rattle.bicep_resolved.specs.View.{PropertyTree, properties}
 use Rattle.bicep_meaning.specs.Instances.{is_own, body_fields}
-use Rattle.bicep_emission.specs.Emitted.{Frame}
+use Rattle.measured_expressions.specs.Emitted.{Frame}
 use Rattle.emitted_expressions.specs.Sight.{Sight}
 use Rattle.tree_building.specs.Built.{Members, all_grown}
 use Rattle.tree_building.specs.Depth.{members_depth}

@@ -2,9 +2,9 @@
 use Rattle.std.specs.Prelude.{List}
 use Rattle.bicep_resolved.specs.Source.{PropertyTrees}
 use Rattle.bicep_meaning.specs.Instances.{body_fields}
-use Rattle.bicep_emission.specs.Emitted.{Frame}
+use Rattle.measured_expressions.specs.Emitted.{Frame}
 use Rattle.emitted_expressions.specs.Sight.{Sight}
-use Rattle.emitted_trees.specs.Templates.{TemplateMembers}
+use Rattle.tree_building.specs.Templates.{TemplateMembers}
 use Rattle.tree_building.specs.Sight as spec
 
 -- all fields but `name`, `parent` and `dependsOn`

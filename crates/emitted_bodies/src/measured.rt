@@ -1,7 +1,7 @@
 //! How much of the limits of templates bodies take.
 ghost use Rattle.std.specs.Prelude.{◌∷◌, [], map};
 ghost use Rattle.bicep_resolved.specs.View.{property_of, properties};
-ghost use Rattle.emitted_trees.specs.Templates as t;
+ghost use Rattle.tree_building.specs.Templates as t;
 ghost use Rattle.measured_trees.specs.Extremes.{tree_extremes, members_extremes};
 ghost use Rattle.measured_trees.specs.Measures.{Takes};
 ghost use Rattle.emitted_bodies.specs.Bodies.{body_members};

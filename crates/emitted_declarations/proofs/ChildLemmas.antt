@@ -6,6 +6,7 @@ use Rattle.std.proofs.lemmas.List.{length-map}
 use Rattle.std.proofs.lemmas.Bool.Decides.{nat_tests}
 use Rattle.std.specs.Prelude.{◌==◌, nat_lt, option_map, option_and_then, if◌then◌else◌}
 use Rattle.std.specs.List.{list_any}
+use Rattle.std.proofs.lemmas.Bool.{not_from_false}
 use Rattle.foundation.proofs.TruthValues.{both, and_true, both_ways, or_left, or_right, nor, of_not}
 use Rattle.arm_value.specs.Json.{Json, null, bool, int, text, array, object}
 use Rattle.arm_value.specs.Look.{fold}
@@ -14,23 +15,13 @@ use Rattle.arm_ids.specs.Segments.{segments, is_empty, has_slash}
 use Rattle.arm_ids.specs.declared.id.Place.{Place}
 use Rattle.arm_ids.specs.declared.id.ResourceId.{ResourceId}
 use Rattle.arm_ids.proofs.SegmentLemmas.{any_empty-fold}
-use Rattle.function_texts.specs.Cuts.{texts_in}
+use Rattle.function_prints.specs.Cuts.{texts_in}
 use Rattle.function_numbers.specs.Kinds.{text_of}
 use Rattle.bicep_emission.specs.Declared.{id_after, id_with}
 use Rattle.bicep_emission.specs.Made.{made, is_made, made_whole}
 use Rattle.emitted_declarations.specs.Parts.{made_of}
 use Rattle.emitted_declarations.specs.ChildTypes.{IsChildType}
-use Rattle.foundation.proofs.Comparisons.{positive}
-
-true_not : (b : Bool) → b ≡ false → not b ≡ true
-true_not true e = absurd cc
-true_not false e = refl
-
-lengths_equal : (m n : ℕ) → (m == n) ≡ true → m ≡ n
-lengths_equal m n e = grind (arith, nat_tests)
-
-equal_lengths : (m n : ℕ) → m ≡ n → (m == n) ≡ true
-equal_lengths m n e = grind (arith, nat_tests)
+use Rattle.foundation.proofs.Comparisons.{positive, eq_of_true, eq_true}
 
 is_positive : (n : ℕ) → 0 < n → nat_lt 0 n ≡ true
 is_positive n h = grind (arith, nat_tests)
@@ -76,7 +67,7 @@ whole_is place kind ns e =
       group = or_left (is_empty place.group) (list_any is_empty (segments kind ++ ns)) r;
       types = any_front is_empty (segments kind) ns q;
       names = any_back is_empty (segments kind) ns q;
-      paired = lengths_equal (length (segments kind)) (suc (length ns)) b.0;
+      paired = eq_of_true (length (segments kind)) (suc (length ns)) b.0;
       some = positive (length ns) b.1;
     }
 
@@ -85,12 +76,12 @@ is_whole_of : (place : Place) (kind : List ℕ) (ns : List (List ℕ)) → IsWho
 is_whole_of place kind ns w =
     and_true (not (has_empty_segment (made place kind ns))) ((length (segments kind) == suc (length ns)) && nat_lt 0
     (length ns))
-    (true_not (has_empty_segment (made place kind ns))
+    (not_from_false (has_empty_segment (made place kind ns))
     (nor (is_empty place.subscription) (is_empty place.group || list_any is_empty (segments kind ++ ns)) w.subscription
     (nor (is_empty place.group) (list_any is_empty (segments kind ++ ns)) w.group
     (any_none is_empty (segments kind) ns w.types w.names))))
     (and_true (length (segments kind) == suc (length ns)) (nat_lt 0 (length ns))
-    (equal_lengths (length (segments kind)) (suc (length ns)) w.paired) (is_positive (length ns) w.some))
+    (eq_true (length (segments kind)) (suc (length ns)) w.paired) (is_positive (length ns) w.some))
 
 module _ (place : Place) (kind upper : List ℕ) (c : IsChildType kind upper) where
   -- a child has one segment more than its parent, none of which is empty where none of its own is
@@ -124,7 +115,7 @@ module _ (place : Place) (kind upper : List ℕ) (c : IsChildType kind upper) wh
         paired = one_less (sym longer ∙ w.paired);
         some = some_names (sym longer ∙ w.paired) c.parent;
       }))
-      (true_not (list_any has_slash ns) (any_front has_slash ns (n ∷ []) (of_not (list_any has_slash (ns ++ n
+      (not_from_false (list_any has_slash ns) (any_front has_slash ns (n ∷ []) (of_not (list_any has_slash (ns ++ n
       ∷ [])) a.1)))
     where
       one_less : suc (length (segments upper)) ≡ suc (length (ns ++ n ∷ []))
@@ -151,7 +142,7 @@ module _ (place : Place) (kind upper : List ℕ) (c : IsChildType kind upper) wh
           and_true (is_made place upper ns) (not (has_slash n) && is_whole (made place kind (ns ++ n
           ∷ []))) (parent_made ns n e)
           (and_true (not (has_slash n)) (is_whole (made place kind (ns ++ n ∷ [])))
-          (true_not (has_slash n) (last_cut ns n (of_not (list_any has_slash (ns ++ n ∷ [])) a.1))) a.0)
+          (not_from_false (has_slash n) (last_cut ns n (of_not (list_any has_slash (ns ++ n ∷ [])) a.1))) a.0)
 
       back : (is_made place upper ns && (not (has_slash n) && is_whole (made place kind (ns ++ n ∷ [])))) ≡ true
           → is_made place kind (ns ++ n ∷ []) ≡ true
@@ -160,7 +151,7 @@ module _ (place : Place) (kind upper : List ℕ) (c : IsChildType kind upper) wh
           let b = both (is_whole (made place upper ns)) (not (list_any has_slash ns)) a.0 in
           let d = both (not (has_slash n)) (is_whole (made place kind (ns ++ n ∷ []))) a.1 in
           and_true (is_whole (made place kind (ns ++ n ∷ []))) (not (list_any has_slash (ns ++ n ∷ []))) d.1
-          (true_not (list_any has_slash (ns ++ n ∷ []))
+          (not_from_false (list_any has_slash (ns ++ n ∷ []))
           (any_none has_slash ns (n ∷ []) (of_not (list_any has_slash ns) b.1)
           (nor (has_slash n) false (of_not (has_slash n) d.0) refl)))
 

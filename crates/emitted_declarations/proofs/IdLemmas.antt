@@ -3,18 +3,19 @@ use Rattle.std.proofs.Common.{◌≡◌, ℕ, zero, suc, length, List, [], ◌�
 use Rattle.std.proofs.Common.{false}
 use Rattle.std.proofs.Common.{codes, refl, sym, ap, ap₂, ◌∙◌}
 use Rattle.std.specs.Prelude.{◌||◌, pos, option_map, option_and_then}
+use Rattle.foundation.proofs.TruthValues.{or_assoc}
 use Rattle.arm_value.specs.Json.{Json, null, bool, int, text, array, object}
 use Rattle.arm_ids.specs.Id.{text_of}
 use Rattle.arm_ids.specs.Segments.{segments, has_slash}
 use Rattle.arm_ids.specs.declared.id.Place.{Place}
 use Rattle.arm_ids.specs.declared.id.ResourceId.{ResourceId}
-use Rattle.arm_expr.specs.Tree.{Tree, Trees, call, index, more, trees}
+use Rattle.arm_expr.specs.Tree.{Tree, call, index, trees}
 use Rattle.arm_expr.specs.Tree as tree
-use Rattle.arm_functions.specs.Table.{table, row_in}
-use Rattle.arm_functions.specs.Values.{function_value, value_of, of_texts, of_lists, of_prints}
+use Rattle.bicep_emission.specs.Table.{table, row_in}
+use Rattle.bicep_emission.specs.Values.{function_value, value_of, of_texts, of_lists, of_prints}
 use Rattle.function_lists.specs.Ends.{without_front}
 use Rattle.function_prints.specs.Printed.{join_items}
-use Rattle.function_texts.specs.Cuts as cuts
+use Rattle.function_prints.specs.Cuts as cuts
 use Rattle.reading.specs.Reading.{done, pure, continued, both, joined}
 use Rattle.arm_env.specs.Look as look
 use Rattle.arm_env.specs.Look.{Looking, Surroundings}
@@ -31,9 +32,7 @@ use Rattle.bicep_emission.specs.Alike.{Seen, seen_in}
 use Rattle.bicep_emission.specs.Answered.{Sides}
 use Rattle.bicep_emission.specs.Emitted.{two}
 use Rattle.bicep_emission.specs.Stands.{Like}
-use Rattle.bicep_emission.proofs.SeenLemmas.{then_seen, both_seen, done_seen, then-then, then-same}
-use Rattle.bicep_emission.proofs.SeenLemmas.{seen-both}
-use Rattle.bicep_emission.proofs.SeenLemmas.{seen-continued}
+use Rattle.bicep_emission.proofs.SeenLemmas.{then_seen, both_seen, done_seen, then-then, then-same, seen-both, seen-continued}
 use Rattle.bicep_emission.proofs.KeptLemmas.{kept_of}
 use Rattle.bicep_emission.proofs.AccessLemmas.{IsPlain, plain_function, plain_continued, index_seen, used_continued}
 use Rattle.bicep_emission.proofs.CallLemmas.{seen, seen-on, seen-capped-on, like_two}
@@ -245,10 +244,6 @@ module _ (x : Sides) (around : Surroundings) where
       ∙ ap (λ s. then_seen s (λ q. done_seen (Some (q.0
       ∷ q.1)))) (seen-both x.template x.template_marks p (look.all os))))
     where
-      or_assoc : (a b c : Bool) → ((a || b) || c) ≡ (a || (b || c))
-      or_assoc true b c = refl
-      or_assoc false b c = refl
-
       marked : Option (List Json) → Bool → Seen (List Json)
       marked o b = (o, b)
 

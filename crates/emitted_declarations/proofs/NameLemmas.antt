@@ -3,9 +3,9 @@ use Rattle.std.proofs.Common.{◌≡◌, ◌⊎◌, inl, inr, ℕ, zero, suc, le
 use Rattle.std.proofs.Common.{Option, Some, None, Bool, true, false, append-nil, refl, sym, ap, ◌∙◌}
 use Rattle.std.proofs.Common.{arith}
 use Rattle.std.proofs.Common.{◌||◌, ◌&&◌, not}
-use Rattle.std.proofs.lemmas.Bool.Decides.{nat_tests}
 use Rattle.std.specs.Prelude.{◌==◌, nat_lt, option_map, option_and_then, if◌then◌else◌}
 use Rattle.std.specs.List.{list_any}
+use Rattle.std.proofs.lemmas.Bool.{or_right}
 use Rattle.foundation.proofs.TruthValues.{unless, and_false}
 use Rattle.arm_ids.specs.Id.{is_whole, has_empty_segment}
 use Rattle.arm_ids.specs.Segments.{segments, slashed, joined, is_empty, has_slash, is_slash}
@@ -13,7 +13,7 @@ use Rattle.arm_ids.specs.declared.id.Place.{Place}
 use Rattle.arm_ids.specs.declared.id.ResourceId.{ResourceId}
 use Rattle.arm_ids.proofs.SegmentLemmas.{segments_cut}
 use Rattle.bicep_emission.specs.Made.{made, is_made, made_whole}
-use Rattle.foundation.proofs.Comparisons.{eq_of_true}
+use Rattle.foundation.proofs.Comparisons.{eq_of_true, ne_of_false}
 
 -- the first n of these, and then the others as one text
 abbrev pub names_from : List (List ℕ) → ℕ → Option (List (List ℕ))
@@ -36,13 +36,9 @@ abbrev AreUnfit : Option (List (List ℕ)) → Type 0
 AreUnfit None = Unit {0}
 AreUnfit (Some ns) = IsUnfit ns
 
-or_true : (a b : Bool) → b ≡ true → (a || b) ≡ true
-or_true true b e = refl
-or_true false b e = e
-
 unfit_after : (s : List ℕ) (ns : List (List ℕ)) → IsUnfit ns → IsUnfit (s ∷ ns)
-unfit_after s ns (inl e) = inl (or_true (is_empty s) (list_any is_empty ns) e)
-unfit_after s ns (inr e) = inr (or_true (has_slash s) (list_any has_slash ns) e)
+unfit_after s ns (inl e) = inl (or_right (is_empty s) (list_any is_empty ns) e)
+unfit_after s ns (inr e) = inr (or_right (has_slash s) (list_any has_slash ns) e)
 
 are_after : (s : List ℕ) (o : Option (List (List ℕ))) → AreUnfit o → AreUnfit (option_map (λ ns. s ∷ ns) o)
 are_after s None h = tt
@@ -50,7 +46,7 @@ are_after s (Some ns) h = unfit_after s ns h
 
 any_append : (p : ℕ → Bool) (xs ys : List ℕ) → list_any p ys ≡ true → list_any p (xs ++ ys) ≡ true
 any_append p [] ys e = e
-any_append p (x ∷ xs) ys e = or_true (p x) (list_any p (xs ++ ys)) (any_append p xs ys e)
+any_append p (x ∷ xs) ys e = or_right (p x) (list_any p (xs ++ ys)) (any_append p xs ys e)
 
 slash_there : (t : List ℕ) (ss : List (List ℕ)) → has_slash (slashed (t ∷ ss)) ≡ true
 slash_there t ss = refl
@@ -71,13 +67,13 @@ not_all (s ∷ ss) (suc n) h = are_after s (names_from ss n) (not_all ss n (λ e
 
 any_after : {A : Type 0} (p : A → Bool) (xs ys : List A) → list_any p ys ≡ true → list_any p (xs ++ ys) ≡ true
 any_after p [] ys e = e
-any_after p (x ∷ xs) ys e = or_true (p x) (list_any p (xs ++ ys)) (any_after p xs ys e)
+any_after p (x ∷ xs) ys e = or_right (p x) (list_any p (xs ++ ys)) (any_after p xs ys e)
 
 not_made : (place : Place) (kind : List ℕ) (ns : List (List ℕ)) → IsUnfit ns → is_made place kind ns ≡ false
 not_made place kind ns (inl e) =
     ap (λ b. (not b && ((length (segments kind) == suc (length ns)) && nat_lt 0 (length ns))) && not
     (list_any has_slash ns))
-    (or_true (is_empty place.subscription) _ (or_true (is_empty place.group) _ (any_after is_empty
+    (or_right (is_empty place.subscription) _ (or_right (is_empty place.group) _ (any_after is_empty
     (segments kind) ns e)))
 not_made place kind ns (inr e) =
     ap (λ b. is_whole (made place kind ns) && not b) e ∙ and_false (is_whole (made place kind ns)) false refl
@@ -116,10 +112,7 @@ pub parts_make : (place : Place) (kind t : List ℕ) (n : ℕ) → length (segme
 parts_make place kind t n h = by_number (length (segments t) == suc n) refl
   where
     other : (length (segments t) == suc n) ≡ false → length (segments t) ≡ suc n → ⊥
-    other e q = differ (length (segments t)) (suc n) e q
-      where
-        differ : (a b : ℕ) → (a == b) ≡ false → a ≡ b → ⊥
-        differ a b e q = grind (arith, nat_tests)
+    other e q = ne_of_false (length (segments t)) (suc n) e q
 
     by_number : (b : Bool) → (length (segments t) == suc n) ≡ b
         → option_and_then (made_whole place kind) (names_from (segments t) n)

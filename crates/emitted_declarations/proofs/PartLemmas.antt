@@ -3,12 +3,13 @@ use Rattle.std.proofs.Common.{◌≡◌, ℕ, zero, suc, drop, List, [], ◌∷�
 use Rattle.std.proofs.Common.{refl, ap, ◌∙◌}
 use Rattle.std.specs.List.{flat_map}
 use Rattle.std.specs.Prelude.{pos, nat_le, slice_get, option_map, option_and_then, if◌then◌else◌}
+use Rattle.arm_value.proofs.SameLemmas.{items-row}
 use Rattle.arm_value.specs.Json.{Json, int, text, array, items, row, row_nesting}
 use Rattle.arm_ids.specs.Segments.{segments, slashed, joined}
 use Rattle.function_lists.specs.Values as lists
 use Rattle.function_lists.specs.Ends.{without_front}
 use Rattle.function_prints.specs.Printed.{printed, joined_by, join_items}
-use Rattle.function_texts.specs.Cuts as cuts
+use Rattle.function_prints.specs.Cuts as cuts
 use Rattle.reading.specs.Reading.{joined as joined_options}
 use Rattle.arm_env.specs.Part.{part_of}
 use Rattle.bicep_emission.proofs.KeptLemmas.{kept_of}
@@ -62,12 +63,8 @@ segment_text : (t : List ℕ) (i : ℕ) → segment_of i (text t) ≡ option_map
 segment_text t i = ap (option_and_then (λ (a : Json). kept_of (part_of a (int (pos i))))) (split_text t)
     ∙ item_text (segments t) i
 
-items_back : (js : List Json) → items (row js) ≡ js
-items_back [] = refl
-items_back (j ∷ js) = ap (λ (ks : List Json). j ∷ ks) (items_back js)
-
 drop_texts : (ss : List (List ℕ)) (i : ℕ) → drop i (items (row (map text ss))) ≡ map text (drop i ss)
-drop_texts ss zero = items_back (map text ss)
+drop_texts ss zero = items-row (map text ss)
 drop_texts [] (suc i) = refl
 drop_texts (s ∷ ss) (suc i) = drop_texts ss i
 
@@ -86,7 +83,7 @@ rest_text t i =
     ∙ ap (λ js. option_and_then (λ (a : Json). kept_of (join_items a (text slash))) (kept_of (lists.array_of js)))
     (drop_texts (segments t) i)
     ∙ ap (option_and_then (λ (a : Json). kept_of (join_items a (text slash)))) (kept_texts (drop i (segments t)))
-    ∙ ap (λ js. kept_of (Some (text (joined_by slash js)))) (items_back (map text (drop i (segments t))))
+    ∙ ap (λ js. kept_of (Some (text (joined_by slash js)))) (items-row (map text (drop i (segments t))))
     ∙ ap (λ r. kept_of (Some (text r))) (texts_joined (drop i (segments t)))
 
 -- the parts of a text are names

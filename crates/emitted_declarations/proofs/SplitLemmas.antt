@@ -6,8 +6,8 @@ use Rattle.std.proofs.lemmas.Bool.Decides.{nat_tests}
 use Rattle.std.specs.Prelude.{◌==◌, if◌then◌else◌}
 use Rattle.std.specs.List.{onto_first}
 use Rattle.arm_ids.specs.Segments.{segments, is_slash}
-use Rattle.function_texts.specs.Cuts.{Cut, cut_here, cut_at, first_cut, delimiter_at, pieces_within, pieces}
-use Rattle.function_texts.specs.Places.{begins}
+use Rattle.function_prints.specs.Cuts.{Cut, cut_here, cut_at, first_cut, delimiter_at, pieces_within, pieces}
+use Rattle.function_prints.specs.Places.{begins}
 
 abbrev pub slash : List ℕ
 slash = 47 ∷ []

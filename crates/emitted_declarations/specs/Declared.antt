@@ -7,17 +7,14 @@ use Rattle.arm_ids.specs.Segments.{segments}
 use Rattle.arm_expr.specs.Tree.{Tree, Trees, text, int, call, index, more, trees}
 use Rattle.arm_expr.specs.Tree as tree
 use Rattle.bicep_tree.specs.declared.leaf.Literal.TheVariants as l
-use Rattle.bicep_resolved.specs.Source.{SourceTree, PieceTrees, ValueTree, LoopTree}
-use Rattle.bicep_resolved.specs.Source as s
-use Rattle.bicep_resolved.specs.Target.{number_of, target_of}
+use Rattle.bicep_emission.specs.Source.{SourceTree, PieceTrees, ValueTree, LoopTree, field_named}
+use Rattle.bicep_emission.specs.Source as s
+use Rattle.bicep_emission.specs.Target.{number_of, target_of}
 use Rattle.bicep_declared.specs.Declarations.{BodyTree, DeclaredTree}
 use Rattle.bicep_declared.specs.Declarations as d
-use Rattle.bicep_emission.specs.Files.{SourceFile, symbol_name, declaration, Parent}
-use Rattle.bicep_resolved.specs.Source.{field_named}
-use Rattle.bicep_emission.specs.Files.{no_parent, inside, below, parent, type_of}
+use Rattle.bicep_emission.specs.Files.{SourceFile, symbol_name, declaration, Parent, no_parent, inside, below, parent, type_of}
 use Rattle.bicep_emission.specs.Declared.{body_at}
-use Rattle.bicep_emission.specs.Emitted.{Frame, Scope, one, two, no_value, emitted, emitted_value, frames_of}
-use Rattle.bicep_emission.specs.Emitted.{index_of}
+use Rattle.bicep_emission.specs.Emitted.{Frame, Scope, one, two, no_value, emitted, emitted_value, frames_of, index_of}
 use Rattle.bicep_emission.specs.Texts.{format_text}
 
 -- ---- texts

@@ -6,7 +6,7 @@ use Rattle.arm_ids.specs.declared.id.ResourceId.{ResourceId}
 use Rattle.arm_expr.specs.Tree.{Tree, trees}
 use Rattle.arm_env.specs.Look as look
 use Rattle.arm_env.specs.Look.{Surroundings}
-use Rattle.function_texts.specs.Cuts.{texts_in}
+use Rattle.function_prints.specs.Cuts.{texts_in}
 use Rattle.expression_values.specs.Meaning.{values}
 use Rattle.reading.specs.Reading.{done, continued}
 use Rattle.deploy_cells.specs.Guarded.{Reads}

@@ -7,11 +7,13 @@ use Rattle.std.proofs.lemmas.Option.{slice_get_within}
 use Rattle.std.specs.List.{filter, AllByRecursion}
 use Rattle.std.specs.List.Sorted.{IsStrictlySortedBy}
 use Rattle.std.specs.Prelude.{◌&&◌, is_some, slice_get, if◌then◌else◌}
+use Rattle.foundation.proofs.TruthValues.{and_false_is, and_true_is}
+use Rattle.foundation.proofs.Comparisons.{eq_of_true}
 use Rattle.bicep_declared.specs.Declarations.{DeclaredTree}
 use Rattle.bicep_dependencies.specs.Dependencies.{has, depends_on}
 use Rattle.bicep_meaning.specs.Files.{SourceFile}
 use Rattle.bicep_meaning.specs.Instances.{put_by}
-use Rattle.source_needs.specs.Dependencies.{kinds_of, dependencies}
+use Rattle.emitted_files.specs.Dependencies.{kinds_of, dependencies}
 use Rattle.source_worlds.specs.Numbers.{is_put, passing}
 
 -- ---- numbers that ascend
@@ -40,9 +42,6 @@ all_there (k ∷ ks) = (omega arith, all_there ks)
 other : (k n : ℕ) → n < k → (k == n) ≡ false
 other k n l = grind (arith, nat_tests)
 
-equal : (k n : ℕ) → (k == n) ≡ true → k ≡ n
-equal k n e = grind (arith, nat_tests)
-
 distinct : (k n : ℕ) → (k == n) ≡ false → n ≤ k → suc n ≤ k
 distinct k n e l = grind (arith, nat_tests)
 
@@ -55,14 +54,6 @@ none_below low n (k ∷ ks) a l =
     λ i. p i || q i
 
 -- ---- those that pass a test
-
-neither : (b : Bool) → (b && false) ≡ false
-neither true = refl
-neither false = refl
-
-whole : (b : Bool) → (b && true) ≡ b
-whole true = refl
-whole false = refl
 
 module _ (p : ℕ → Bool) where
   -- none passes where all that pass are below
@@ -86,14 +77,14 @@ module _ (p : ℕ → Bool) where
           → passing t low (suc c) ≡ filter p ks
       left_out ks e a h =
           ap (λ b. if b then low ∷ passing t (suc low) c else passing t (suc low) c)
-          (h low (omega arith) ∙ ap (λ b. p low && b) e ∙ neither (p low))
+          (h low (omega arith) ∙ ap (λ b. p low && b) e ∙ and_false_is (p low))
           ∙ next ks a (λ n l. h n (omega (arith, l)))
 
       taken : (k : ℕ) (ks : List ℕ) → k ≡ low → Ascend (suc k) ks → Agree low (k ∷ ks)
           → passing t low (suc c) ≡ filter p (k ∷ ks)
       taken k ks e a h =
           let same : (k == low) ≡ true = grind (arith, nat_tests) in
-          let test = h low (omega arith) ∙ ap (λ b. p low && (b || has ks low)) same ∙ whole (p low)
+          let test = h low (omega arith) ∙ ap (λ b. p low && (b || has ks low)) same ∙ and_true_is (p low)
           ∙ ap p (sym e) in
           let rest = next ks (ap_ascend e a) (λ n l. h n (omega (arith, l))
           ∙ ap (λ b. p n && (b || has ks n)) (apart n l)) in
@@ -110,7 +101,7 @@ module _ (p : ℕ → Bool) where
       step (k ∷ ks) a h = by_first (k == low) refl
         where
           by_first : (b : Bool) → (k == low) ≡ b → passing t low (suc c) ≡ filter p (k ∷ ks)
-          by_first true e = taken k ks (equal k low e) a.1 h
+          by_first true e = taken k ks (eq_of_true k low e) a.1 h
           by_first false e =
               let l = distinct k low e a.0 in
               left_out (k ∷ ks) (none_below (suc low) low (k ∷ ks) (l, a.1) (omega arith)) (l, a.1) h

@@ -10,7 +10,7 @@ use Rattle.bicep_meaning.specs.Files.{SourceFile, declaration}
 use Rattle.emitted_files.specs.Files.{id_by, element_by, name_element, dependency, AreElements}
 use Rattle.emitted_trees.specs.Templates as t
 use Rattle.emitted_trees.specs.Written.{tree_json}
-use Rattle.source_needs.specs.Needs.{is_looped}
+use Rattle.emitted_files.specs.Needs.{is_looped}
 use Rattle.emitted_dependencies.specs.Elements.{element_json, elements, ElementsAreWithin}
 
 -- whether a declaration has a loop

@@ -9,7 +9,7 @@ use Rattle.template_parts.specs.declared.mode.Form.{Form}
 use Rattle.bicep_declared.specs.Declarations.{DeclaredTree}
 use Rattle.bicep_meaning.specs.Files.{SourceFile, declaration}
 use Rattle.bicep_meaning.specs.Instances.{put_by}
-use Rattle.measured_trees.specs.Extremes.{nothing, joined}
+use Rattle.measured_trees.specs.Extremes.{nothing, joined, enclosed}
 use Rattle.measured_trees.specs.Measures.{IsOf}
 use Rattle.measured_trees.specs.declared.measure.Measure.{Measure}
 use Rattle.source_worlds.specs.Numbers.{is_put}
@@ -68,16 +68,16 @@ module _ (files : List SourceFile) (f : SourceFile) (z : Form) where
 
   -- ---- what they take
 
-  pub takes : (m : Measure) (n : ℕ) → is_put f n ≡ true → IsOf (element_extremes files f z n) m
+  pub takes : (m : Measure) (n : ℕ) → is_put f n ≡ true → IsOf (enclosed (element_extremes files f z n)) m
       → IsOf (put_extremes files f z n) m
-  takes m n e h = subst (λ b. IsOf (if b then element_extremes files f z n else nothing) m) (sym e) h
+  takes m n e h = subst (λ b. IsOf (if b then enclosed (element_extremes files f z n) else nothing) m) (sym e) h
 
   pub takes_nothing : (m : Measure) (n : ℕ) → is_put f n ≡ false → IsOf nothing m → IsOf (put_extremes files f z n) m
-  takes_nothing m n e h = subst (λ b. IsOf (if b then element_extremes files f z n else nothing) m) (sym e) h
+  takes_nothing m n e h = subst (λ b. IsOf (if b then enclosed (element_extremes files f z n) else nothing) m) (sym e) h
 
   measured_by : (b : Bool) (n : ℕ) (ns : List ℕ)
       → elements_extremes files f z (if b then n ∷ ns else ns)
-      ≡ joined (if b then element_extremes files f z n else nothing) (elements_extremes files f z ns)
+      ≡ joined (if b then enclosed (element_extremes files f z n) else nothing) (elements_extremes files f z ns)
   measured_by true n ns = refl
   measured_by false n ns =
       let x = elements_extremes files f z ns in

@@ -7,7 +7,7 @@ use Rattle.bicep_declared.specs.Declarations.{DeclaredTree}
 use Rattle.bicep_meaning.specs.Files.{SourceFile, declaration}
 use Rattle.emitted_files.specs.Files.{dependency}
 use Rattle.emitted_trees.specs.Written.{tree_json, IsWithin}
-use Rattle.measured_trees.specs.Extremes.{Extremes, nothing, joined, tree_extremes}
+use Rattle.measured_trees.specs.Extremes.{Extremes, nothing, joined, enclosed, tree_extremes}
 use Rattle.source_worlds.specs.Numbers.{is_put}
 
 -- the element for the resource or the module of a number
@@ -36,14 +36,14 @@ IsPutAt f n None = is_put f n ≡ false
 abbrev pub put_element : List SourceFile → SourceFile → Form → ℕ → List Json
 put_element files f z n = if is_put f n then element_json files f z n ∷ [] else []
 
--- ---- how much of the limits they take
+-- ---- how much of the limits they take, in their array, which is left out where there is none
 
 abbrev pub element_extremes : List SourceFile → SourceFile → Form → ℕ → Extremes
 element_extremes files f z n = tree_extremes (dependency files f z n)
 
 abbrev pub elements_extremes : List SourceFile → SourceFile → Form → List ℕ → Extremes
 elements_extremes files f z [] = nothing
-elements_extremes files f z (n ∷ ns) = joined (element_extremes files f z n) (elements_extremes files f z ns)
+elements_extremes files f z (n ∷ ns) = joined (enclosed (element_extremes files f z n)) (elements_extremes files f z ns)
 
 abbrev pub put_extremes : List SourceFile → SourceFile → Form → ℕ → Extremes
-put_extremes files f z n = if is_put f n then element_extremes files f z n else nothing
+put_extremes files f z n = if is_put f n then enclosed (element_extremes files f z n) else nothing

@@ -1,2 +1,3 @@
 pub mod Elements
 pub mod Laws
+pub use Rattle.emitted_files.specs.Dependencies

@@ -13,7 +13,7 @@ ghost use Rattle.emitted_files.specs.Files.{id_by, dependency};
 ghost use Rattle.emitted_parts.specs.Built.{Is};
 ghost use Rattle.emitted_trees.specs.Templates as t;
 ghost use Rattle.source_worlds.specs.Numbers.{or_empty};
-ghost use Rattle.tree_building.specs.Built.{IsTree};
+ghost use Rattle.filled_tables.specs.Built.{IsTree};
 ghost use Rattle.filled_tables.specs.Seen.{file_in, files_in};
 ghost use Rattle.filled_tables.specs.Filled.{IsFilled};
 

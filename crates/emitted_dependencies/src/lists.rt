@@ -4,7 +4,7 @@ ghost use Rattle.bicep_declared.specs.View.{declared_tree};
 ghost use Rattle.bicep_dependencies.specs.Dependencies.{has, depends_on as mentions};
 ghost use Rattle.bicep_meaning.specs.Files.{declaration};
 ghost use Rattle.declaration_laws.specs.Sound.{IsSound};
-ghost use Rattle.source_needs.specs.Dependencies.{kinds_of, dependencies};
+ghost use Rattle.emitted_files.specs.Dependencies.{kinds_of, dependencies};
 ghost use Rattle.filled_tables.specs.Seen.{file_in, files_in};
 ghost use Rattle.filled_tables.specs.Filled.{IsFilled};
 ghost use Rattle.emitted_dependencies.specs.Elements.{element_json, elements as all_elements, put_element};

@@ -10,7 +10,7 @@ ghost use Rattle.declaration_laws.specs.Sound.{IsSound};
 ghost use Rattle.emitted_files.specs.Files.{id_by};
 ghost use Rattle.emitted_sizes.specs.Extent.{IsOf as IsExtent};
 ghost use Rattle.measured_trees.specs.Measures.{IsOf};
-ghost use Rattle.source_needs.specs.Dependencies.{kinds_of, dependencies};
+ghost use Rattle.emitted_files.specs.Dependencies.{kinds_of, dependencies};
 ghost use Rattle.filled_tables.specs.Seen.{file_in, files_in};
 ghost use Rattle.filled_tables.specs.Filled.{IsFilled};
 ghost use Rattle.emitted_dependencies.specs.Elements.{element_extremes, elements_extremes, put_extremes};
@@ -78,20 +78,21 @@ fn measured_element(table: &Table, form: Form, number: usize, declared: &Declare
     }
 }
 
-// What the element for a number takes, where it is of a resource that is put, or of a module.
+// What the element for a number takes in its array, where it is of a resource that is put, or of a module.
 fn measured_put(table: &Table, form: Form, number: usize) -> Measure
     requires filled { IsFilled table.now }
     requires sound { IsSound (file_in table.now) }
     ensures { IsOf (put_extremes (files_in table.now) (file_in table.now) form number) result }
 {
     match put_declaration(table, number) {
-        Some(declared) => measured_element(table, form, number, declared),
+        Some(declared) => measured_element(table, form, number, declared).enclosed(),
         None => Measure::nothing(),
     }
 }
 
-/// How much of the limits of templates the elements of `dependsOn` of a resource or a module take, by the numbers of
-/// the resources and modules that its declaration mentions, directly or through variables.
+/// How much of the limits of templates the array `dependsOn` of a resource or a module takes, by the numbers of the
+/// resources and modules that its declaration mentions, directly or through variables. It is left out where it has no
+/// element.
 pub fn measured_dependencies(table: &Table, form: Form, mentioned: &BTreeSet<usize>) -> Measure
     requires filled { IsFilled table.now }
     requires sound { IsSound (file_in table.now) }

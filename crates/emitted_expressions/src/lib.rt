@@ -10,5 +10,8 @@ mod fields;
 mod turns;
 
 pub use declarations::Declarations;
+pub use emitted_parts::calls::call_one;
+pub use emitted_parts::literals::no_value;
+pub use emitted_parts::{lacks, letting_go, with};
 pub use expressions::{emitted, emitted_value};
 pub use turns::Turn;

@@ -1,7 +1,9 @@
 -- A cell of a template of a program that the program does not have is not there.
 use Rattle.std.proofs.Common.{◌≡◌, ℕ, Bool, true, false, List, [], ◌∷◌, Option, Some, None}
 use Rattle.std.proofs.Common.{refl, ap, ◌∙◌, subst, arith}
-use Rattle.std.specs.Prelude.{nat_lt, option_map, option_and_then, if◌then◌else◌}
+use Rattle.std.specs.Prelude.{option_map, option_and_then, if◌then◌else◌}
+use Rattle.foundation.proofs.Comparisons.{none_below}
+use Rattle.foundation.proofs.Options.{none_mapped}
 use Rattle.arm_value.specs.Json.{Json}
 use Rattle.reading.specs.World.{value_in}
 use Rattle.template_parts.specs.declared.mode.Form.{Form}
@@ -10,23 +12,19 @@ use Rattle.deploy_cells.specs.Cells.{Step, step, Position, Cell, parameter, vari
 use Rattle.deploy_cells.specs.Cells.{name, deployments, state, World, opener, parent, admits, admitted, is_admitted}
 use Rattle.deploy_cells.specs.Guarded.{Reads, guarded, there_if}
 use Rattle.deploy_cells.proofs.CellLemmas.{guarded_value}
-use Rattle.plan_cells.specs.Resources.{Listed, resource_at}
+use Rattle.plan_cells.specs.Resources.{resource_at}
 use Rattle.plan_cells.specs.Scopes.{template_at, resource_of}
 use Rattle.plan_cells.specs.Meaning.{Deployment, count_value, ruled, rule, raw, plain, meaning}
-use Rattle.bicep_meaning.specs.Files.{SourceFile}
-use Rattle.bicep_meaning.specs.Instances.{put_of, file_at}
-use Rattle.cell_renaming.specs.Renaming.{Renaming, with_both, from_position, resource_by, resource_at as number_at}
+use Rattle.source_needs.specs.Files.{SourceFile}
+use Rattle.source_needs.specs.Instances.{put_of, file_at}
+use Rattle.cell_renaming.specs.Renaming.{with_both, from_position, resource_by, resource_at as number_at}
 use Rattle.cell_renaming.specs.Renaming.{from_cell}
 use Rattle.cell_renaming.proofs.OptionLemmas.{Either, there, nowhere, either}
-use Rattle.source_worlds.specs.Numbers.{symbol_of, numbering}
+use Rattle.source_needs.specs.Numbers.{symbol_of, numbering}
 use Rattle.emitted_files.specs.Values.{AreBoth}
 use Rattle.emitted_files.specs.Files.{IsResource, IsFile, IsEmitted}
 
 -- ---- options that are empty
-
-map_none : {A B : Type 0} (f : A → B) (o : Option A) → option_map f o ≡ None → o ≡ None
-map_none f None h = refl
-map_none f (Some x) h = absurd cc
 
 both_none : {A B C D : Type 0} (f : A → B → C) (g : A → B → D) (o : Option A) (u : Option B) → with_both o u f ≡ None
     → with_both o u g ≡ None
@@ -62,9 +60,6 @@ module _ (w : World) (c : Cell) (r : Reads (Option Json)) where
 
   empty : value_in w r ≡ Some None → value_in w (guarded c r) ≡ Some None
   empty h = guarded_value w c r ∙ empty_by (is_admitted w c) (value_in w r) h
-
-no_copies : (n : ℕ) → nat_lt n 0 ≡ false
-no_copies n = grind (arith)
 
 -- ---- scopes and resources
 
@@ -151,25 +146,25 @@ module _ (z : Form) (files : List SourceFile) (d : Deployment) (h : IsEmitted z 
       (ap (admits (output q x))
       (a (offered q x) refl
       (ap (option_map (λ p. offered p x))
-      (map_none (λ p. output p x) (from_position (numbering z files) q) k))))
+      (none_mapped (λ p. output p x) (from_position (numbering z files) q) k))))
 
   pub absent : (c : Cell) → from_cell (numbering z files) c ≡ None → Above c → value_in w (meaning d c) ≡ Some None
   absent (parameter q x) k a =
-      scope_out (parameter q x) q refl refl (map_none (λ p. parameter p x) (from_position (numbering z files) q) k) a
+      scope_out (parameter q x) q refl refl (none_mapped (λ p. parameter p x) (from_position (numbering z files) q) k) a
   absent (variable q x) k a =
-      scope_out (variable q x) q refl refl (map_none (λ p. variable p x) (from_position (numbering z files) q) k) a
+      scope_out (variable q x) q refl refl (none_mapped (λ p. variable p x) (from_position (numbering z files) q) k) a
   absent (offered q x) k a =
-      scope_out (offered q x) q refl refl (map_none (λ p. offered p x) (from_position (numbering z files) q) k) a
+      scope_out (offered q x) q refl refl (none_mapped (λ p. offered p x) (from_position (numbering z files) q) k) a
   absent (output q x) k a = output_out q x k a
   absent (count q m) k a = count_out q m k a (either (from_position (numbering z files) q))
   absent (included q s) k a =
-      instance_out (included q s) q s refl (no_copies s.copy)
+      instance_out (included q s) q s refl (none_below s.copy)
       (both_none (λ p n. included p (step n s.copy)) (λ p n. count p n) (from_position (numbering z files) q)
       (number_at (numbering z files) q s.resource) k) a
   absent (name q s) k a =
-      instance_out (name q s) q s refl (no_copies s.copy)
+      instance_out (name q s) q s refl (none_below s.copy)
       (both_none (λ p n. name p (step n s.copy)) (λ p n. count p n) (from_position (numbering z files) q)
       (number_at (numbering z files) q s.resource) k) a
   absent (deployments q) k a =
-      scope_out (deployments q) q refl refl (map_none (λ p. deployments p) (from_position (numbering z files) q) k) a
+      scope_out (deployments q) q refl refl (none_mapped (λ p. deployments p) (from_position (numbering z files) q) k) a
   absent (state key) k a = absurd cc

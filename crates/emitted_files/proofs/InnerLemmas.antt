@@ -7,9 +7,9 @@ use Rattle.deploy_cells.specs.Cells.{Step, Position}
 use Rattle.plan_cells.specs.Resources.{Listed, nested_in, nested_at, resource_at}
 use Rattle.plan_cells.specs.Scopes.{template_at, nested_of, resource_of, is_outer_scope, is_outer}
 use Rattle.plan_cells.specs.Scopes.{owner, visible, loop_of, loops_around}
-use Rattle.bicep_meaning.specs.Files.{SourceFile}
-use Rattle.bicep_meaning.specs.Instances.{Put, put_of}
-use Rattle.source_worlds.specs.Numbers.{symbol_of}
+use Rattle.source_needs.specs.Files.{SourceFile}
+use Rattle.source_needs.specs.Instances.{Put, put_of}
+use Rattle.source_needs.specs.Numbers.{symbol_of}
 use Rattle.emitted_files.specs.Values.{AreBoth}
 use Rattle.emitted_files.specs.Files.{IsBody, IsResource, IsFile, IsEmitted, file_of_scope}
 use Rattle.emitted_files.proofs.AbsentLemmas.{Match}

@@ -10,14 +10,14 @@ use Rattle.plan_cells.specs.Desired.{kind_of}
 use Rattle.plan_cells.specs.Meaning.{Deployment}
 use Rattle.plan_cells.specs.Resources.{Listed, nested_in, resource_at}
 use Rattle.plan_cells.specs.Scopes.{template_at}
-use Rattle.bicep_meaning.specs.Files.{SourceFile}
-use Rattle.bicep_meaning.specs.Instances as source
-use Rattle.bicep_meaning.specs.Instances.{SourceProgram, Put, put_of, file_at}
+use Rattle.source_needs.specs.Files.{SourceFile}
+use Rattle.source_needs.specs.Instances as source
+use Rattle.source_needs.specs.Instances.{SourceProgram, Put, put_of, file_at}
 use Rattle.cell_renaming.specs.Renaming.{to_position}
 use Rattle.cell_renaming.proofs.CellLemmas.{to-from_position}
 use Rattle.cell_renaming.proofs.OptionLemmas.{none_some}
-use Rattle.source_worlds.specs.Numbers.{number_of, numbering}
-use Rattle.source_worlds.proofs.NumberLemmas.{there, one_to_one}
+use Rattle.source_needs.specs.Numbers.{number_of, numbering}
+use Rattle.source_needs.proofs.NumberLemmas.{there, one_to_one}
 use Rattle.emitted_files.specs.Values.{AreBoth}
 use Rattle.emitted_files.specs.Files.{IsBody, IsResource, IsEmitted}
 use Rattle.emitted_files.proofs.AbsentLemmas.{Match, scope_matches, resource_matches}

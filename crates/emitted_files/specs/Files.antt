@@ -24,16 +24,16 @@ use Rattle.plan_cells.specs.Scopes.{template_at}
 use Rattle.plan_cells.specs.Sites as template
 use Rattle.bicep_tree.specs.declared.leaf.Literal.TheVariants as l
 use Rattle.bicep_resolved.specs.Source.{SourceTree, ValueTree, LoopTree}
-use Rattle.bicep_declared.specs.Declarations.{DeclaredTree, OutputTree}
-use Rattle.bicep_declared.specs.Declarations as d
-use Rattle.bicep_meaning.specs.Files.{SourceFile, symbol_name, declaration}
-use Rattle.bicep_meaning.specs.Instances as source
-use Rattle.bicep_meaning.specs.Instances.{Put, put_of, body_fields, file_at}
-use Rattle.bicep_emission.specs.Emitted.{Frame, element, two, no_value}
+use Rattle.source_needs.specs.Declarations.{DeclaredTree, OutputTree}
+use Rattle.source_needs.specs.Declarations as d
+use Rattle.source_needs.specs.Files.{SourceFile, symbol_name, declaration}
+use Rattle.source_needs.specs.Instances as source
+use Rattle.source_needs.specs.Instances.{Put, put_of, body_fields, file_at}
+use Rattle.emitted_trees.specs.Emitted.{Frame, element, two, no_value}
 use Rattle.cell_renaming.specs.Renaming.{from_position}
 use Rattle.source_needs.specs.Dependencies.{dependencies}
 use Rattle.source_needs.specs.Needs.{is_looped}
-use Rattle.source_worlds.specs.Numbers.{name_of, number_of, symbol_of, numbering}
+use Rattle.source_needs.specs.Numbers.{name_of, number_of, symbol_of, numbering}
 use Rattle.emitted_declarations.specs.Declared.{Emission, whole}
 use Rattle.emitted_trees.specs.EmittedTrees.{tree_of, members_of, value_of, copy_index, count_of}
 use Rattle.emitted_trees.specs.Templates as t

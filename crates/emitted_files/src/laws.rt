@@ -6,12 +6,12 @@ ghost use Rattle.plan_cells.specs.Desired as template;
 ghost use Rattle.plan_cells.specs.Meaning.{Deployment, meaning};
 ghost use Rattle.plan_cells.specs.Scopes.{owner, visible, loops_around};
 ghost use Rattle.template_tree.specs.Tree.{TemplateTree};
-ghost use Rattle.bicep_meaning.specs.Files.{SourceFile};
-ghost use Rattle.bicep_meaning.specs.Instances as source;
-ghost use Rattle.bicep_meaning.specs.Instances.{SourceProgram};
+ghost use Rattle.source_needs.specs.Files.{SourceFile};
+ghost use Rattle.source_needs.specs.Instances as source;
+ghost use Rattle.source_needs.specs.Instances.{SourceProgram};
 ghost use Rattle.cell_renaming.specs.Renaming.{to_position, from_cell};
 ghost use Rattle.cell_renaming.specs.Renamed.{AreUndeclared};
-ghost use Rattle.source_worlds.specs.Numbers.{numbering};
+ghost use Rattle.source_needs.specs.Numbers.{numbering};
 ghost use Rattle.emitted_files.specs.Files.{IsEmitted};
 
 /// Each resource and module of a template is of the kind that its symbol has in the program.

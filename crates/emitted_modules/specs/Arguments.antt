@@ -14,7 +14,7 @@ use Rattle.emitted_resources.specs.Values.{AreBoth, IsContent}
 use Rattle.emitted_trees.specs.Templates.{TemplateValue}
 use Rattle.emitted_resources.specs.Buildable.{MayBeBuilt}
 use Rattle.emitted_resources.specs.Extremes.{Extremes, nothing, joined, value_extremes}
-use Rattle.tree_building.specs.Sight as spec
+use Rattle.emitted_resources.specs.Sight as spec
 
 -- the members of an object that is plain; what is none has none
 abbrev pub object_members : Option ValueTree → PropertyTrees

@@ -10,3 +10,5 @@ pub use Rattle.emitted_resources.specs.Metadata
 pub use Rattle.emitted_resources.specs.Resources
 pub use Rattle.emitted_resources.specs.Seen
 pub use Rattle.emitted_resources.specs.Values
+pub use Rattle.emitted_resources.specs.Heads
+pub use Rattle.declaration_laws.specs.Sound

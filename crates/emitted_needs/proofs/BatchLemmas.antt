@@ -20,9 +20,9 @@ use Rattle.cell_renaming.proofs.OptionLemmas.{of_then}
 use Rattle.source_needs.specs.Needs.{batches_by, batches_of}
 use Rattle.source_worlds.specs.Numbers.{number_of, numbering}
 use Rattle.source_worlds.proofs.NumberLemmas.{one_to_one}
-use Rattle.emitted_files.specs.Values.{AreBoth}
-use Rattle.emitted_files.specs.Files.{IsLoop, IsEmitted}
-use Rattle.emitted_files.proofs.AbsentLemmas.{Match, scope_matches}
+use Rattle.emitted_worlds.specs.Values.{AreBoth}
+use Rattle.emitted_worlds.specs.Files.{IsLoop, IsEmitted}
+use Rattle.emitted_worlds.proofs.AbsentLemmas.{Match, scope_matches}
 use Rattle.emitted_worlds.proofs.TemplateLemmas.{has_template}
 use Rattle.emitted_programs.proofs.ResourceLemmas.{put_number}
 use Rattle.emitted_needs.proofs.MentionLemmas.{looped_is}

@@ -2,18 +2,13 @@
 use Rattle.std.proofs.Common.{◌≡◌, ℕ, suc, length, true, ◌&&◌, List, [], ◌∷◌, ◌++◌, sym, ap, ◌∙◌, arith}
 use Rattle.std.specs.Prelude.{nat_eq}
 use Rattle.std.proofs.lemmas.List.{length-append, nil_from_length}
+use Rattle.foundation.proofs.Comparisons.{eq_of_true, eq_true}
 use Rattle.foundation.proofs.TruthValues.{both, and_true}
 use Rattle.arm_ids.specs.Parent.{begins, IsParent}
 use Rattle.arm_ids.specs.declared.id.ResourceId.{ResourceId}
 use Rattle.arm_ids.proofs.FrontLemmas.{begun, front_rest, parent_begins}
 use Rattle.plan_cells.specs.Meaning.{Deployment}
 use Rattle.plan_cells.specs.Needs.{is_child}
-
-equal_counts : (a b : ℕ) → a ≡ b → nat_eq a b ≡ true
-equal_counts a b e = grind (arith, e)
-
-counts_equal : (a b : ℕ) → nat_eq a b ≡ true → a ≡ b
-counts_equal a b e = grind (arith, e)
 
 one_of : (xs : List (List ℕ)) → length xs ≡ 1 → (x : List ℕ) × (xs ≡ x ∷ [])
 one_of [] e = absurd (omega (arith, e))
@@ -33,9 +28,9 @@ module _ (t : Deployment) where
       (parent_begins k child (kind, more)).0
       (and_true (nat_eq (length child.types) (suc (length k.types)))
       (nat_eq (length child.names) (suc (length k.names)))
-      (equal_counts (length child.types) (suc (length k.types))
+      (eq_true (length child.types) (suc (length k.types))
       (one_more k.types child.types kind (ap (λ (i : ResourceId). i.types) more.1)))
-      (equal_counts (length child.names) (suc (length k.names))
+      (eq_true (length child.names) (suc (length k.names))
       (one_more k.names child.names more.0 (ap (λ (i : ResourceId). i.names) more.1))))
 
   pub child_back : (k child : ResourceId) → is_child t k child ≡ true → IsParent k child
@@ -49,10 +44,10 @@ module _ (t : Deployment) where
       let names = front_rest k.names child.names h.names in
       let kind =
       one_of types.0 (one_longer k.types child.types types.0 types.1
-      (counts_equal (length child.types) (suc (length k.types)) b.0)) in
+      (eq_of_true (length child.types) (suc (length k.types)) b.0)) in
       let name =
       one_of names.0 (one_longer k.names child.names names.0 names.1
-      (counts_equal (length child.names) (suc (length k.names)) b.1)) in (
+      (eq_of_true (length child.names) (suc (length k.names)) b.1)) in (
         kind.0,
         (
           name.0,

@@ -2,6 +2,8 @@
 use Rattle.std.proofs.Common.{◌≡◌, ℕ, Bool, true, false, true≢false, List, [], ◌∷◌, Option, Some, None, refl, sym, ap}
 use Rattle.std.proofs.Common.{◌∙◌, subst, arith}
 use Rattle.std.specs.Prelude.{◌==◌, ◌||◌, option_and_then}
+use Rattle.std.proofs.lemmas.Bool.{or_right}
+use Rattle.foundation.proofs.Comparisons.{eq_itself, eq_of_true}
 use Rattle.foundation.proofs.Options.{same_some}
 use Rattle.foundation.proofs.TruthValues.{both}
 use Rattle.arm_value.specs.Json.{Json}
@@ -18,21 +20,14 @@ use Rattle.plan_cells.specs.Scopes.{resource_of}
 use Rattle.bicep_dependencies.specs.Dependencies.{has, depends_on}
 use Rattle.source_needs.specs.Dependencies.{kinds_of, is_dependency, dependencies}
 use Rattle.source_needs.specs.Needs.{is_looped, Means, IsMention}
-use Rattle.source_needs.proofs.PassingLemmas.{same_number, all_dependencies}
+use Rattle.source_needs.proofs.PassingLemmas.{all_dependencies}
 use Rattle.source_worlds.specs.Numbers.{is_put}
-use Rattle.emitted_files.specs.Files.{AreElements}
+use Rattle.emitted_worlds.specs.Files.{AreElements}
 use Rattle.emitted_programs.specs.Given.{deployed}
 use Rattle.emitted_needs.specs.Keys.{IsKeyed, HasAnswer}
 use Rattle.emitted_needs.proofs.KeyLemmas.{element_answer}
 use Rattle.emitted_needs.proofs.MentionLemmas.{Scene, Other, new_world, new_step, target_of, listed_of, put_is}
 use Rattle.emitted_needs.proofs.MentionLemmas.{Agrees, element_agrees}
-
-equal_number : (n : ℕ) → (n == n) ≡ true
-equal_number n = grind (arith)
-
-second_true : (a b : Bool) → b ≡ true → (a || b) ≡ true
-second_true true b e = refl
-second_true false b e = e
 
 module _ {z : Form} (s : Scene z) (o : Other s) (c : Step) where
   abbrev dep : Deployment
@@ -50,14 +45,14 @@ module _ {z : Form} (s : Scene z) (o : Other s) (c : Step) where
   here_or n m ns C e f g = by_bool (n == m) refl e
     where
       by_bool : (b : Bool) → (n == m) ≡ b → (b || has ns m) ≡ true → C
-      by_bool true k h = f (same_number n m k)
+      by_bool true k h = f (eq_of_true n m k)
       by_bool false k h = g h
 
   is_first : (n : ℕ) (ns : List ℕ) → has (n ∷ ns) n ≡ true
-  is_first n ns = ap (λ b. b || has ns n) (equal_number n)
+  is_first n ns = ap (λ b. b || has ns n) (eq_itself n)
 
   is_later : (n m : ℕ) (ns : List ℕ) → has ns m ≡ true → has (n ∷ ns) m ≡ true
-  is_later n m ns e = second_true (n == m) (has ns m) e
+  is_later n m ns e = or_right (n == m) (has ns m) e
 
   none_agrees : (b : Bool) → false ≡ b → AnyAgrees [] b
   none_agrees b e = record {

@@ -40,13 +40,13 @@ use Rattle.cell_renaming.specs.Renaming.{Renaming, to_position, renamed}
 use Rattle.cell_renaming.proofs.OptionLemmas.{of_then}
 use Rattle.source_needs.specs.Needs.{key_read}
 use Rattle.source_worlds.specs.Numbers.{name_of, numbering}
-use Rattle.emitted_files.specs.Values.{IsTree}
-use Rattle.emitted_files.specs.Files.{id_by, name_element}
+use Rattle.emitted_worlds.specs.Values.{IsTree}
+use Rattle.emitted_worlds.specs.Files.{id_by, name_element}
 use Rattle.emitted_trees.specs.Templates as t
 use Rattle.emitted_worlds.specs.Facts.{HasFacts}
-use Rattle.emitted_sites.specs.Marks.{IsMarked, no_mark}
-use Rattle.emitted_sites.specs.Sites.{IsInstance, AreLike}
-use Rattle.emitted_sites.proofs.SiteLemmas.{site_alike, unmarked_world}
+use Rattle.emitted_programs.specs.Marks.{IsMarked, no_mark}
+use Rattle.emitted_programs.specs.Sites.{IsInstance, AreLike}
+use Rattle.emitted_programs.proofs.SiteLemmas.{site_alike, unmarked_world}
 use Rattle.emitted_programs.specs.Given.{IsDeployed}
 use Rattle.emitted_programs.proofs.AboveLemmas.{HasPlace, has_place}
 use Rattle.emitted_programs.proofs.InstanceLemmas.{default_site, module_site, id_readable, module_readable}

@@ -12,8 +12,8 @@ use Rattle.plan_cells.specs.Needs.{element_names}
 use Rattle.bicep_meaning.specs.Files.{declaration}
 use Rattle.source_needs.specs.Needs.{key_mentioned, is_looped}
 use Rattle.source_worlds.specs.Numbers.{is_put, name_of}
-use Rattle.emitted_files.specs.Values.{IsTree}
-use Rattle.emitted_files.specs.Files.{element_by, name_element, dependency}
+use Rattle.emitted_worlds.specs.Values.{IsTree}
+use Rattle.emitted_worlds.specs.Files.{element_by, name_element, dependency}
 use Rattle.emitted_programs.specs.Given.{deployed}
 use Rattle.emitted_needs.specs.Keys.{HasKey, IsKeyed, HasAnswer}
 use Rattle.emitted_needs.proofs.ElementLemmas.{IsIdElement, id_json, name_read, id_read}

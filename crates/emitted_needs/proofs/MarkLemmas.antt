@@ -3,7 +3,7 @@ use Rattle.std.proofs.Common.{◌≡◌, ℕ, Bool, true, false, true≢false, L
 use Rattle.std.proofs.Common.{sym, ap, ◌∙◌, subst}
 use Rattle.std.specs.Prelude.{◌&&◌, option_and_then}
 use Rattle.foundation.proofs.Options.{same_some}
-use Rattle.foundation.proofs.TruthValues.{and_true_is}
+use Rattle.foundation.proofs.TruthValues.{and_true_is, and_false_is}
 use Rattle.arm_value.specs.Json.{Json, null, bool, int, text, array, object}
 use Rattle.arm_ids.specs.declared.id.ResourceId.{ResourceId}
 use Rattle.template_parts.specs.declared.mode.Form.{Form}
@@ -26,9 +26,9 @@ use Rattle.source_needs.specs.Given.{key_of, declares_output, is_given_by}
 use Rattle.source_needs.specs.Tasks.{IsTask}
 use Rattle.source_worlds.specs.Numbers.{numbering}
 use Rattle.source_worlds.proofs.NumberLemmas.{one_to_one}
-use Rattle.emitted_files.specs.Files.{IsEmitted}
-use Rattle.emitted_files.proofs.KindLemmas.{kinds_same}
-use Rattle.emitted_sites.specs.Marks.{Marks, AreMarks, is_given}
+use Rattle.emitted_worlds.specs.Files.{IsEmitted}
+use Rattle.emitted_worlds.proofs.KindLemmas.{kinds_same}
+use Rattle.emitted_programs.specs.Marks.{Marks, AreMarks, is_given}
 use Rattle.emitted_worlds.specs.Facts.{HasOwnTypes}
 use Rattle.emitted_needs.specs.Tasks.{to_task}
 use Rattle.emitted_needs.proofs.OrderLemmas.{positions_same}
@@ -135,11 +135,7 @@ module _ (z : Form) (d : SourceProgram) (t : Deployment) (m : IsEmitted z d.file
 
   undeclared : (p a : Position) (x : List ℕ) → declares_output d a x ≡ false
       → (same_position p a && declares_output d a x) ≡ false
-  undeclared p a x e = ap (λ b. same_position p a && b) e ∙ never (same_position p a)
-    where
-      never : (b : Bool) → (b && false) ≡ false
-      never true = refl
-      never false = refl
+  undeclared p a x e = ap (λ b. same_position p a && b) e ∙ and_false_is (same_position p a)
 
   leave_others : (p : Position) (c : Cell) → is_given c ≡ false → is_given_by d w (leave p) c ≡ false
   leave_others p (parameter q x) e = refl

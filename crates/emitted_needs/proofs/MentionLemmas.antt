@@ -2,6 +2,7 @@
 use Rattle.std.proofs.Common.{◌≡◌, ℕ, Bool, true, false, List, Option, Some, None, refl, sym, ap}
 use Rattle.std.proofs.Common.{◌∙◌, subst, bytes_eq}
 use Rattle.std.specs.Prelude.{nat_lt, is_some, option_map, option_and_then}
+use Rattle.foundation.proofs.Words.{itself}
 use Rattle.foundation.proofs.Options.{same_some}
 use Rattle.arm_value.specs.Json.{Json, text}
 use Rattle.arm_ids.specs.Id.{folded, text_of, is_whole}
@@ -9,7 +10,6 @@ use Rattle.arm_ids.specs.Segments.{joined}
 use Rattle.arm_ids.specs.declared.id.Place.{Place}
 use Rattle.arm_ids.specs.declared.id.ResourceId.{ResourceId}
 use Rattle.arm_ids.specs.Held.{HeldResource}
-use Rattle.arm_ids.proofs.FrontLemmas.{same_text}
 use Rattle.arm_env.specs.Find.{id_key}
 use Rattle.arm_eval.specs.Trees.{tree_value}
 use Rattle.reading.specs.Reading.{done, pure, read, continued}
@@ -41,9 +41,9 @@ use Rattle.source_needs.specs.Given.{key_of}
 use Rattle.source_needs.specs.Needs.{key_mentioned, is_looped, Means}
 use Rattle.source_worlds.specs.Numbers.{is_put, number_of, numbering}
 use Rattle.source_worlds.proofs.NumberLemmas.{has_number, one_to_one}
-use Rattle.emitted_files.specs.Values.{IsTree}
-use Rattle.emitted_files.specs.Files.{element_by, name_element, id_by, dependency}
-use Rattle.emitted_files.proofs.AbsentLemmas.{Match}
+use Rattle.emitted_worlds.specs.Values.{IsTree}
+use Rattle.emitted_worlds.specs.Files.{element_by, name_element, id_by, dependency}
+use Rattle.emitted_worlds.proofs.AbsentLemmas.{Match}
 use Rattle.emitted_trees.specs.Templates as t
 use Rattle.emitted_programs.specs.Given.{IsDeployed, deployed}
 use Rattle.emitted_programs.proofs.ResourceLemmas.{put_number}
@@ -242,7 +242,7 @@ two_agrees s o c n j b put e h =
       forth = λ i. symbol_same s.d.files s.file s.tree s.symbols n o.instance.resource x.0 y.0 x.1 y.1
           (sym k ∙ g ∙ i);
       back = λ i. sym g ∙ k
-          ∙ ap (bytes_eq x.0) (same_some (sym y.1 ∙ ap (symbol_name s.file) i ∙ x.1)) ∙ same_text x.0;
+          ∙ ap (bytes_eq x.0) (same_some (sym y.1 ∙ ap (symbol_name s.file) i ∙ x.1)) ∙ itself x.0;
     }
 
 -- ---- in the first form, of a loop

@@ -3,12 +3,13 @@ use Rattle.std.proofs.Common.{◌≡◌, ℕ, suc, zero, Bool, true, false, true
 use Rattle.std.proofs.Common.{None, refl, sym, ap, ap₂, ◌∙◌, subst, bytes_eq}
 use Rattle.std.specs.Prelude.{◌&&◌, ◌||◌, is_some, option_and_then, slice_get}
 use Rattle.std.specs.List.{list_any}
+use Rattle.std.proofs.lemmas.Bool.{or_left, or_right}
+use Rattle.foundation.proofs.Words.{itself, eq_word}
 use Rattle.foundation.proofs.Options.{same_some}
 use Rattle.foundation.proofs.TruthValues.{or_false}
 use Rattle.arm_value.specs.Json.{text}
 use Rattle.arm_value.specs.Look.{fold, is_same_folded}
 use Rattle.arm_ids.specs.declared.id.Place.{Place}
-use Rattle.arm_ids.proofs.FrontLemmas.{same_text, texts_equal}
 use Rattle.arm_eval.specs.Titles.{element}
 use Rattle.arm_ids.specs.Segments.{joined}
 use Rattle.template_parts.specs.declared.looping.ResourceCopy.{ResourceCopy}
@@ -22,9 +23,9 @@ use Rattle.bicep_resolved.specs.Source.{LoopTree}
 use Rattle.bicep_meaning.specs.Files.{SourceFile, symbol_name}
 use Rattle.bicep_meaning.specs.Instances.{Put, put_of}
 use Rattle.source_worlds.specs.Numbers.{name_of, or_empty, symbol_of}
-use Rattle.emitted_files.specs.Values.{AreBoth}
-use Rattle.emitted_files.specs.Files.{IsResource, IsLoop}
-use Rattle.emitted_files.proofs.AbsentLemmas.{Match}
+use Rattle.emitted_worlds.specs.Values.{AreBoth}
+use Rattle.emitted_worlds.specs.Files.{IsResource, IsLoop}
+use Rattle.emitted_worlds.proofs.AbsentLemmas.{Match}
 use Rattle.emitted_needs.specs.Symbols.{HasSymbols}
 use Rattle.emitted_needs.proofs.TitleLemmas.{BeginsPlain, not_same, name_begins, longer_begins, no_id, not_element}
 
@@ -36,20 +37,12 @@ list_none test [] h = refl
 list_none test (x ∷ xs) h =
     ap (λ b. b || list_any test xs) (h 0 x refl) ∙ list_none test xs (λ m y e. h (suc m) y e)
 
-first_any : (a b : Bool) → a ≡ true → (a || b) ≡ true
-first_any true b e = refl
-first_any false b e = absurd (true≢false (sym e))
-
-second_any : (a b : Bool) → b ≡ true → (a || b) ≡ true
-second_any true b e = refl
-second_any false b e = e
-
 list_some : {A : Type 0} (test : A → Bool) (xs : List A) (m : ℕ) (x : A) → slice_get xs m ≡ Some x
     → test x ≡ true → list_any test xs ≡ true
 list_some test [] zero x e h = absurd cc
 list_some test [] (suc m) x e h = absurd cc
-list_some test (y ∷ ys) zero x e h = first_any (test y) (list_any test ys) (ap test (same_some e) ∙ h)
-list_some test (y ∷ ys) (suc m) x e h = second_any (test y) (list_any test ys) (list_some test ys m x e h)
+list_some test (y ∷ ys) zero x e h = or_left (test y) (list_any test ys) (ap test (same_some e) ∙ h)
+list_some test (y ∷ ys) (suc m) x e h = or_right (test y) (list_any test ys) (list_some test ys m x e h)
 
 -- ---- loops
 
@@ -63,7 +56,7 @@ has_loop_is t x None e = rw e refl
 has_loop_is t x (Some c) e = rw e refl
 
 same_folded : (x y : List ℕ) → fold x ≡ fold y → is_same_folded x y ≡ true
-same_folded x y e = subst (λ s. bytes_eq (fold x) s ≡ true) e (same_text (fold x))
+same_folded x y e = subst (λ s. bytes_eq (fold x) s ≡ true) e (itself (fold x))
 
 pub name_is : (f : SourceFile) (n : ℕ) (x : List ℕ) → symbol_name f n ≡ Some x → name_of f n ≡ x
 name_is f n x e = ap or_empty e
@@ -177,7 +170,7 @@ module _ (files : List SourceFile) (f : SourceFile) (v : TemplateTree) (own : Ha
       named o None i j = absurd (true≢false (sym j))
       named None (Some c) i j = absurd i
       named (Some o) (Some c) i j =
-          sym (own.differ n a.number x c.name e i.name (texts_equal (fold x) (fold c.name) j))
+          sym (own.differ n a.number x c.name e i.name (eq_word (fold x) (fold c.name) j))
 
   -- ---- in the second form: by symbolic names
 
@@ -202,4 +195,4 @@ module _ (files : List SourceFile) (f : SourceFile) (v : TemplateTree) (own : Ha
 
   pub symbol_same : (n k : ℕ) (x o : List ℕ) → symbol_name f n ≡ Some x → symbol_name f k ≡ Some o
       → bytes_eq x o ≡ true → k ≡ n
-  symbol_same n k x o e g h = sym (own.differ n k x o e g (ap fold (texts_equal x o h)))
+  symbol_same n k x o e g h = sym (own.differ n k x o e g (ap fold (eq_word x o h)))

@@ -2,12 +2,14 @@
 use Rattle.std.proofs.Common.{◌≡◌, Bool, true, false, true≢false, [], ◌∷◌, Option, Some, None, refl}
 use Rattle.std.proofs.Common.{sym, ap, ◌∙◌, subst}
 use Rattle.std.specs.Prelude.{◌||◌, option_and_then}
+use Rattle.std.proofs.lemmas.Bool.{or_left, or_right}
+use Rattle.foundation.proofs.TruthValues.{both_ways}
 use Rattle.foundation.proofs.Options.{same_some}
 use Rattle.arm_ids.specs.Parent.{IsParent}
 use Rattle.arm_ids.specs.declared.id.ResourceId.{ResourceId}
-use Rattle.deploy_cells.specs.Cells.{step, Position, deployments}
+use Rattle.deploy_cells.specs.Cells.{step, Position}
 use Rattle.deploy_cells.specs.Same.{same_position}
-use Rattle.deploy_cells.proofs.SameLemmas.{cell_is, cell_same}
+use Rattle.deploy_cells.proofs.SameLemmas.{position_is, position_same}
 use Rattle.plan_cells.specs.Meaning.{Deployment}
 use Rattle.plan_cells.specs.Needs as plan
 use Rattle.plan_cells.specs.Needs.{is_child}
@@ -20,17 +22,6 @@ use Rattle.source_needs.specs.Orders.{after_child}
 use Rattle.emitted_needs.specs.Tasks.{to_task}
 
 -- ---- positions
-
-pub position_is : (p q : Position) → same_position p q ≡ true → p ≡ q
-position_is p q e = let a : deployments p ≡ deployments q = cell_is (deployments p) (deployments q) e in cc
-
-pub position_same : (p : Position) → same_position p p ≡ true
-position_same p = cell_same (deployments p)
-
-pub both_ways : (a b : Bool) → (a ≡ true → b ≡ true) → (b ≡ true → a ≡ true) → a ≡ b
-both_ways true b f g = sym (f refl)
-both_ways false true f g = g refl
-both_ways false false f g = refl
 
 module _ (r : Renaming) (i : IsOneToOne r) where
   -- a new position is that of one position
@@ -89,35 +80,28 @@ module _ (r : Renaming) (i : IsOneToOne r) (t : Deployment) where
   abbrev pub in_order : Task → Task → Bool
   in_order u v = plan.is_entered_by t u v || (plan.leaves t u v || plan.deletes_after t u v)
 
-  first : (a b : Bool) → a ≡ true → (a || b) ≡ true
-  first a b e = ap (λ x. x || b) e
-
-  second : (a b : Bool) → b ≡ true → (a || b) ≡ true
-  second true b e = refl
-  second false b e = e
-
   entered : (u v : Task) → plan.is_entered_by t u v ≡ true → in_order u v ≡ true
-  entered u v e = first (plan.is_entered_by t u v) (plan.leaves t u v || plan.deletes_after t u v) e
+  entered u v e = or_left (plan.is_entered_by t u v) (plan.leaves t u v || plan.deletes_after t u v) e
 
   left : (u v : Task) → plan.leaves t u v ≡ true → in_order u v ≡ true
   left u v e =
-      second (plan.is_entered_by t u v) (plan.leaves t u v || plan.deletes_after t u v)
-      (first (plan.leaves t u v) (plan.deletes_after t u v) e)
+      or_right (plan.is_entered_by t u v) (plan.leaves t u v || plan.deletes_after t u v)
+      (or_left (plan.leaves t u v) (plan.deletes_after t u v) e)
 
   deleted : (u v : Task) → plan.deletes_after t u v ≡ true → in_order u v ≡ true
   deleted u v e =
-      second (plan.is_entered_by t u v) (plan.leaves t u v || plan.deletes_after t u v)
-      (second (plan.leaves t u v) (plan.deletes_after t u v) e)
+      or_right (plan.is_entered_by t u v) (plan.leaves t u v || plan.deletes_after t u v)
+      (or_right (plan.leaves t u v) (plan.deletes_after t u v) e)
 
   -- ---- forth
 
   leaves_inside : (q : Position) (v : Task) → plan.is_position t q (plan.scope_of t v) ≡ true
       → plan.leaves t (leave q) v ≡ true
-  leaves_inside q v e = first (plan.is_position t q (plan.scope_of t v)) (plan.is_entry_of t q v) e
+  leaves_inside q v e = or_left (plan.is_position t q (plan.scope_of t v)) (plan.is_entry_of t q v) e
 
   leaves_own : (q : Position) → plan.leaves t (leave q) (enter q) ≡ true
   leaves_own q =
-      second (plan.is_position t q (plan.scope_of t (enter q))) (plan.is_entry_of t q (enter q)) (position_same q)
+      or_right (plan.is_position t q (plan.scope_of t (enter q))) (plan.is_entry_of t q (enter q)) (position_same q)
 
   module _ (child_forth : (k l : ResourceId) → IsParent k l → is_child t k l ≡ true) where
     pub order_forth : (u v a b : Task) → to_task r u ≡ Some a → to_task r v ≡ Some b → IsAfter u v

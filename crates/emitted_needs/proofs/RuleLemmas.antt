@@ -2,6 +2,8 @@
 use Rattle.std.proofs.Common.{◌≡◌, ◌⊎◌, inl, inr, ℕ, suc, Bool, true, false, true≢false, List, [], ◌∷◌, Option, Some}
 use Rattle.std.proofs.Common.{None, refl, sym, ap, ◌∙◌, subst, arith}
 use Rattle.std.specs.Prelude.{◌/◌, ◌&&◌, ◌||◌, nat_eq, nat_lt, option_and_then, if◌then◌else◌}
+use Rattle.deploy_cells.proofs.SameLemmas.{position_is, position_same}
+use Rattle.foundation.proofs.Comparisons.{eq_of_true, eq_true}
 use Rattle.foundation.proofs.Options.{same_some}
 use Rattle.foundation.proofs.TruthValues.{both as both_true, and_true}
 use Rattle.arm_value.specs.Json.{bool}
@@ -37,8 +39,8 @@ use Rattle.source_needs.specs.Orders.{IsAfter}
 use Rattle.source_needs.specs.Tasks.{IsTask}
 use Rattle.source_worlds.specs.Numbers.{number_of, numbering}
 use Rattle.source_worlds.proofs.NumberLemmas.{one_to_one}
-use Rattle.emitted_files.specs.Values as values
-use Rattle.emitted_files.proofs.AbsentLemmas.{Match, scope_matches}
+use Rattle.emitted_worlds.specs.Values as values
+use Rattle.emitted_worlds.proofs.AbsentLemmas.{Match, scope_matches}
 use Rattle.emitted_worlds.specs.Facts.{HasFacts}
 use Rattle.emitted_worlds.proofs.TemplateLemmas.{has_template}
 use Rattle.emitted_programs.specs.Given.{IsDeployed, deployed}
@@ -51,19 +53,11 @@ use Rattle.emitted_needs.proofs.BatchLemmas.{batches_in, same_batches}
 use Rattle.emitted_needs.proofs.ChildLemmas.{child_forth, child_back}
 use Rattle.emitted_needs.proofs.DependLemmas.{mention_forth, mention_back, mention_answer}
 use Rattle.emitted_needs.proofs.MentionLemmas.{Scene, Other}
-use Rattle.emitted_needs.proofs.OrderLemmas.{position_is, position_same, one_position, in_order, order_forth}
+use Rattle.emitted_needs.proofs.OrderLemmas.{one_position, in_order, order_forth}
 use Rattle.emitted_needs.proofs.OrderLemmas.{order_back}
 use Rattle.emitted_needs.proofs.StartLemmas.{Renamed, AreBoth, both, neither, started_both, ended_both}
 
 -- ---- the parts of the rule
-
-first_true : (a b : Bool) → a ≡ true → (a || b) ≡ true
-first_true true b e = refl
-first_true false b e = absurd (true≢false (sym e))
-
-second_true : (a b : Bool) → b ≡ true → (a || b) ≡ true
-second_true true b e = refl
-second_true false b e = e
 
 -- the batches are the third of four
 split : (a b c d : Bool) → (a || (b || (c || d))) ≡ true → ((a || (b || d)) ≡ true) ⊎ (c ≡ true)
@@ -84,12 +78,6 @@ join_batch false true c d e = refl
 join_batch false false true d e = refl
 join_batch false false false d e = absurd (true≢false (sym e))
 
-numbers_equal : (a b : ℕ) → a ≡ b → nat_eq a b ≡ true
-numbers_equal a b e = grind (arith, e)
-
-equal_numbers : (a b : ℕ) → nat_eq a b ≡ true → a ≡ b
-equal_numbers a b e = grind (arith, e)
-
 none_some : (c : Instance) → (let o : Option Instance = None in o) ≡ Some c → ⊥
 none_some c e = absurd cc
 
@@ -100,11 +88,11 @@ module _ (t : Deployment) where
 
   batch_forth : (b : Batches) (i j : ℕ) → IsBatchAfter b i j → is_batch_before t b i j ≡ true
   batch_forth Parallel i j h = absurd h
-  batch_forth (Serial size) i j h = numbers_equal (i / size) (suc (j / size)) h
+  batch_forth (Serial size) i j h = eq_true (i / size) (suc (j / size)) h
 
   batch_back : (b : Batches) (i j : ℕ) → is_batch_before t b i j ≡ true → IsBatchAfter b i j
   batch_back Parallel i j h = absurd (true≢false (sym h))
-  batch_back (Serial size) i j h = equal_numbers (i / size) (suc (j / size)) h
+  batch_back (Serial size) i j h = eq_of_true (i / size) (suc (j / size)) h
 
 module _ (z : Form) (d : SourceProgram) (u : TemplateTree) (bound : List (List ℕ × BoundMeaning))
     (held : List HeldResource) (h : IsDeployed z d u bound held) (w : World)
@@ -266,7 +254,7 @@ module _ (z : Form) (d : SourceProgram) (u : TemplateTree) (bound : List (List �
           follows_is
           ∙ and_true (nat_eq c.number g.number)
           (is_before dep (copy_of dep (resource_of u c.new c.number)) c.instance.copy g.instance.copy)
-          (numbers_equal c.number g.number (same_resource k))
+          (eq_true c.number g.number (same_resource k))
           (batch_is
           ∙ batch_forth dep (batches_of d c.at c.instance.resource) c.instance.copy g.instance.copy l)
 
@@ -276,7 +264,7 @@ module _ (z : Form) (d : SourceProgram) (u : TemplateTree) (bound : List (List �
           (is_before dep (copy_of dep (resource_of u c.new c.number)) c.instance.copy g.instance.copy)
           (sym follows_is ∙ k) in
           by_batch c.at c.instance g.instance (record { starts = c.is; ends = g.is })
-          (same_number (equal_numbers c.number g.number l.0))
+          (same_number (eq_of_true c.number g.number l.0))
           (batch_back dep (batches_of d c.at c.instance.resource) c.instance.copy g.instance.copy (sym batch_is ∙ l.1))
 
       -- ---- names

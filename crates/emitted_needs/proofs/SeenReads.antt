@@ -1,20 +1,13 @@
 -- Whether a reading reads a marked cell, cell by cell.
 use Rattle.std.proofs.Common.{◌≡◌, inl, inr, Bool, true, false, true≢false, List, ◌∷◌, refl, sym, ap, ◌∙◌}
 use Rattle.std.specs.Prelude.{◌||◌}
+use Rattle.std.proofs.lemmas.Bool.{or_left, or_right}
 use Rattle.reading.specs.Reading.{done, ask}
 use Rattle.reading.specs.Knowledge.{Has}
 use Rattle.reading.specs.World.{reads_in}
 use Rattle.deploy_cells.specs.Cells.{Cell, World}
 use Rattle.deploy_cells.specs.Guarded.{Reads}
 use Rattle.bicep_emission.specs.Alike.{seen_in}
-
-last_true : (a b : Bool) → b ≡ true → (a || b) ≡ true
-last_true true b e = refl
-last_true false b e = e
-
-first_true : (a b : Bool) → a ≡ true → (a || b) ≡ true
-first_true true b e = refl
-first_true false b e = absurd (true≢false (sym e))
 
 -- a cell of these that is marked
 pub record Marked (m : Cell → Bool) (cs : List Cell) : Type 0 where
@@ -34,9 +27,9 @@ by_bools m c cs false false g e h = absurd (true≢false (sym e))
 module _ {A : Type 0} (w : World) (m : Cell → Bool) where
   here_or_later : (c : Cell) (r : Reads A) (x : Cell) → Has x (c ∷ reads_in w r) → m x ≡ true
       → (Marked m (reads_in w r) → (seen_in w m r).1 ≡ true) → ((seen_in w m r).1 || m c) ≡ true
-  here_or_later c r x (inl e) g h = last_true (seen_in w m r).1 (m c) (ap m e ∙ g)
+  here_or_later c r x (inl e) g h = or_right (seen_in w m r).1 (m c) (ap m e ∙ g)
   here_or_later c r x (inr e) g h =
-      first_true (seen_in w m r).1 (m c) (h (record { cell = x; is_read = e; is_marked = g }))
+      or_left (seen_in w m r).1 (m c) (h (record { cell = x; is_read = e; is_marked = g }))
 
   pub is_seen : (r : Reads A) → Marked m (reads_in w r) → (seen_in w m r).1 ≡ true
   unfolding reads_in seen_in

@@ -1,9 +1,9 @@
 -- An instance of a resource or a module: its entry in the template, its name, and its key.
 use Rattle.std.proofs.Common.{◌≡◌, ℕ, suc, Bool, true, false, true≢false, length, List, [], ◌∷◌, ◌++◌, map, Option}
 use Rattle.std.proofs.Common.{Some, None, refl, sym, ap, ◌∙◌, subst}
-use Rattle.std.specs.Prelude.{◌==◌, ◌&&◌, ◌||◌, not, nat_lt, is_some, option_map, option_and_then, if◌then◌else◌}
+use Rattle.std.specs.Prelude.{◌==◌, ◌&&◌, not, nat_lt, is_some, option_map, option_and_then, if◌then◌else◌}
 use Rattle.std.specs.List.{list_any}
-use Rattle.foundation.proofs.TruthValues.{both}
+use Rattle.foundation.proofs.TruthValues.{both, nor, of_not}
 use Rattle.arm_value.specs.Json.{Json, null, bool, int, text, array, object}
 use Rattle.arm_value.specs.Look.{fold}
 use Rattle.arm_ids.specs.Id.{is_whole, has_empty_segment}
@@ -25,9 +25,9 @@ use Rattle.bicep_meaning.specs.Instances.{SourceProgram, Put, put_of, file_at, i
 use Rattle.source_needs.specs.Given.{key_of}
 use Rattle.source_worlds.specs.Numbers.{is_put, number_of, symbol_of, place_in, in_template}
 use Rattle.source_worlds.proofs.NumberLemmas as numbers
-use Rattle.emitted_files.specs.Values.{AreBoth}
-use Rattle.emitted_files.specs.Files.{IsResource, IsDependent}
-use Rattle.emitted_files.proofs.AbsentLemmas.{Match, resource_matches}
+use Rattle.emitted_worlds.specs.Values.{AreBoth}
+use Rattle.emitted_worlds.specs.Files.{IsResource, IsDependent}
+use Rattle.emitted_worlds.proofs.AbsentLemmas.{Match, resource_matches}
 use Rattle.emitted_worlds.proofs.SourceLemmas.{HasValue, valued}
 use Rattle.emitted_needs.proofs.TitleLemmas.{BeginsPlain, filled_begins, joined_begins}
 
@@ -96,19 +96,11 @@ title_by place kind (int z) e = absurd (true≢false (sym e))
 title_by place kind (array js) e = absurd (true≢false (sym e))
 title_by place kind (object ms) e = absurd (true≢false (sym e))
 
-not_true : (b : Bool) → not b ≡ true → b ≡ false
-not_true true e = absurd (true≢false (sym e))
-not_true false e = refl
-
 front_filled : (xs ys : List (List ℕ)) → list_any is_empty (xs ++ ys) ≡ false → list_any is_empty xs ≡ false
 front_filled [] ys e = refl
 front_filled (x ∷ xs) ys e =
-    none_of (is_empty x) (list_any is_empty xs) (none_in_front is_empty x (xs ++ ys) e)
+    nor (is_empty x) (list_any is_empty xs) (none_in_front is_empty x (xs ++ ys) e)
     (front_filled xs ys (none_after is_empty x (xs ++ ys) e))
-  where
-    none_of : (a b : Bool) → a ≡ false → b ≡ false → (a || b) ≡ false
-    none_of true b g h = absurd (true≢false g)
-    none_of false b g h = h
 
 rest_filled : (xs ys : List (List ℕ)) → list_any is_empty (xs ++ ys) ≡ false → list_any is_empty ys ≡ false
 rest_filled [] ys e = e
@@ -117,7 +109,7 @@ rest_filled (x ∷ xs) ys e = rest_filled xs ys (none_after is_empty x (xs ++ ys
 module _ (place : Place) (kind title : List ℕ) (w : is_whole (id_at place kind title) ≡ true) where
   filled : list_any is_empty (segments kind ++ segments title) ≡ false
   filled =
-      let a = not_true (has_empty_segment (id_at place kind title))
+      let a = of_not (has_empty_segment (id_at place kind title))
       (both (not (has_empty_segment (id_at place kind title)))
       ((length (segments kind) == suc (length (segments title))) && nat_lt 0 (length (segments title))) w).0 in
       none_after is_empty place.group (segments kind ++ segments title)

@@ -1,15 +1,16 @@
 -- Texts of `dependsOn`: ids begin with a slash, and names of symbols and of resources do not.
 use Rattle.std.proofs.Common.{◌≡◌, ℕ, Bool, true, false, true≢false, List, [], ◌∷◌, ◌++◌, None}
 use Rattle.std.proofs.Common.{refl, sym, ap, ◌∙◌, subst, bytes_eq, codes, arith}
-use Rattle.std.specs.Prelude.{◌==◌, ◌||◌, option_map}
+use Rattle.std.specs.Prelude.{◌==◌, option_map}
 use Rattle.std.specs.List.{list_any}
 use Rattle.std.specs.Char.{to_ascii_lowercase}
 use Rattle.std.specs.Fmt.{decimal}
+use Rattle.foundation.proofs.Words.{eq_word}
+use Rattle.foundation.proofs.TruthValues.{or_false, unless}
 use Rattle.arm_value.specs.Look.{fold, is_same_folded}
 use Rattle.arm_ids.specs.Id.{text_of, folded, path, reading_of}
 use Rattle.arm_ids.specs.Segments.{segments, slashed, joined, is_empty, has_slash}
 use Rattle.arm_ids.specs.declared.id.ResourceId.{ResourceId}
-use Rattle.arm_ids.proofs.FrontLemmas.{texts_equal}
 use Rattle.arm_ids.proofs.SegmentLemmas.{none_in_front, segments_cut, slashed-segments, same_tail, has_slash-fold}
 use Rattle.arm_env.specs.Find.{id_key}
 use Rattle.arm_eval.specs.Titles.{element}
@@ -22,18 +23,10 @@ pub record BeginsPlain (t : List ℕ) : Type 0 where
   pub is : t ≡ first ∷ rest
   pub is_plain : (first == 47) ≡ false
 
-false_of : (b : Bool) → (b ≡ true → ⊥) → b ≡ false
-false_of true h = absurd (h refl)
-false_of false h = refl
-
-or_none : (b : Bool) → (b || false) ≡ b
-or_none true = refl
-or_none false = refl
-
 -- a letter that folds to a slash is one
 fold_slash : (a : ℕ) → (to_ascii_lowercase a == 47) ≡ (a == 47)
 fold_slash a =
-    sym (or_none (to_ascii_lowercase a == 47)) ∙ has_slash-fold (a ∷ []) ∙ or_none (a == 47)
+    sym (or_false (to_ascii_lowercase a == 47)) ∙ has_slash-fold (a ∷ []) ∙ or_false (a == 47)
 
 same_first : (a b : ℕ) (xs ys : List ℕ) → a ∷ xs ≡ b ∷ ys → a ≡ b
 same_first a b xs ys e = cc
@@ -45,9 +38,9 @@ slash_is = refl
 
 pub not_same : (t r x : List ℕ) → t ≡ 47 ∷ r → BeginsPlain x → is_same_folded t x ≡ false
 not_same t r x e h =
-    false_of (is_same_folded t x)
+    unless (is_same_folded t x)
     (λ k. let a : fold (47 ∷ r) ≡ fold (h.first ∷ h.rest) =
-    sym (ap fold e) ∙ texts_equal (fold t) (fold x) k ∙ ap fold h.is in
+    sym (ap fold e) ∙ eq_word (fold t) (fold x) k ∙ ap fold h.is in
     let b : to_ascii_lowercase 47 ≡ to_ascii_lowercase h.first =
     same_first (to_ascii_lowercase 47) (to_ascii_lowercase h.first) (fold r) (fold h.rest) a in
     true≢false
@@ -63,7 +56,7 @@ name_letter a e k =
 pub name_begins : (x : List ℕ) → IsName x → BeginsPlain x
 name_begins [] h = absurd h
 name_begins (c ∷ cs) h =
-    record { first = c; rest = cs; is = refl; is_plain = false_of (c == 47) (name_letter c h.0) }
+    record { first = c; rest = cs; is = refl; is_plain = unless (c == 47) (name_letter c h.0) }
 
 -- a segment that is not empty and has no slash
 segment_begins : (s more : List ℕ) → is_empty s ≡ false → has_slash s ≡ false → BeginsPlain (s ++ more)
@@ -121,6 +114,6 @@ no_bracket (c ∷ cs) rest h = no_bracket cs rest h.1
 pub not_element : (t x : List ℕ) (i : ℕ) → IsName t → IsName x → bytes_eq t (element x i) ≡ false
 not_element t [] i h k = absurd k
 not_element t (c ∷ cs) i h k =
-    false_of (bytes_eq t (element (c ∷ cs) i))
+    unless (bytes_eq t (element (c ∷ cs) i))
     (λ e. no_bracket cs (decimal i ++ 93 ∷ [])
-    (subst IsName (texts_equal t (element (c ∷ cs) i) e) h).1)
+    (subst IsName (eq_word t (element (c ∷ cs) i) e) h).1)

@@ -38,8 +38,8 @@ use Rattle.emitted_programs.specs.Given.{IsDeployed, deployed}
 use Rattle.emitted_programs.proofs.AboveLemmas.{of_parameter, of_variable, of_offered}
 use Rattle.emitted_programs.proofs.ProgramLemmas.{own_types}
 use Rattle.emitted_programs.proofs.ReadLemmas.{deployed_facts, deployed_alike, deployed_bodies}
-use Rattle.emitted_sites.specs.Marks.{Marks, AreMarks}
-use Rattle.emitted_sites.proofs.PlaceLemmas.{source_place}
+use Rattle.emitted_programs.specs.Marks.{Marks, AreMarks}
+use Rattle.emitted_programs.proofs.PlaceLemmas.{source_place}
 use Rattle.emitted_worlds.specs.Facts.{HasFacts}
 use Rattle.emitted_worlds.proofs.SourceLemmas.{valued}
 use Rattle.emitted_needs.specs.Needs as needs

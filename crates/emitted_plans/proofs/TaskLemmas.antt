@@ -1,8 +1,8 @@
 -- The tasks of a template are those of its program.
-use Rattle.std.proofs.Common.{◌≡◌, ℕ, Bool, true, false, true≢false, List, [], ◌∷◌, Option, Some, None, refl, sym, ap}
+use Rattle.std.proofs.Common.{◌≡◌, ℕ, Bool, true, false, List, [], ◌∷◌, Option, Some, None, refl, sym, ap}
 use Rattle.std.proofs.Common.{◌∙◌, subst}
 use Rattle.std.specs.Prelude.{is_some, option_map, option_and_then}
-use Rattle.foundation.proofs.Options.{same_some}
+use Rattle.foundation.proofs.Options.{same_some, none_there, some_there}
 use Rattle.arm_value.specs.Json.{bool}
 use Rattle.arm_ids.specs.Held.{HeldResource}
 use Rattle.template_parameters.specs.Binding.{BoundMeaning}
@@ -30,14 +30,6 @@ use Rattle.emitted_files.proofs.KindLemmas.{kinds_same}
 use Rattle.emitted_programs.specs.Given.{IsDeployed, deployed}
 use Rattle.emitted_needs.specs.Tasks.{to_task}
 use Rattle.emitted_plans.specs.Deletions.{IsNoDeletion}
-
-some_of : {A : Type 0} (o : Option A) → is_some o ≡ true → (x : A) × (o ≡ Some x)
-some_of None e = absurd (true≢false (sym e))
-some_of (Some x) e = (x, refl)
-
-none_of : {A : Type 0} (o : Option A) → is_some o ≡ false → o ≡ None
-none_of None e = refl
-none_of (Some x) e = absurd (true≢false e)
 
 nested_by : (m : ℕ) (o : Option TemplateTree) → option_and_then (λ v. nested_at v m) o
     ≡ option_and_then (λ (r : Listed). nested_in r.content) (option_and_then (λ v. resource_at v m) o)
@@ -84,7 +76,7 @@ module _ (z : Form) (d : SourceProgram) (u : TemplateTree) (bound : List (List �
 
     entered : b ≡ true → template.IsInside dep rw q (step m s.copy)
     entered e =
-        let n = some_of (nested_in entry.0.content) (entry.1.1 ∙ e) in
+        let n = some_there (nested_in entry.0.content) (entry.1.1 ∙ e) in
         record {
           nested = n.0;
           is_nested = nested_by m (template_at u q)
@@ -96,7 +88,7 @@ module _ (z : Form) (d : SourceProgram) (u : TemplateTree) (bound : List (List �
     put_there e = record {
       listed = entry.0;
       is_listed = entry.1.0;
-      is_put = none_of (nested_in entry.0.content) (entry.1.1 ∙ e);
+      is_put = none_there (nested_in entry.0.content) (entry.1.1 ∙ e);
       is_included = is_included;
     }
 

@@ -2,7 +2,7 @@
 use Rattle.std.proofs.Common.{◌≡◌, ◌<◌, ◌≤◌, ◌^◌, ℕ, Bool, true, false, true≢false, List, [], ◌∷◌, Option, Some}
 use Rattle.std.proofs.Common.{None, refl, sym, ap, ◌∙◌, arith}
 use Rattle.std.specs.Prelude.{nat_lt, option_and_then}
-use Rattle.foundation.proofs.Comparisons.{le_of_true, lt_of_true}
+use Rattle.foundation.proofs.Comparisons.{le_of_true, lt_of_true, none_below}
 use Rattle.arm_value.specs.Json.{Json}
 use Rattle.arm_value.specs.Kinds.{is_true}
 use Rattle.arm_ids.specs.declared.id.Place.{Place}
@@ -14,11 +14,8 @@ use Rattle.deploy_cells.specs.Cells.{World, is_admitted, copies}
 use Rattle.bicep_meaning.specs.Instances.{SourceProgram, with_deployment, place_at}
 use Rattle.cell_renaming.specs.Renaming.{to_position}
 use Rattle.source_worlds.specs.Numbers.{numbering}
-use Rattle.emitted_worlds.specs.Facts.{HasFacts}
+use Rattle.emitted_sites.specs.Facts.{HasFacts}
 use Rattle.emitted_sites.proofs.PlaceLemmas.{named_place}
-
-no_copies : (n : ℕ) → nat_lt n 0 ≡ false
-no_copies n = grind (arith)
 
 module _ (z : Form) (d : SourceProgram) (w : World) (facts : HasFacts z d w) where
   -- a scope is there where its cells are admitted
@@ -50,7 +47,7 @@ module _ (z : Form) (d : SourceProgram) (w : World) (facts : HasFacts z d w) whe
   not_none o e h = true≢false (sym e ∙ ap is_true h)
 
   no_index : (o : Option Json) (i : ℕ) → nat_lt i (copies o) ≡ true → o ≡ None → ⊥
-  no_index o i e h = true≢false (sym e ∙ ap (λ o. nat_lt i (copies o)) h ∙ no_copies i)
+  no_index o i e h = true≢false (sym e ∙ ap (λ o. nat_lt i (copies o)) h ∙ none_below i)
 
   -- of an instance that is admitted
   pub counted_scope : (p : Position) (s : Step) → nat_lt s.copy (copies (w (count p s.resource))) ≡ true

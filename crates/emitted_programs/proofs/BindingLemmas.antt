@@ -3,7 +3,7 @@ use Rattle.std.proofs.Common.{◌≡◌, ◌≤◌, ℕ, Bool, true, false, true
 use Rattle.std.proofs.Common.{Some, None, refl, sym, ap, ◌∙◌, subst}
 use Rattle.std.specs.Prelude.{bytes_eq, ◌&&◌, is_none, option_map, option_and_then, if◌then◌else◌}
 use Rattle.foundation.proofs.Comparisons.{le_of_true}
-use Rattle.foundation.proofs.Options.{same_some}
+use Rattle.foundation.proofs.Options.{same_some, none_mapped}
 use Rattle.foundation.proofs.TruthValues.{both}
 use Rattle.foundation.proofs.Words.{eq_word}
 use Rattle.arm_value.specs.Json.{Json, IsOrderly, nesting}
@@ -15,8 +15,8 @@ use Rattle.template_parts.specs.declared.fault.BindFault.TheVariants as fault
 use Rattle.template_parts.specs.declared.given.GivenValue.{GivenValue}
 use Rattle.template_parts.specs.declared.parameter.Parameter.{Parameter}
 use Rattle.template_parameters.specs.Binding as binding
-use Rattle.template_parameters.specs.Binding.{BoundMeaning, meaning_of, meaning_by, default_meaning, by_literal}
-use Rattle.template_parameters.specs.Binding.{extra, missing, lacks_value, known, breach_of, is_breach, broken}
+use Rattle.template_parameters.specs.Binding.{BoundMeaning, meaning_of, meaning_by}
+use Rattle.template_parameters.specs.Binding.{extra, missing, lacks_value, breach_of, is_breach, broken}
 use Rattle.template_parameters.specs.Binding.{rule_fault, bind_fault}
 use Rattle.template_parameters.specs.Literal.{literal}
 use Rattle.template_parameters.specs.Rule.{is_of, is_typed, is_allowed, is_within, breach}
@@ -108,16 +108,12 @@ first_none : (o u : Option BindFault) → binding.first o u ≡ None → (o ≡ 
 first_none None u e = (refl, e)
 first_none (Some f) u e = absurd cc
 
-map_none : {A B : Type 0} (f : A → B) (o : Option A) → option_map f o ≡ None → o ≡ None
-map_none f None e = refl
-map_none f (Some a) e = absurd cc
-
 not_missing : (gs : List GivenValue) (ps : List Parameter) → bind_fault gs ps ≡ None → missing gs ps ≡ None
 not_missing gs ps e =
     let a = first_none (option_map (λ n. fault.ExtraParameter n) (extra ps gs))
     (binding.first (option_map (λ n. fault.MissingParameter n) (missing gs ps)) (rule_fault gs ps)) e in
     let b = first_none (option_map (λ n. fault.MissingParameter n) (missing gs ps)) (rule_fault gs ps) a.1 in
-    map_none (λ n. fault.MissingParameter n) (missing gs ps) b.0
+    none_mapped (λ n. fault.MissingParameter n) (missing gs ps) b.0
 
 not_wrong : (gs : List GivenValue) (ps : List Parameter) → bind_fault gs ps ≡ None
     → broken breaks.WrongType gs ps ≡ None
@@ -128,7 +124,7 @@ not_wrong gs ps e =
     let c = first_none (option_map (λ n. fault.WrongType n) (broken breaks.WrongType gs ps))
     (binding.first (option_map (λ n. fault.NotAllowed n) (broken breaks.NotAllowed gs ps))
     (option_map (λ n. fault.OutOfBounds n) (broken breaks.OutOfBounds gs ps))) b.1 in
-    map_none (λ n. fault.WrongType n) (broken breaks.WrongType gs ps) c.0
+    none_mapped (λ n. fault.WrongType n) (broken breaks.WrongType gs ps) c.0
 
 -- a test that finds none is false of the first, and finds none in the others
 unless_found : (b : Bool) (n : List ℕ) (o : Option (List ℕ)) → (if b then Some n else o) ≡ None

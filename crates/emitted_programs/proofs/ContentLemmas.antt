@@ -11,7 +11,7 @@ use Rattle.emitted_trees.specs.Standing.{named_value, output_value}
 use Rattle.emitted_trees.specs.Templates.{TemplateValue}
 use Rattle.emitted_trees.specs.Templates as t
 use Rattle.emitted_trees.specs.Written.{ValueIsWithin}
-use Rattle.emitted_files.specs.Values.{IsContent}
+use Rattle.emitted_sites.specs.Values.{IsContent}
 
 pub content_within : (v : TemplateValue) (c : Content) → IsContent v c → ValueIsWithin v
 content_within (t.plain e) (content.Value j) h = h.is_within

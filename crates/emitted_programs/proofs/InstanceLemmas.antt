@@ -46,9 +46,9 @@ use Rattle.emitted_trees.specs.Sound.{IsSound, IsSoundValue, allowed}
 use Rattle.emitted_trees.specs.Standing.{FramesStandInside}
 use Rattle.emitted_trees.specs.Templates as t
 use Rattle.emitted_trees.proofs.TreeLemmas.{law, named_like, output_like, runs_stand, written_value}
-use Rattle.emitted_files.specs.Values.{AreBoth, IsTree, IsContent, IsCondition}
-use Rattle.emitted_files.specs.Files.{emission, module_id, frames_around, IsLoop, IsArgument, AreMembers, IsEmitted}
-use Rattle.emitted_files.specs.Files as files_of
+use Rattle.emitted_sites.specs.Values.{AreBoth, IsTree, IsContent, IsCondition}
+use Rattle.emitted_sites.specs.Files.{emission, module_id, frames_around, IsLoop, IsArgument, AreMembers, IsEmitted}
+use Rattle.emitted_sites.specs.Files as files_of
 use Rattle.emitted_sites.specs.Marks.{IsMarked}
 use Rattle.emitted_sites.specs.Sites.{sides, IsInstance, AreLike}
 use Rattle.emitted_sites.proofs.PlaceLemmas.{plain_place}

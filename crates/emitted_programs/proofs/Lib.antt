@@ -13,3 +13,5 @@ pub mod PlainLemmas
 pub mod ProgramLemmas
 pub mod SameLemmas
 pub mod ReadLemmas
+pub use Rattle.emitted_sites.proofs.PlaceLemmas
+pub use Rattle.emitted_sites.proofs.SiteLemmas

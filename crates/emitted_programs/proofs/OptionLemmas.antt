@@ -8,7 +8,7 @@ use Rattle.deploy_cells.specs.Guarded.{Reads}
 use Rattle.deploy_cells.specs.Puts.{body_in}
 use Rattle.bicep_emission.specs.Alike.{Seen, seen_in}
 use Rattle.bicep_emission.proofs.SeenLemmas.{value-seen}
-use Rattle.emitted_files.specs.Values.{AreBoth}
+use Rattle.emitted_sites.specs.Values.{AreBoth}
 
 -- a world and its marked cells
 pub record Side : Type 0 where

@@ -43,10 +43,10 @@ use Rattle.cell_renaming.proofs.OptionLemmas.{of_both, of_then, of_map}
 use Rattle.source_worlds.specs.Numbers.{number_of, numbering}
 use Rattle.source_worlds.proofs.NumberLemmas as numbers
 use Rattle.emitted_trees.specs.EmittedTrees.{tree_of}
-use Rattle.emitted_files.specs.Values.{AreBoth, IsTree}
-use Rattle.emitted_files.specs.Files.{IsParameter, IsArgument, IsBody, IsResource, IsEmitted, emission, default_at}
-use Rattle.emitted_files.specs.Files as files_of
-use Rattle.emitted_files.proofs.AbsentLemmas.{Match, resource_matches}
+use Rattle.emitted_sites.specs.Values.{AreBoth, IsTree}
+use Rattle.emitted_sites.specs.Files.{IsParameter, IsArgument, IsBody, IsResource, IsEmitted, emission, default_at}
+use Rattle.emitted_sites.specs.Files as files_of
+use Rattle.emitted_sites.proofs.AbsentLemmas.{Match, resource_matches}
 use Rattle.emitted_sites.specs.Marks.{IsMarked}
 use Rattle.emitted_sites.specs.Sites.{IsInstance}
 use Rattle.emitted_sites.proofs.SiteLemmas.{site_alike}

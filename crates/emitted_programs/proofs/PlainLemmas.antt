@@ -13,7 +13,7 @@ use Rattle.plan_cells.specs.Meaning as template
 use Rattle.plan_cells.specs.Meaning.{Deployment}
 use Rattle.bicep_meaning.specs.Instances as program
 use Rattle.bicep_meaning.specs.Instances.{SourceProgram}
-use Rattle.emitted_worlds.proofs.SourceLemmas as source
+use Rattle.emitted_sites.proofs.SourceLemmas as source
 use Rattle.emitted_programs.proofs.OptionLemmas.{Side, Same, value_seen}
 
 module _ (t : Deployment) (d : SourceProgram) (x y : Side) where

@@ -35,12 +35,12 @@ use Rattle.cell_renaming.proofs.ParentLemmas.{admitted_same}
 use Rattle.declaration_laws.proofs.PartLemmas.{no_deployment}
 use Rattle.source_worlds.specs.Numbers.{number_of, numbering}
 use Rattle.source_worlds.specs.Template.{IsTemplateOf}
-use Rattle.emitted_files.specs.Files.{IsEmitted}
-use Rattle.emitted_files.proofs.AbsentLemmas.{Match, absent}
-use Rattle.emitted_files.proofs.KindLemmas.{kinds_same}
-use Rattle.emitted_worlds.specs.Facts.{HasOwnTypes, HoldsResources, HasFacts}
-use Rattle.emitted_worlds.proofs.FactLemmas.{facts as world_facts}
-use Rattle.emitted_worlds.proofs.ListLemmas.{counts_same}
+use Rattle.emitted_sites.specs.Files.{IsEmitted}
+use Rattle.emitted_sites.proofs.AbsentLemmas.{Match, absent}
+use Rattle.emitted_sites.proofs.KindLemmas.{kinds_same}
+use Rattle.emitted_sites.specs.Facts.{HasOwnTypes, HoldsResources, HasFacts}
+use Rattle.emitted_sites.proofs.FactLemmas.{facts as world_facts}
+use Rattle.emitted_sites.proofs.ListLemmas.{counts_same}
 use Rattle.emitted_sites.specs.Marks.{IsMarked}
 use Rattle.emitted_sites.proofs.SiteLemmas.{unmarked_world}
 use Rattle.emitted_programs.specs.Given.{IsBound, deployed}

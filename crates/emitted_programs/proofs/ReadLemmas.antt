@@ -18,9 +18,9 @@ use Rattle.cell_renaming.specs.Renamed.{as_it_is}
 use Rattle.cell_renaming.specs.Renaming.{Renaming, to_position, to_cell}
 use Rattle.cell_renaming.proofs.OptionLemmas.{of_both, of_map}
 use Rattle.source_worlds.specs.Numbers.{numbering}
-use Rattle.emitted_files.specs.Files.{IsEmitted}
-use Rattle.emitted_worlds.specs.Facts.{HasFacts}
-use Rattle.emitted_worlds.proofs.FactLemmas.{facts}
+use Rattle.emitted_sites.specs.Files.{IsEmitted}
+use Rattle.emitted_sites.specs.Facts.{HasFacts}
+use Rattle.emitted_sites.proofs.FactLemmas.{facts}
 use Rattle.emitted_sites.specs.Marks.{Marks, AreMarks, IsMarked}
 use Rattle.emitted_programs.specs.Alike.{AreAlike}
 use Rattle.emitted_programs.specs.Given.{IsBound, IsDeployed, deployed}

@@ -37,11 +37,11 @@ use Rattle.cell_renaming.specs.Renaming.{to_position}
 use Rattle.cell_renaming.proofs.OptionLemmas.{of_then}
 use Rattle.source_worlds.specs.Numbers.{number_of, numbering}
 use Rattle.source_worlds.proofs.NumberLemmas as numbers
-use Rattle.emitted_files.specs.Values.{AreBoth, IsCondition}
-use Rattle.emitted_files.specs.Files.{IsResource, IsLoop, IsBody, AreMembers, IsEmitted, emission}
-use Rattle.emitted_files.specs.Files as files_of
-use Rattle.emitted_files.proofs.AbsentLemmas.{Match, resource_matches}
-use Rattle.emitted_files.proofs.InnerLemmas.{no_loops_around}
+use Rattle.emitted_sites.specs.Values.{AreBoth, IsCondition}
+use Rattle.emitted_sites.specs.Files.{IsResource, IsLoop, IsBody, AreMembers, IsEmitted, emission}
+use Rattle.emitted_sites.specs.Files as files_of
+use Rattle.emitted_sites.proofs.AbsentLemmas.{Match, resource_matches}
+use Rattle.emitted_sites.proofs.InnerLemmas.{no_loops_around}
 use Rattle.emitted_sites.specs.Marks.{IsMarked}
 use Rattle.emitted_sites.specs.Sites.{IsInstance}
 use Rattle.emitted_sites.proofs.SiteLemmas.{site_alike}

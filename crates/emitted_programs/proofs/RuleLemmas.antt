@@ -15,9 +15,9 @@ use Rattle.plan_cells.specs.Sites as sites
 use Rattle.bicep_declared.specs.Declarations.{OutputTree}
 use Rattle.bicep_meaning.specs.Files.{SourceFile}
 use Rattle.bicep_meaning.specs.Instances as program
-use Rattle.emitted_files.specs.Values.{AreBoth}
-use Rattle.emitted_files.specs.Files.{IsParameter, IsOutput}
-use Rattle.emitted_files.proofs.AbsentLemmas.{Match}
+use Rattle.emitted_sites.specs.Values.{AreBoth}
+use Rattle.emitted_sites.specs.Files.{IsParameter, IsOutput}
+use Rattle.emitted_sites.proofs.AbsentLemmas.{Match}
 
 pub truth_same : (j : Json) → rule.is_bool j ≡ program.is_bool j
 truth_same null = refl

@@ -33,10 +33,10 @@ use Rattle.cell_renaming.specs.Renaming.{Renaming, IsOneToOne, to_position, rena
 use Rattle.cell_renaming.proofs.CellLemmas.{to-from_position}
 use Rattle.source_worlds.specs.Numbers.{numbering}
 use Rattle.source_worlds.proofs.NumberLemmas.{one_to_one}
-use Rattle.emitted_files.specs.Values.{AreBoth}
-use Rattle.emitted_files.specs.Files.{IsVariable, IsOutput, IsEmitted}
-use Rattle.emitted_files.proofs.AbsentLemmas.{Match, scope_matches}
-use Rattle.emitted_files.proofs.InnerLemmas.{visible_is}
+use Rattle.emitted_sites.specs.Values.{AreBoth}
+use Rattle.emitted_sites.specs.Files.{IsVariable, IsOutput, IsEmitted}
+use Rattle.emitted_sites.proofs.AbsentLemmas.{Match, scope_matches}
+use Rattle.emitted_sites.proofs.InnerLemmas.{visible_is}
 use Rattle.emitted_sites.specs.Marks.{IsMarked}
 use Rattle.emitted_sites.specs.Sites.{IsInstance}
 use Rattle.emitted_sites.proofs.PlaceLemmas.{source_place}

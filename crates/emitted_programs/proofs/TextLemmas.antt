@@ -27,7 +27,7 @@ use Rattle.emitted_trees.proofs.LoopLemmas.{size_json, size_made}
 use Rattle.emitted_trees.proofs.TreeLemmas.{written_value}
 use Rattle.emitted_trees.specs.EmittedTrees.{count_of}
 use Rattle.emitted_trees.specs.Written.{tree_json, literal_json, IsWithin}
-use Rattle.emitted_files.specs.Values.{IsTree, IsExpression, plain_or_expression}
+use Rattle.emitted_sites.specs.Values.{IsTree, IsExpression, plain_or_expression}
 
 int_kept : (o : Option ℤ) → kept_of (option_map int o) ≡ option_map int o
 int_kept None = refl

@@ -8,7 +8,7 @@ use Rattle.bicep_emission.specs.Alike.{Alike}
 use Rattle.bicep_meaning.specs.Instances.{SourceProgram}
 use Rattle.cell_renaming.specs.Renaming.{renamed}
 use Rattle.source_worlds.specs.Numbers.{numbering}
-use Rattle.emitted_files.specs.Values.{AreBoth}
+use Rattle.emitted_sites.specs.Values.{AreBoth}
 use Rattle.emitted_sites.specs.Marks.{Marks}
 
 -- what the template reads in the renamed world and what the program reads in the world are both there or neither; and

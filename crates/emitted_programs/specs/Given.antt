@@ -17,8 +17,8 @@ use Rattle.plan_cells.specs.Meaning.{Deployment, bound_to}
 use Rattle.plan_cells.specs.Resources.{header_in}
 use Rattle.plan_cells.specs.Sites.{parameter_named}
 use Rattle.bicep_meaning.specs.Instances.{SourceProgram, given_for}
-use Rattle.emitted_files.specs.Files.{IsEmitted}
-use Rattle.emitted_worlds.specs.Facts.{HoldsResources}
+use Rattle.emitted_sites.specs.Files.{IsEmitted}
+use Rattle.emitted_sites.specs.Facts.{HoldsResources}
 use Rattle.emitted_programs.specs.Sound.{IsSoundProgram}
 
 -- a default is bound as it is, or where it reads nothing by its value, which nests at most 100 deep

@@ -10,10 +10,10 @@ use Rattle.deploy_cells.specs.Puts.{Kind}
 use Rattle.bicep_resolved.specs.Source.{PropertyTrees, LoopTree}
 use Rattle.bicep_declared.specs.Declarations.{BodyTree}
 use Rattle.bicep_meaning.specs.Instances.{body_fields}
-use Rattle.bicep_emission.specs.Emitted.{Frame}
-use Rattle.declaration_laws.specs.Sound.{IsSound}
+use Rattle.emitted_expressions.specs.Emitted.{Frame}
+use Rattle.emission_laws.specs.Sound.{IsSound}
 use Rattle.emitted_declarations.specs.Declared.{Emission}
-use Rattle.emitted_trees.specs.Written.{tree_json}
+use Rattle.emitted_values.specs.Written.{tree_json}
 use Rattle.emitted_values.specs.Files.{frames_around}
 use Rattle.emitted_values.specs.Values.{AreBoth, plain_or_expression}
 use Rattle.emitted_values.specs.Seen.{Shape, sight, file_in, whole_in, full_name_in, condition_in}

@@ -1,7 +1,7 @@
 -- Limits of resources.
 use Rattle.std.proofs.Common.{◌≤◌, ◌+◌, ℕ, suc, max, None, arith}
 use Rattle.bicep_declared.specs.Declarations.{BodyTree}
-use Rattle.emitted_trees.specs.Templates as t
+use Rattle.emitted_values.specs.Templates as t
 use Rattle.measured_trees.specs.Extremes.{tree_extremes}
 use Rattle.measured_trees.specs.Limits.{IsBeyond}
 use Rattle.measured_trees.proofs.WithinLemmas.{tree_small}

@@ -11,7 +11,7 @@ use Rattle.bicep_resolved.specs.Source.{LoopTree}
 use Rattle.bicep_declared.specs.Declarations.{BodyTree}
 use Rattle.bicep_meaning.specs.Files.{symbol_name}
 use Rattle.bicep_meaning.specs.Instances.{resource_kind}
-use Rattle.emitted_trees.specs.Written.{IsWritable, IsWithin, MembersAreWithin}
+use Rattle.emitted_values.specs.Written.{IsWritable, IsWithin, MembersAreWithin}
 use Rattle.emitted_values.specs.Files.{IsResource, IsLoop, IsBody}
 use Rattle.emitted_values.specs.Values.{AreBoth, IsCondition, plain_or_expression}
 use Rattle.emitted_values.specs.Seen.{Shape, file_in, files_in, whole_in}

@@ -10,8 +10,8 @@ use Rattle.template_parts.specs.declared.looping.Batches.{Batches}
 use Rattle.template_parts.specs.declared.looping.ResourceCopy.{ResourceCopy}
 use Rattle.bicep_resolved.specs.Source.{LoopTree}
 use Rattle.emitted_declarations.specs.Declared.{Emission}
-use Rattle.emitted_trees.specs.EmittedTrees.{count_of}
-use Rattle.emitted_trees.specs.Written.{expression_json}
+use Rattle.emitted_values.specs.EmittedTrees.{count_of}
+use Rattle.emitted_values.specs.Written.{expression_json}
 use Rattle.emitted_values.specs.Files.{frames_around}
 use Rattle.emitted_values.specs.Values.{AreBoth}
 

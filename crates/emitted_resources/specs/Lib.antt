@@ -11,3 +11,4 @@ pub use Rattle.emitted_values.specs.Seen
 pub use Rattle.measured_expressions.specs.Spans
 pub use Rattle.measured_trees.specs.Extremes
 pub use Rattle.measured_trees.specs.Measures
+pub use Rattle.emitted_values.specs.Sight

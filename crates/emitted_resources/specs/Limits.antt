@@ -5,12 +5,12 @@ use Rattle.bicep_resolved.specs.Source.{LoopTree}
 use Rattle.bicep_declared.specs.Declarations.{BodyTree}
 use Rattle.emitted_declarations.specs.Declared.{Emission}
 use Rattle.emitted_values.specs.Files.{frames_around}
-use Rattle.emitted_trees.specs.Templates.{TemplateMembers}
-use Rattle.emitted_trees.specs.Templates as t
-use Rattle.emitted_trees.specs.Written.{IsWritable, MembersAreWithin}
-use Rattle.tree_building.specs.Each.{MembersAreSmall}
+use Rattle.emitted_values.specs.Templates.{TemplateMembers}
+use Rattle.emitted_values.specs.Templates as t
+use Rattle.emitted_values.specs.Written.{IsWritable, MembersAreWithin}
+use Rattle.emitted_values.specs.Each.{MembersAreSmall}
 use Rattle.measured_trees.specs.Extremes.{Extremes, nothing, joined, tree_extremes}
-use Rattle.tree_building.specs.Depth.{members_depth}
+use Rattle.emitted_values.specs.Depth.{members_depth}
 use Rattle.emitted_values.specs.Seen.{Shape, whole_in}
 use Rattle.emitted_values.specs.Filled.{emission_sight}
 use Rattle.emitted_bodies.specs.Bodies.{body_members}

@@ -10,9 +10,9 @@ use Rattle.bicep_declared.specs.Declarations.{BodyTree}
 use Rattle.bicep_meaning.specs.Files.{SourceFile}
 use Rattle.bicep_meaning.specs.Instances.{Put, resource_kind}
 use Rattle.emitted_declarations.specs.Declared.{Emission}
-use Rattle.emitted_trees.specs.Templates.{TemplateMembers}
-use Rattle.emitted_trees.specs.Templates as t
-use Rattle.emitted_trees.specs.Written.{tree_json}
+use Rattle.emitted_values.specs.Templates.{TemplateMembers}
+use Rattle.emitted_values.specs.Templates as t
+use Rattle.emitted_values.specs.Written.{tree_json}
 use Rattle.emitted_values.specs.Values.{AreBoth, plain_or_expression}
 use Rattle.emitted_resources.specs.Heads.{whole_name, whole_condition, loop_count, IsConditionText, IsLoopOf}
 pub use Rattle.emitted_resources.specs.declared.needs.Needs.{Needs}

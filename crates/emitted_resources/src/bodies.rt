@@ -2,12 +2,12 @@
 ghost use Rattle.std.specs.Prelude.{◌≤◌, map};
 ghost use Rattle.bicep_resolved.specs.View.{property_of, properties};
 ghost use Rattle.emitted_expressions.specs.Sight.{frames_of};
-ghost use Rattle.emitted_trees.specs.Templates as t;
+ghost use Rattle.emitted_values.specs.Templates as t;
 ghost use Rattle.measured_trees.specs.Extremes.{tree_extremes};
 ghost use Rattle.measured_trees.specs.Measures.{Takes};
-ghost use Rattle.tree_building.specs.Built.{AreFields};
-ghost use Rattle.tree_building.specs.Depth.{members_depth};
-ghost use Rattle.tree_building.specs.Each.{MembersAreSmall};
+ghost use Rattle.emitted_values.specs.Built.{AreFields};
+ghost use Rattle.emitted_values.specs.Depth.{members_depth};
+ghost use Rattle.emitted_values.specs.Each.{MembersAreSmall};
 ghost use Rattle.emitted_bodies.specs.Bodies.{body_members};
 
 use arm_value::{Fields, OutOfMemory};

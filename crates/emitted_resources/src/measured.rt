@@ -1,9 +1,9 @@
 //! How much of the limits of templates resources take.
 ghost use Rattle.std.specs.Prelude.{IfOk};
 ghost use Rattle.bicep_declared.specs.View.{body_tree};
-ghost use Rattle.declaration_laws.specs.Sound.{IsSound};
-ghost use Rattle.emitted_trees.specs.Templates as t;
-ghost use Rattle.emitted_trees.specs.EmittedTrees.{count_of as count_tree};
+ghost use Rattle.emission_laws.specs.Sound.{IsSound};
+ghost use Rattle.emitted_values.specs.Templates as t;
+ghost use Rattle.emitted_values.specs.EmittedTrees.{count_of as count_tree};
 ghost use Rattle.measured_trees.specs.Extremes.{tree_extremes};
 ghost use Rattle.measured_trees.specs.Measures.{IsOf};
 ghost use Rattle.emitted_values.specs.Seen.{file_in, whole_in, sight};

@@ -3,16 +3,15 @@ ghost use Rattle.std.specs.Prelude.{◌≡◌, IfOk, bytes_eq, codes};
 ghost use Rattle.arm_expr.specs.View.{tree_of};
 ghost use Rattle.emitted_expressions.specs.Sight.{frames_of};
 ghost use Rattle.emitted_values.specs.Values.{plain_or_expression};
-ghost use Rattle.emitted_trees.specs.Templates as t;
-ghost use Rattle.tree_building.specs.Built.{IsTree};
+ghost use Rattle.emitted_values.specs.Templates as t;
+ghost use Rattle.emitted_values.specs.Built.{IsTree};
 ghost use Rattle.emitted_values.specs.Seen.{full_name_in, condition_in};
 ghost use Rattle.emitted_resources.specs.Heads.{is_always, IsConditionText};
 
 use arm_expr::{Expr, escaped, text_in_brackets};
 use arm_value::{OutOfMemory, Text, Value};
 use bicep_tree::is_word;
-use emitted_expressions::Turn;
-use emitted_parts::letting_go;
+use emitted_expressions::{Turn, letting_go};
 use emitted_values::Table;
 use std::alloc::Global;
 

@@ -1,10 +1,10 @@
 //! The loop around a resource or a module.
 ghost use Rattle.std.specs.Prelude.{◌∷◌, [], option_to_list};
 ghost use Rattle.bicep_declared.specs.View.{body_tree};
-ghost use Rattle.bicep_emission.specs.Emitted.{Frame};
+ghost use Rattle.emitted_expressions.specs.Emitted.{Frame};
 ghost use Rattle.emitted_expressions.specs.Sight.{IsFrame, AreFrames};
 ghost use Rattle.emitted_values.specs.Files.{frames_around};
-ghost use Rattle.emitted_parts.specs.Built.{Is};
+ghost use Rattle.emitted_expressions.specs.Built.{Is};
 ghost use Rattle.emitted_sizes.specs.Extent.{IsOf};
 ghost use Rattle.measured_expressions.specs.Spans.{AreSpans};
 ghost use Rattle.emitted_values.specs.Seen.{whole_in};
@@ -13,8 +13,7 @@ ghost use Rattle.emitted_values.specs.Filled.{IsFilled};
 use arm_expr::Expr;
 use arm_value::OutOfMemory;
 use bicep_declared::DeclaredBody;
-use emitted_expressions::{Declarations, Turn};
-use emitted_parts::with;
+use emitted_expressions::{Declarations, Turn, with};
 use emitted_sizes::Extent;
 use emitted_values::Table;
 use emitted_values::turns::{copy_index, run};

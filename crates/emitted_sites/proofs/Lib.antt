@@ -3,3 +3,9 @@ pub mod PlaceLemmas
 pub mod EntryLemmas
 pub mod ListingLemmas
 pub mod SiteLemmas
+pub use Rattle.emitted_worlds.proofs.AbsentLemmas
+pub use Rattle.emitted_worlds.proofs.FactLemmas
+pub use Rattle.emitted_worlds.proofs.InnerLemmas
+pub use Rattle.emitted_worlds.proofs.KindLemmas
+pub use Rattle.emitted_worlds.proofs.ListLemmas
+pub use Rattle.emitted_worlds.proofs.SourceLemmas

@@ -2,6 +2,7 @@
 use Rattle.std.proofs.Common.{◌≡◌, ℕ, zero, suc, Bool, true, false, length, List, [], ◌∷◌, map, Option, Some, None}
 use Rattle.std.proofs.Common.{refl, sym, ap, ◌∙◌}
 use Rattle.std.specs.Prelude.{option_map, slice_get}
+use Rattle.std.proofs.lemmas.Option.{slice_get-map}
 use Rattle.foundation.proofs.Options.{same_some}
 use Rattle.arm_value.specs.Json.{Json}
 use Rattle.arm_ids.specs.Members.{deployment_type}
@@ -85,12 +86,6 @@ same_index (a ∷ xs) [] k x e l = absurd cc
 same_index (a ∷ xs) (b ∷ ys) zero x e l = (b, refl)
 same_index (a ∷ xs) (b ∷ ys) (suc k) x e l = same_index xs ys k x e cc
 
-mapped_get : {A B : Type 0} (f : A → B) (xs : List A) (k : ℕ)
-    → slice_get (map f xs) k ≡ option_map f (slice_get xs k)
-mapped_get f [] k = refl
-mapped_get f (x ∷ xs) zero = refl
-mapped_get f (x ∷ xs) (suc k) = mapped_get f xs k
-
 some_of : (o : Option ℕ) (a : Option ℕ) → Some a ≡ option_map (λ m. Some m) o → (m : ℕ) × ((o ≡ Some m) × (a ≡ Some m))
 some_of None a e = absurd cc
 some_of (Some m) a e = (m, (refl, same_some e))
@@ -99,5 +94,5 @@ pub module_number : (f : ℕ → Option ℕ) (ns ms : List ℕ) (k n : ℕ) → 
     → slice_get ns k ≡ Some n → (m : ℕ) × ((slice_get ms k ≡ Some m) × (f n ≡ Some m))
 module_number f ns ms k n h e =
     some_of (slice_get ms k) (f n)
-    (sym (ap (option_map f) e) ∙ sym (mapped_get f ns k) ∙ ap (λ os. slice_get os k) h
-    ∙ mapped_get (λ m. Some m) ms k)
+    (sym (ap (option_map f) e) ∙ sym (slice_get-map f ns k) ∙ ap (λ os. slice_get os k) h
+    ∙ slice_get-map (λ m. Some m) ms k)

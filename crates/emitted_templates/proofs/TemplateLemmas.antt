@@ -2,7 +2,7 @@
 use Rattle.std.proofs.Common.{◌≤◌, ℕ, List, length, Option, Result, Ok, Err, sym, subst}
 use Rattle.std.specs.Prelude.{IfOk}
 use Rattle.std.specs.declared.alloc.AllocError.{AllocError}
-use Rattle.template_parts.specs.declared.mode.Form.TheVariants.{One}
+use Rattle.template_parts.specs.declared.mode.Form.{Form}
 use Rattle.template_parts.specs.declared.parameter.Parameter.{Parameter}
 use Rattle.template_tree.specs.Tree.{ResourceTree}
 use Rattle.template_tree.specs.View.{template_tree, header_of}
@@ -15,15 +15,15 @@ use Rattle.file_resources.specs.Built.{Templates, AreBuilt}
 use Rattle.file_resources.specs.Fits.{IsReady}
 use Rattle.file_resources.specs.Seen.{Shape, file_in}
 use Rattle.file_resources.specs.Within.{IsWithin}
-use Rattle.file_resources.proofs.ListedLemmas.{resources_are, dependents_are, none_exists}
+use Rattle.file_resources.proofs.ListedLemmas.{resources_are, dependents_are, none_exist}
 use Rattle.file_resources.proofs.NestedLemmas.{modules_are}
 use Rattle.emitted_templates.specs.Parts.{HasParts}
 use Rattle.emitted_templates.specs.Templates.{AreListsOf, IsMadeOf, IsTemplateOf}
 use Rattle.emitted_templates.specs.declared.lists.Listed.{Listed}
 
-module _ (s : Shape) (rs : List (Option Parameter)) (us : Templates) where
+module _ (z : Form) (s : Shape) (rs : List (Option Parameter)) (us : Templates) where
   template_of : (x : Listed) (resources : List ResourceTree) (u : Template) → AreListsOf s rs x
-      → AreBuilt s us (in_template One (file_in s)) resources → IsMadeOf x resources u → IsTemplateOf s rs us u
+      → AreBuilt z s us (in_template z (file_in s)) resources → IsMadeOf z x resources u → IsTemplateOf z s rs us u
   template_of x resources u l r m = record {
     form = m.form;
     address = m.address;
@@ -37,25 +37,25 @@ module _ (s : Shape) (rs : List (Option Parameter)) (us : Templates) where
     few_parameters = subst (λ xs. length xs ≤ parameter_count s) (sym m.parameters) l.few_parameters;
     few_variables = subst (λ xs. length xs ≤ variable_count s) (sym m.variables) l.few_variables;
     few_outputs = subst (λ xs. length xs ≤ output_count s) (sym m.outputs) l.few_outputs;
-    resources = subst (AreBuilt s us (in_template One (file_in s))) (sym m.same_resources) r;
+    resources = subst (AreBuilt z s us (in_template z (file_in s))) (sym m.same_resources) r;
   }
 
   -- the template of these lists and resources, or no memory
   pub is_template : (x : Listed) (resources : List ResourceTree) → AreListsOf s rs x
-      → AreBuilt s us (in_template One (file_in s)) resources → (r : Result Template AllocError)
-      → IfOk r (IsMadeOf x resources) → IfOk r (IsTemplateOf s rs us)
+      → AreBuilt z s us (in_template z (file_in s)) resources → (r : Result Template AllocError)
+      → IfOk r (IsMadeOf z x resources) → IfOk r (IsTemplateOf z s rs us)
   is_template x resources l b (Ok u) m = template_of x resources u l b m
   is_template x resources l b (Err e) m = tt
 
-  pub has_parts : (u : Template) → IsReady s → ((n : ℕ) → IsWithin s n) → IsTemplateOf s rs us u
-      → HasParts s rs (template_tree u)
+  pub has_parts : (u : Template) → IsReady s → ((n : ℕ) → IsWithin z s n) → IsTemplateOf z s rs us u
+      → HasParts z s rs (template_tree u)
   has_parts u ready within t = record {
     form = t.form;
     parameters = t.parameters;
     variables = t.variables;
     outputs = t.outputs;
-    resources = resources_are s us ready.paired within (header_of u) u.resources t.resources;
-    dependents = dependents_are s us ready.paired within (header_of u) u.resources t.resources;
-    none_exist = none_exists s us (header_of u) u.resources t.resources;
-    modules = modules_are s us (header_of u) u.resources t.resources;
+    resources = resources_are z s us ready.paired within (header_of u) u.resources t.resources;
+    dependents = dependents_are z s us ready.paired within (header_of u) u.resources t.resources;
+    none_exist = none_exist s us z (header_of u) u.resources t.resources;
+    modules = modules_are z s us (header_of u) u.resources t.resources;
   }

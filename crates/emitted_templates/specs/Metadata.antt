@@ -4,7 +4,6 @@ use Rattle.arm_value.specs.Json.{Json}
 use Rattle.arm_value.specs.View.{json}
 use Rattle.arm_value.specs.declared.value.Value.{Value}
 use Rattle.template_parts.specs.declared.mode.Form.{Form}
-use Rattle.template_parts.specs.declared.mode.Form.TheVariants.{One}
 use Rattle.template_parts.specs.declared.output.Output.{Output}
 use Rattle.template_parts.specs.declared.parameter.Parameter.{Parameter}
 use Rattle.template_tree.specs.Tree.{TemplateTree}
@@ -40,9 +39,9 @@ pub record HasMetadata (z : Form) (f : SourceFile) (of_symbol of_output : â„• â†
       (slice_get (resources_in u) m)
 
 -- a template with these lists of metadata: by the numbers of the symbols, and by those of the outputs
-pub record IsNoted (s : Shape) (ms os : List (Option Value)) (u : Template) : Type 0 where
+pub record IsNoted (z : Form) (s : Shape) (ms os : List (Option Value)) (u : Template) : Type 0 where
   pub outputs : lists.HaveMetadata s os u.outputs
-  pub same_resources : HaveMetadata ms (in_template One (file_in s)) u.resources
+  pub same_resources : HaveMetadata ms (in_template z (file_in s)) u.resources
 
 -- these lists, and the parameters of a file, have the metadata of the symbols and of the outputs
 pub record AreOf (s : Shape) (rs : List (Option Parameter)) (ms os : List (Option Value))

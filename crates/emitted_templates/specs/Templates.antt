@@ -1,6 +1,6 @@
--- The template of a file in the first form, as it is made.
+-- The template of a file, as it is made.
 use Rattle.std.specs.Prelude.{◌≡◌, ◌≤◌, ℕ, List, length, Option, codes}
-use Rattle.template_parts.specs.declared.mode.Form.TheVariants.{One}
+use Rattle.template_parts.specs.declared.mode.Form.{Form}
 use Rattle.template_parts.specs.declared.parameter.Parameter.{Parameter}
 use Rattle.template_tree.specs.Tree.{ResourceTree}
 use Rattle.template_tree.specs.declared.resource.Template.{Template}
@@ -42,9 +42,9 @@ pub record AreListsOf (s : Shape) (rs : List (Option Parameter)) (x : Listed) : 
   pub few_variables : length x.variables ≤ variable_count s
   pub few_outputs : length x.outputs ≤ output_count s
 
--- the template of these lists and resources
-pub record IsMadeOf (x : Listed) (resources : List ResourceTree) (u : Template) : Type 0 where
-  pub form : u.form ≡ One
+-- the template of these lists and resources in a form
+pub record IsMadeOf (z : Form) (x : Listed) (resources : List ResourceTree) (u : Template) : Type 0 where
+  pub form : u.form ≡ z
   pub address : u.schema ≡ schema
   pub version : u.content_version ≡ content_version
   pub parameters : u.parameters ≡ x.parameters
@@ -53,8 +53,9 @@ pub record IsMadeOf (x : Listed) (resources : List ResourceTree) (u : Template) 
   pub same_resources : u.resources ≡ resources
 
 -- the template of a file, with these rules of its parameters, and with these templates of its modules
-pub record IsTemplateOf (s : Shape) (rs : List (Option Parameter)) (us : Templates) (u : Template) : Type 0 where
-  pub form : u.form ≡ One
+pub record IsTemplateOf (z : Form) (s : Shape) (rs : List (Option Parameter)) (us : Templates) (u : Template)
+    : Type 0 where
+  pub form : u.form ≡ z
   pub address : u.schema ≡ schema
   pub version : u.content_version ≡ content_version
   pub parameters : AreParameters s rs u.parameters
@@ -67,4 +68,4 @@ pub record IsTemplateOf (s : Shape) (rs : List (Option Parameter)) (us : Templat
   pub few_parameters : length u.parameters ≤ parameter_count s
   pub few_variables : length u.variables ≤ variable_count s
   pub few_outputs : length u.outputs ≤ output_count s
-  pub resources : AreBuilt s us (in_template One (file_in s)) u.resources
+  pub resources : AreBuilt z s us (in_template z (file_in s)) u.resources

@@ -1,8 +1,8 @@
-//! The template of a Bicep file in the first form.
+//! The template of a Bicep file.
 //!
 //! A caller may rely on `template`: of a table of all declarations of the file, of the rules of its parameters and of
-//! the templates of its modules it returns the template of the file, as `specs/Templates` says, or no memory. `laws`
-//! says that this template is that of the file (`specs/Parts`), where its expressions are within the limits.
+//! the templates of its modules it returns the template of the file in a form, as `specs/Templates` says, or no memory.
+//! `laws` says that this template is that of the file (`specs/Parts`), where its expressions are within the limits.
 #![tactic(auto)]
 
 pub mod laws;

@@ -30,12 +30,17 @@ fn texts(alloc: Global) -> Result<(Text, Text), OutOfMemory>
 }
 
 // The template of these lists and resources.
-fn made(alloc: Global, lists: Listed, resources: Resources) -> Result<Template, OutOfMemory>
-    ensures { IfOk result (IsMadeOf lists resources) }
+fn made(
+    alloc: Global,
+    form: Form,
+    lists: Listed,
+    resources: Resources,
+) -> Result<Template, OutOfMemory>
+    ensures { IfOk result (IsMadeOf form lists resources) }
 {
     match texts(alloc) {
         Ok((schema, content_version)) => Ok(Template {
-            form: Form::One,
+            form,
             schema,
             content_version,
             parameters: lists.parameters,
@@ -47,7 +52,7 @@ fn made(alloc: Global, lists: Listed, resources: Resources) -> Result<Template, 
     }
 }
 
-/// The template of a file in the first form, with a table of all its declarations. `rules` has at the number of each
+/// The template of a file in a form, with a table of all its declarations. `rules` has at the number of each
 /// symbol that is a parameter its name, its type, the values that are allowed, its bounds and its metadata. `metadata`
 /// has at the number of each resource and each module its metadata, and `output_metadata` at that of each output.
 /// `mentioned` is what `dependencies` of `bicep_dependencies` returns. `templates` has for each symbol the template of
@@ -59,6 +64,7 @@ fn made(alloc: Global, lists: Listed, resources: Resources) -> Result<Template, 
 pub fn template(
     alloc: Global,
     table: &Table,
+    form: Form,
     rules: &[Option<Parameter>],
     metadata: &[Option<Value>],
     output_metadata: &[Option<Value>],
@@ -69,12 +75,12 @@ pub fn template(
     requires listed { CanBeListed table.now rules.now }
     requires mentioned { AreMentioned table.now mentioned.now }
     requires built { AllMayBeBuilt table.now (templates_of templates.items) }
-    ensures template { IfOk result (IsTemplateOf table.now rules.now (templates_of templates.items)) }
-    ensures metadata { IfOk result (IsNoted table.now metadata.now output_metadata.now) }
+    ensures template { IfOk result (IsTemplateOf form table.now rules.now (templates_of templates.items)) }
+    ensures metadata { IfOk result (IsNoted form table.now metadata.now output_metadata.now) }
 {
-    match resources(alloc, table, mentioned, metadata, templates) {
+    match resources(alloc, table, form, mentioned, metadata, templates) {
         Ok(resources) => match lists(alloc, table, rules, output_metadata) {
-            Ok(lists) => made(alloc, lists, resources),
+            Ok(lists) => made(alloc, form, lists, resources),
             Err(_) => lacks(resources),
         },
         Err(error) => Err(error),

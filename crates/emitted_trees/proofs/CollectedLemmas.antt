@@ -1,11 +1,12 @@
 -- Members that are read one after another, and the object of them.
 use Rattle.std.proofs.Common.{◌≡◌, ℕ, List, [], ◌∷◌, ◌++◌, Option, Some, None, Bool, true, false, refl, ap, ◌∙◌}
 use Rattle.std.specs.Prelude.{◌||◌, ◌&&◌, if◌then◌else◌}
+use Rattle.foundation.proofs.TruthValues.{or_false}
 use Rattle.arm_value.specs.Json.{Json, Member, put, put_each}
 use Rattle.arm_env.specs.Object.{object_of}
 use Rattle.arm_eval.specs.Trees.{are_new, differ, names_of, joined}
 use Rattle.bicep_emission.specs.Alike.{Seen, after}
-use Rattle.bicep_emission.proofs.SeenLemmas.{then_seen, both_seen, done_seen, or-false}
+use Rattle.bicep_emission.proofs.SeenLemmas.{then_seen, both_seen, done_seen}
 use Rattle.emitted_trees.proofs.ItemLemmas.{Item, nothing, named, marked, put_seen, onto}
 
 -- a member in front of others
@@ -73,8 +74,8 @@ or_assoc true b c = refl
 or_assoc false b c = refl
 
 none_in_turn : (t : Seen (List Member)) → in_turn (done_seen (Some [])) t ≡ t
-none_in_turn (Some ms, c) = ap (λ m. let r : Seen (List Member) = (Some ms, m) in r) (or-false c)
-none_in_turn (None, c) = ap (λ m. let r : Seen (List Member) = (None, m) in r) (or-false c)
+none_in_turn (Some ms, c) = ap (λ m. let r : Seen (List Member) = (Some ms, m) in r) (or_false c)
+none_in_turn (None, c) = ap (λ m. let r : Seen (List Member) = (None, m) in r) (or_false c)
 
 front_in_turn : (k : List ℕ) (s : Seen Json) (t u : Seen (List Member))
     → in_turn (front k s t) u ≡ front k s (in_turn t u)

@@ -4,3 +4,4 @@ pub mod CollectedLemmas
 pub mod TemplateLemmas
 pub mod LoopLemmas
 pub mod TreeLemmas
+pub use Rattle.bicep_emission.proofs.SpelledLemmas

@@ -7,8 +7,8 @@ use Rattle.foundation.proofs.Comparisons.{lt_true, le_of_true, le_false, le_of_f
 use Rattle.arm_value.specs.Json.{Json, null, bool, int, text, array, object, row, items, members}
 use Rattle.arm_value.specs.Look.{fold, is_same_folded}
 use Rattle.arm_expr.specs.Tree.{Tree, index}
-use Rattle.arm_functions.specs.Table.{table, row_in}
-use Rattle.arm_functions.specs.Values.{function_value, value_of, of_lists}
+use Rattle.bicep_emission.specs.Table.{table, row_in}
+use Rattle.bicep_emission.specs.Values.{function_value, value_of, of_lists}
 use Rattle.function_numbers.specs.Numbers.{within, from_zero}
 use Rattle.function_lists.specs.Sizes.{size_of}
 use Rattle.reading.specs.Reading.{done, pure, continued, both, beside}
@@ -23,23 +23,21 @@ use Rattle.arm_env.specs.Held.{held_value}
 use Rattle.arm_eval.specs.Trees.{counting, array_of, turns, looping_of, Copy}
 use Rattle.arm_eval.specs.Trees as trees
 use Rattle.arm_eval.specs.Outputs.{inputs, input_at}
-use Rattle.expression_values.specs.Meaning.{held, value, called}
-use Rattle.expression_values.proofs.Equations.{texts}
+use Rattle.arm_eval.specs.Meaning.{held, value, called}
+use Rattle.arm_eval.proofs.Equations.{texts}
 use Rattle.deploy_cells.specs.Guarded.{Reads}
-use Rattle.bicep_meaning.specs.Around as source
-use Rattle.bicep_meaning.specs.Around.{Here, run_at, runs, looped}
-use Rattle.bicep_meaning.specs.Rows.{all, capped, by_both, few, runs_of}
+use Rattle.bicep_emission.specs.Around as source
+use Rattle.bicep_emission.specs.Around.{Here, run_at, runs, looped}
+use Rattle.bicep_emission.specs.Rows.{all, capped, by_both, few, runs_of}
 use Rattle.bicep_emission.specs.Alike.{Seen, seen_in}
 use Rattle.bicep_emission.specs.Answered.{Sides, Answers, IsPlainPlace}
 use Rattle.bicep_emission.specs.Emitted.{element}
 use Rattle.bicep_emission.specs.Stands.{Like, HoldsValue, Stands, FrameStands, surroundings}
-use Rattle.bicep_emission.proofs.SeenLemmas.{then_seen, both_seen, done_seen, then-then, then-same, seen-continued}
-use Rattle.bicep_emission.proofs.SeenLemmas.{value-seen}
+use Rattle.bicep_emission.proofs.SeenLemmas.{then_seen, both_seen, done_seen, then-then, then-same, seen-continued, value-seen}
 use Rattle.bicep_emission.proofs.KeptLemmas.{kept_of}
 use Rattle.bicep_emission.proofs.AlikeLemmas.{alike_at}
 use Rattle.bicep_emission.proofs.AccessLemmas.{plain_value, used_held, keep_done, index_seen, plain_index}
-use Rattle.bicep_emission.proofs.CallLemmas.{AllLike, seen, seen-on, seen-capped, seen-capped-on, like_on, like_all}
-use Rattle.bicep_emission.proofs.CallLemmas.{like_capped, like_one}
+use Rattle.bicep_emission.proofs.CallLemmas.{AllLike, seen, seen-on, seen-capped, seen-capped-on, like_on, like_all, like_capped, like_one}
 use Rattle.bicep_emission.proofs.OperatorLemmas.{by_both_seen}
 use Rattle.bicep_emission.proofs.StateLemmas.{used_same, plain_same}
 use Rattle.bicep_emission.proofs.ExpressionLemmas.{stands, is_plain}

@@ -1,12 +1,13 @@
 -- Objects of a template: their own members and those that loops give are read as one list of members, in any order.
 use Rattle.std.proofs.Common.{◌≡◌, ◌≢◌, ℕ, List, [], ◌∷◌, ◌++◌, Option, Some, None, Bool, true, false, codes}
 use Rattle.std.proofs.Common.{refl, sym, ap, ap₂, ◌∙◌, map, Ordering, Less, Equal, Greater}
-use Rattle.std.proofs.lemmas.Slice.Eq.{bytes_eq-Decides}
 use Rattle.std.proofs.lemmas.List.{append_assoc, map-append}
 use Rattle.std.specs.Prelude.{◌||◌, ◌&&◌, not, bytes_eq, if◌then◌else◌}
 use Rattle.std.specs.List.{AllByRecursion, list_any}
 use Rattle.std.specs.Ordering.{match_ordering}
-use Rattle.foundation.proofs.TruthValues.{unless}
+use Rattle.arm_value.proofs.MemberLemmas.{put_each-append}
+use Rattle.foundation.proofs.Words.{eq_word}
+use Rattle.foundation.proofs.TruthValues.{unless, or_false}
 use Rattle.arm_value.specs.Json.{Json, array, object, Member, row, pairs, keys, key_cmp, put, put_each}
 use Rattle.arm_env.specs.Look as look
 use Rattle.arm_env.specs.Look.{Looking, Surroundings}
@@ -15,15 +16,13 @@ use Rattle.arm_env.specs.Object.{object_of}
 use Rattle.arm_env.specs.Part.{kept}
 use Rattle.arm_eval.specs.Trees as trees
 use Rattle.arm_expr.specs.Brackets.{is_copy}
-use Rattle.arm_eval.specs.Trees.{Copy, turns, array_of, counting, counted, copied, are_new, differ, joined}
-use Rattle.arm_eval.specs.Trees.{concat, tree_value, given_members, copies, row_copies, copy_in, object_by}
+use Rattle.arm_eval.specs.Trees.{Copy, turns, array_of, counting, copied, are_new, differ, joined, concat, tree_value, given_members, copies, row_copies, object_by}
 use Rattle.reading.specs.Reading.{done, pure, continued, both}
 use Rattle.bicep_emission.specs.Alike.{Seen, seen_in}
 use Rattle.bicep_emission.specs.Answered.{Sides}
-use Rattle.bicep_emission.proofs.SeenLemmas.{then_seen, both_seen, done_seen, or-false, seen-continued, seen-both}
-use Rattle.bicep_emission.proofs.SeenLemmas.{seen-twice}
+use Rattle.bicep_emission.proofs.SeenLemmas.{then_seen, both_seen, done_seen, seen-continued, seen-both, seen-twice}
 use Rattle.emitted_trees.specs.Sound.{Differ}
-use Rattle.emitted_trees.specs.Templates.{TemplateTree, TemplateMembers, TemplateValue}
+use Rattle.emitted_trees.specs.Templates.{TemplateMembers, TemplateValue}
 use Rattle.emitted_trees.specs.Templates as t
 use Rattle.emitted_trees.specs.Written.{expression_json, copy_member, tree_json, own_members, loops}
 use Rattle.emitted_trees.proofs.ItemLemmas.{Item, nothing, named, onto, Same, Apart, AllApart, same_front, same_after}
@@ -43,20 +42,13 @@ all_zip : {A : Type 0} (P Q R : A → Type 0) (xs : List A) → ((x : A) → P x
 all_zip P Q R [] f h g = tt
 all_zip P Q R (x ∷ xs) f h g = (f x h.0 g.0, all_zip P Q R xs f h.1 g.1)
 
-put_each_append : (ls ms ns : List Member) → put_each ls (ms ++ ns) ≡ put_each (put_each ls ms) ns
-put_each_append ls [] ns = refl
-put_each_append ls (m ∷ ms) ns = put_each_append (put m.0 m.1 ls) ms ns
-
 -- ---- names
-
-same_text : (k l : List ℕ) → bytes_eq k l ≡ true → k ≡ l
-same_text k l e = (bytes_eq-Decides k l).0 e
 
 not_among : (k : List ℕ) (ks : List (List ℕ)) → AllByRecursion (λ other. k ≢ other) ks
     → list_any (bytes_eq k) ks ≡ false
 not_among k [] h = refl
 not_among k (l ∷ ks) h =
-    ap₂ (λ a b. a || b) (unless (bytes_eq k l) (λ e. h.0 (same_text k l e))) (not_among k ks h.1)
+    ap₂ (λ a b. a || b) (unless (bytes_eq k l) (λ e. h.0 (eq_word k l e))) (not_among k ks h.1)
 
 new_names : (ms : List Member) (ks : List (List ℕ)) → AllByRecursion (λ k. Absent k ms) ks
     → are_new (keys ms) ks ≡ true
@@ -183,8 +175,8 @@ module _ (x : Sides) (here : Surroundings) where
   joined_all u = then_seen u (λ mss. done_seen (Some (concat mss)))
 
   none_joined : (u : Seen (List (List Member))) → joined_front (done_seen (Some [])) u ≡ joined_all u
-  none_joined (Some mss, b) = ap (λ m. let r : Seen (List Member) = (Some (concat mss), m) in r) (or-false b)
-  none_joined (None, b) = ap (λ m. let r : Seen (List Member) = (None, m) in r) (or-false b)
+  none_joined (Some mss, b) = ap (λ m. let r : Seen (List Member) = (Some (concat mss), m) in r) (or_false b)
+  none_joined (None, b) = ap (λ m. let r : Seen (List Member) = (None, m) in r) (or_false b)
 
   member_joined : (k : List ℕ) (s : Seen Json) (u : Seen (List (List Member)))
       → joined_front (then_seen s (λ v. done_seen (Some (one_member k v)))) u ≡ front k s (joined_all u)
@@ -349,10 +341,10 @@ module _ (x : Sides) (here : Surroundings) where
       → given_members (pairs (sorted own js)) here ≡ look.all (row_copies (row js) here)
   unfolding look.all
   given_sorted own [] h =
-      ap (λ ms. given_members (pairs ms) here) (put_each_append [] own [])
+      ap (λ ms. given_members (pairs ms) here) (put_each-append [] own [])
       ∙ given_none (put_each [] own) (no_copy_put_each [] own tt h)
   given_sorted own (j ∷ js) h =
-      ap (λ ms. given_members (pairs ms) here) (put_each_append [] own (copy_member (j ∷ js)))
+      ap (λ ms. given_members (pairs ms) here) (put_each-append [] own (copy_member (j ∷ js)))
       ∙ given_put (array (row (j ∷ js))) (put_each [] own) (no_copy_put_each [] own tt h)
 
   loop_names_are : (ms : TemplateMembers) → item_names (map loop_item (loop_copies ms)) ≡ loop_names ms

@@ -19,27 +19,26 @@ use Rattle.arm_env.specs.Part.{kept}
 use Rattle.arm_eval.specs.Trees.{tree_value, row_values, said_value, looping_of, turns, Copy}
 use Rattle.arm_eval.specs.Outputs.{inputs, output_loop}
 use Rattle.arm_eval.proofs.TextLemmas.{expression_read}
-use Rattle.expression_values.specs.Meaning.{value}
+use Rattle.arm_eval.specs.Meaning.{value}
 use Rattle.reading.specs.Reading.{done, pure, continued, both}
 use Rattle.deploy_cells.specs.Guarded.{Reads}
 use Rattle.bicep_tree.specs.declared.leaf.Literal.{Literal}
 use Rattle.bicep_tree.specs.declared.leaf.Literal.TheVariants as l
 use Rattle.bicep_tree.specs.declared.leaf.Prefix.{Prefix}
 use Rattle.bicep_tree.specs.declared.leaf.Prefix.TheVariants as prefix
-use Rattle.bicep_resolved.specs.Source.{SourceTree, SourceTrees, PropertyTrees, ValueTree}
-use Rattle.bicep_resolved.specs.Source as s
-use Rattle.bicep_meaning.specs.Around as source
-use Rattle.bicep_meaning.specs.Around.{Here, run_at, runs}
-use Rattle.bicep_meaning.specs.Rows.{all, capped, literal_value}
-use Rattle.bicep_meaning.specs.Meaning as meaning
-use Rattle.bicep_meaning.specs.Meaning.{bare, bare_value}
+use Rattle.bicep_emission.specs.Source.{SourceTree, SourceTrees, PropertyTrees, ValueTree}
+use Rattle.bicep_emission.specs.Source as s
+use Rattle.bicep_emission.specs.Around as source
+use Rattle.bicep_emission.specs.Around.{Here, run_at, runs}
+use Rattle.bicep_emission.specs.Rows.{all, capped, literal_value}
+use Rattle.bicep_emission.specs.Meaning as meaning
+use Rattle.bicep_emission.specs.Meaning.{bare, bare_value}
 use Rattle.bicep_emission.specs.Alike.{Seen, seen_in}
 use Rattle.bicep_emission.specs.Answered.{Sides, Answers, IsPlainPlace}
 use Rattle.bicep_emission.specs.Emittable.{IsEmittable}
 use Rattle.bicep_emission.specs.Emitted.{Frame, Scope, emitted, element}
 use Rattle.bicep_emission.specs.Stands.{Like, FramesStand, ScopeStands, surroundings}
-use Rattle.bicep_emission.proofs.SeenLemmas.{then_seen, both_seen, done_seen, seen-continued}
-use Rattle.bicep_emission.proofs.SeenLemmas.{seen-both}
+use Rattle.bicep_emission.proofs.SeenLemmas.{then_seen, both_seen, done_seen, seen-continued, seen-both}
 use Rattle.bicep_emission.proofs.CallLemmas.{AllLike, seen, like_on, like_all, like_capped}
 use Rattle.bicep_emission.proofs.ExpressionLemmas as expressions
 use Rattle.emitted_trees.specs.Templates.{TemplateTree, TemplateItems, TemplateMembers, TemplateValue}

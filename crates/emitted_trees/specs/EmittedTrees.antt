@@ -10,9 +10,9 @@ use Rattle.bicep_tree.specs.declared.leaf.Literal.{Literal}
 use Rattle.bicep_tree.specs.declared.leaf.Literal.TheVariants as l
 use Rattle.bicep_tree.specs.declared.leaf.Prefix.{Prefix}
 use Rattle.bicep_tree.specs.declared.leaf.Prefix.TheVariants as prefix
-use Rattle.bicep_resolved.specs.Source.{SourceTree, SourceTrees, PropertyTrees, ValueTree}
-use Rattle.bicep_resolved.specs.Source as s
-use Rattle.bicep_meaning.specs.Files.{SourceFile}
+use Rattle.bicep_emission.specs.Source.{SourceTree, SourceTrees, PropertyTrees, ValueTree}
+use Rattle.bicep_emission.specs.Source as s
+use Rattle.bicep_emission.specs.Files.{SourceFile}
 use Rattle.bicep_emission.specs.Emitted.{Frame, Scope, one, element, emitted}
 use Rattle.emitted_trees.specs.Templates.{TemplateTree, TemplateItems, TemplateMembers, TemplateValue}
 use Rattle.emitted_trees.specs.Templates as t

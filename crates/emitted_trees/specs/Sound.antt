@@ -1,8 +1,8 @@
 -- Values that a program without faults has outside of expressions.
 use Rattle.std.specs.Prelude.{◌≡◌, ◌≢◌, ℕ, true, List, [], ◌∷◌}
 use Rattle.std.specs.List.{AllByRecursion}
-use Rattle.bicep_resolved.specs.Source.{SourceTree, SourceTrees, PropertyTrees, ValueTree}
-use Rattle.bicep_resolved.specs.Source as s
+use Rattle.bicep_emission.specs.Source.{SourceTree, SourceTrees, PropertyTrees, ValueTree}
+use Rattle.bicep_emission.specs.Source as s
 use Rattle.bicep_emission.specs.Emittable.{IsEmittable}
 use Rattle.emitted_trees.specs.EmittedTrees.{has_copy}
 

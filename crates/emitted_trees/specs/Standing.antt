@@ -6,8 +6,8 @@ use Rattle.arm_eval.specs.Looped.{looped}
 use Rattle.arm_eval.specs.Outputs.{Content, a_tree, a_copy, content_value}
 use Rattle.arm_eval.specs.Trees.{tree_value}
 use Rattle.arm_value.specs.Json.{Json}
-use Rattle.bicep_meaning.specs.Around as source
-use Rattle.bicep_meaning.specs.Around.{Here}
+use Rattle.bicep_emission.specs.Around as source
+use Rattle.bicep_emission.specs.Around.{Here}
 use Rattle.bicep_emission.specs.Answered.{Sides}
 use Rattle.bicep_emission.specs.Emitted.{Frame}
 use Rattle.bicep_emission.specs.Stands.{FramesStand, surroundings}

@@ -2,10 +2,10 @@
 ghost use Rattle.std.specs.Prelude.{◌≡◌, ◌<◌, ◌^◌, ℕ, true, List, [], ◌∷◌, Some, None};
 ghost use Rattle.arm_env.specs.declared.env.Looping.{Looping};
 ghost use Rattle.arm_eval.specs.Trees.{tree_value};
-ghost use Rattle.bicep_resolved.specs.Source.{SourceTree, ValueTree};
-ghost use Rattle.bicep_meaning.specs.Around as source;
-ghost use Rattle.bicep_meaning.specs.Around.{Here, run_at};
-ghost use Rattle.bicep_meaning.specs.Meaning as meaning;
+ghost use Rattle.bicep_emission.specs.Source.{SourceTree, ValueTree};
+ghost use Rattle.bicep_emission.specs.Around as source;
+ghost use Rattle.bicep_emission.specs.Around.{Here, run_at};
+ghost use Rattle.bicep_emission.specs.Meaning as meaning;
 ghost use Rattle.bicep_emission.specs.Answered.{Sides, Answers, IsPlainPlace};
 ghost use Rattle.bicep_emission.specs.Emitted.{Frame, Scope, element};
 ghost use Rattle.bicep_emission.specs.Stands.{Like, ScopeStands, surroundings};

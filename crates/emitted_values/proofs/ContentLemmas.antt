@@ -7,9 +7,9 @@ use Rattle.arm_value.specs.View.{json}
 use Rattle.arm_value.specs.declared.value.Value.{Value}
 use Rattle.arm_value.specs.declared.value.Value.TheVariants as value
 use Rattle.emitted_files.specs.Values.{IsContent, IsTree}
-use Rattle.emitted_trees.specs.Templates.{TemplateTree, TemplateValue}
-use Rattle.emitted_trees.specs.Templates as t
-use Rattle.emitted_trees.specs.Written.{tree_json, IsWithin, ValueIsWithin}
+use Rattle.tree_building.specs.Templates.{TemplateTree, TemplateValue}
+use Rattle.tree_building.specs.Templates as t
+use Rattle.tree_building.specs.Written.{tree_json, IsWithin, ValueIsWithin}
 use Rattle.template_parts.specs.declared.content.Content.TheVariants as content
 use Rattle.tree_building.specs.Built.{Matches}
 use Rattle.tree_building.specs.declared.parts.Looped.{Looped}

@@ -5,10 +5,10 @@ use Rattle.std.specs.declared.alloc.AllocError.{AllocError}
 use Rattle.bicep_declared.specs.Declarations.{OutputTree}
 use Rattle.bicep_meaning.specs.Files.{SourceFile}
 use Rattle.bicep_resolved.specs.Source.{ValueTree}
-use Rattle.emitted_declarations.specs.Declared.{whole}
+use Rattle.declaration_laws.specs.Declared.{whole}
 use Rattle.emitted_files.specs.Files.{IsVariable, IsOutput}
 use Rattle.emitted_files.specs.Values.{IsContent}
-use Rattle.emitted_trees.specs.EmittedTrees.{value_of}
+use Rattle.tree_building.specs.EmittedTrees.{value_of}
 use Rattle.template_parameters.specs.Rule as rule
 use Rattle.template_parts.specs.declared.content.Content.{Content}
 use Rattle.template_parts.specs.declared.output.Output.{Output}

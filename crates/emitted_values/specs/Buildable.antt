@@ -1,7 +1,7 @@
 -- Values that are within the limits of templates.
 use Rattle.std.specs.Prelude.{◌≤◌}
-use Rattle.emitted_trees.specs.Templates.{TemplateTree, TemplateValue}
-use Rattle.emitted_trees.specs.Written.{IsWithin, ValueIsWithin}
+use Rattle.tree_building.specs.Templates.{TemplateTree, TemplateValue}
+use Rattle.tree_building.specs.Written.{IsWithin, ValueIsWithin}
 use Rattle.tree_building.specs.Depth.{depth, value_depth}
 
 -- its expressions are within the limits, and it nests so deep that it can be the value of a member

@@ -5,3 +5,11 @@ pub use Rattle.emitted_files.specs.Files
 pub use Rattle.emitted_files.specs.Values
 pub use Rattle.filled_tables.specs.Filled
 pub use Rattle.filled_tables.specs.Seen
+pub use Rattle.tree_building.specs.Sight
+pub use Rattle.declaration_laws.specs.Sound
+pub use Rattle.tree_building.specs.Built
+pub use Rattle.tree_building.specs.Depth
+pub use Rattle.tree_building.specs.Each
+pub use Rattle.tree_building.specs.EmittedTrees
+pub use Rattle.tree_building.specs.Templates
+pub use Rattle.tree_building.specs.Written

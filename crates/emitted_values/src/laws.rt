@@ -1,10 +1,10 @@
 //! Values with a table of all declarations. A law has at most other laws in its body: its contract is the law.
 ghost use Rattle.std.specs.Prelude.{◌≡◌, ◌≤◌, List, Option, ℕ};
 ghost use Rattle.bicep_resolved.specs.Source.{SourceTree, ValueTree};
-ghost use Rattle.bicep_emission.specs.Emitted.{Frame};
+ghost use Rattle.declaration_laws.specs.Emitted.{Frame};
 ghost use Rattle.declaration_laws.specs.Sound.{IsSound};
 ghost use Rattle.filled_tables.specs.Seen.{Shape, sight, file_in};
-ghost use Rattle.emitted_trees.specs.Templates.{TemplateTree, TemplateValue};
+ghost use Rattle.tree_building.specs.Templates.{TemplateTree, TemplateValue};
 ghost use Rattle.filled_tables.specs.Filled.{IsFilled, emission_sight};
 ghost use Rattle.tree_building.specs.Depth.{depth, value_depth};
 ghost use Rattle.tree_building.specs.Each.{AreSmall, ValueIsSmall};

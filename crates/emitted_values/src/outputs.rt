@@ -14,7 +14,7 @@ use crate::contents::content;
 use arm_value::{OutOfMemory, Text, Value};
 use bicep_declared::DeclaredOutput;
 use bicep_tree::TypeName;
-use emitted_parts::lacks;
+use emitted_expressions::lacks;
 use filled_tables::Table;
 use std::alloc::Global;
 use template_parts::{Content, Output, ValueType};

@@ -11,7 +11,7 @@ ghost use Rattle.emitted_values.specs.Buildable.{MayBeBuilt};
 use crate::contents::content;
 use arm_value::{OutOfMemory, Text};
 use bicep_resolved::SourceValue;
-use emitted_parts::lacks;
+use emitted_expressions::lacks;
 use filled_tables::Table;
 use std::alloc::Global;
 use template_parts::{Content, Variable};

@@ -6,3 +6,4 @@ pub mod RenamedLemmas
 pub mod FactLemmas
 pub use Rattle.emitted_files.proofs.AbsentLemmas
 pub use Rattle.emitted_files.proofs.InnerLemmas
+pub use Rattle.emitted_files.proofs.KindLemmas

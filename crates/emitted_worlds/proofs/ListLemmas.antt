@@ -1,6 +1,6 @@
 -- Lists of nested deployments, and counts.
 use Rattle.std.proofs.Common.{◌≡◌, ℕ, suc, pos, negsuc, nat_le, Bool, true, false, true≢false, length}
-use Rattle.std.proofs.Common.{List, [], ◌∷◌, map}
+use Rattle.std.proofs.Common.{List, [], ◌∷◌}
 use Rattle.std.proofs.Common.{Option, Some, None, refl, sym, ap, ◌∙◌}
 use Rattle.std.specs.Prelude.{option_and_then, is_some, if◌then◌else◌}
 use Rattle.foundation.proofs.Options.{same_some}
@@ -24,10 +24,6 @@ use Rattle.bicep_meaning.specs.Instances as source
 use Rattle.bicep_meaning.specs.Instances.{is_count, Put, put_of}
 use Rattle.cell_renaming.proofs.OptionLemmas.{Through, of_then, none_some}
 use Rattle.source_worlds.specs.Numbers.{place_in, in_template, number_of}
-
-pub length_map : {A B : Type 0} (f : A → B) (xs : List A) → length (map f xs) ≡ length xs
-length_map f [] = refl
-length_map f (x ∷ xs) = ap suc (length_map f xs)
 
 -- ---- lists of nested deployments
 

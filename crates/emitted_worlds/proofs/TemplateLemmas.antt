@@ -1,6 +1,7 @@
 -- What a template lacks that is of a program lacking it.
 use Rattle.std.proofs.Common.{◌≡◌, ℕ, length, List, Option, Some, None, refl, sym, ap, ◌∙◌}
 use Rattle.std.specs.Prelude.{option_and_then}
+use Rattle.std.proofs.lemmas.List.{length-map}
 use Rattle.template_parts.specs.declared.mode.Form.{Form}
 use Rattle.template_tree.specs.Tree.{TemplateTree}
 use Rattle.plan_cells.specs.Resources.{Listed, nested_numbers}
@@ -12,7 +13,6 @@ use Rattle.source_worlds.specs.Numbers.{number_of}
 use Rattle.emitted_files.specs.Values.{AreBoth}
 use Rattle.emitted_files.specs.Files.{IsResource, IsParameter, IsVariable, IsOutput}
 use Rattle.emitted_files.proofs.AbsentLemmas.{Match}
-use Rattle.emitted_worlds.proofs.ListLemmas.{length_map}
 
 neither : {A B : Type 0} (r : A → B → Type 0) (o : Option A) (u : Option B) → AreBoth r o u → o ≡ None → u ≡ None
 neither r None None h e = refl
@@ -49,8 +49,8 @@ module _ (z : Form) (files : List SourceFile) where
   pub as_many : (f : SourceFile) (v : TemplateTree) → Match z files f v
       → length (nested_numbers v) ≡ length f.modules
   as_many f v h =
-      sym (length_map (λ m. Some m) (nested_numbers v)) ∙ sym (ap (λ os. length os) h.modules)
-      ∙ length_map (number_of z f) f.modules
+      sym (length-map (nested_numbers v) (λ m. Some m)) ∙ sym (ap (λ os. length os) h.modules)
+      ∙ length-map f.modules (number_of z f)
 
   -- the template of the scope of a file
   pub record HasTemplate (f : SourceFile) (t : Option TemplateTree) : Type 0 where

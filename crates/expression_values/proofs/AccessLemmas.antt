@@ -4,8 +4,8 @@ use Rattle.std.proofs.Common.{Err, ap, ◌∙◌, nat_le}
 use Rattle.std.specs.Str.{chars}
 use Rattle.std.specs.Prelude.{if◌then◌else◌}
 use Rattle.arm_value.specs.Json.{Json, object, pairs, Member, put, nesting}
-use Rattle.reading.specs.Reading.{pure, continued}
-use Rattle.reading.specs.Knowledge.{Known, told, value, finished}
+use Rattle.arm_env.specs.Reading.{pure, continued}
+use Rattle.arm_env.specs.Knowledge.{Known, told, value, finished}
 use Rattle.arm_env.specs.Look.{Look, Fact, Looking}
 use Rattle.arm_env.specs.Part.{kept}
 use Rattle.arm_env.specs.Object.{object_of}

@@ -1,15 +1,13 @@
 -- What is told of what always has a value, and of what is used.
 use Rattle.std.proofs.Common.{◌≡◌, Option, Some, None, refl, ap, sym, ◌∙◌}
 use Rattle.arm_value.specs.Json.{Json}
-use Rattle.reading.specs.Reading.{done, ask}
-use Rattle.reading.specs.Knowledge.{Known, known, absent, missing, Told, value, no_value, waits}
-use Rattle.reading.specs.Knowledge.{finished, by_entry, told, and_then}
+use Rattle.arm_env.specs.Reading.{done, ask}
+use Rattle.arm_env.specs.Knowledge.{Known, known, absent, missing, Told, value, no_value, waits, finished, by_entry, told, and_then}
 use Rattle.arm_env.specs.Look.{Look, Fact, Looking}
 use Rattle.arm_env.specs.Part.{kept}
 use Rattle.arm_env.specs.Held.{Held, capped, forced}
 use Rattle.arm_env.specs.Answer.{outcome_told}
-use Rattle.arm_env.proofs.Answers.{told-done, told-continued, told-both}
-use Rattle.arm_env.proofs.Answers.{told-capped, told-held_value, told-plain}
+use Rattle.arm_env.proofs.Answers.{told-done, told-continued, told-both, told-capped, told-held_value, told-plain}
 use Rattle.expression_values.specs.Meaning.{used, outcome}
 
 module _ (p : Look → Known Fact) where

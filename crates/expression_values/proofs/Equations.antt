@@ -2,20 +2,19 @@
 use Rattle.std.proofs.Common.{◌≡◌, ℕ, ℤ, List, Bool, true, false, Option, Some, None, nat_le, codes, refl, sym, ap, ◌∙◌}
 use Rattle.std.proofs.lemmas.Slice.Eq.{bytes_eq-Decides}
 use Rattle.std.specs.Prelude.{if◌then◌else◌, option_and_then}
-use Rattle.foundation.specs.declared.limits.TheConstants.{MAX_VALUE_NESTING}
+use Rattle.arm_env.specs.TheConstants.{MAX_VALUE_NESTING}
 use Rattle.arm_value.specs.Json.{Json, text, int, nesting}
 use Rattle.arm_value.specs.Look.{fold}
 use Rattle.arm_ids.specs.declared.id.ResourceId.{ResourceId}
 use Rattle.arm_expr.specs.Tree as tree
 use Rattle.arm_expr.specs.Tree.{Tree, Trees}
 use Rattle.arm_functions.specs.Values.{function_value}
-use Rattle.function_numbers.specs.Kinds.{truth_of}
-use Rattle.reading.specs.Reading.{Reading, done, ask, onward, pure, none, continued, both}
+use Rattle.arm_functions.specs.Kinds.{truth_of}
+use Rattle.arm_env.specs.Reading.{Reading, done, ask, onward, pure, none, continued, both}
 use Rattle.arm_env.specs.Look.{Looking, Surroundings, all}
 use Rattle.arm_env.specs.Names.{lazy_named, strict_named}
 use Rattle.arm_env.specs.Part.{kept, part_of}
-use Rattle.arm_env.specs.Held.{Held, OutputOf, plain, deployment, outputs, one_output, capped, held_value, forced}
-use Rattle.arm_env.specs.Held.{access, is_word, value_named, no_part, kind_of_output}
+use Rattle.arm_env.specs.Held.{Held, OutputOf, plain, deployment, outputs, one_output, capped, held_value, forced, access, is_word, value_named, no_part, kind_of_output}
 use Rattle.arm_env.specs.declared.function.Lazy.{Lazy}
 use Rattle.arm_env.specs.declared.function.Lazy.TheVariants.{If}
 use Rattle.expression_values.specs.Row.{lazy_row, chosen}

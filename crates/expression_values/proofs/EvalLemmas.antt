@@ -1,11 +1,11 @@
 -- Expressions of the code, form by form.
 use Rattle.std.proofs.Common.{◌≡◌, ◌<◌, ◌+◌, ℕ, suc, ℤ, List, [], ◌∷◌, map, drop, length, get_or}
 use Rattle.std.proofs.Common.{Bool, true, false, Option, Some, None, nat_le, refl, sym, ap, ◌∙◌, subst, arith}
-use Rattle.std.proofs.lemmas.Bool.Decides.{nat_tests}
 use Rattle.std.specs.Prelude.{if◌then◌else◌}
 use Rattle.std.specs.declared.vec.Vec.{Vec}
 use Rattle.std.specs.declared.boxed.Box.{Box}
 use Rattle.std.specs.declared.alloc.Global.{Global}
+use Rattle.arm_env.proofs.Comparisons.{le_false}
 use Rattle.arm_value.specs.Json.{Json, text, int}
 use Rattle.arm_expr.specs.Tree as tree
 use Rattle.arm_expr.specs.Tree.{trees}
@@ -14,22 +14,21 @@ use Rattle.arm_expr.specs.declared.expr.Expr.{Expr}
 use Rattle.arm_expr.specs.declared.expr.Expr.TheVariants as e
 use Rattle.arm_expr.proofs.ViewLemmas.{tree_of-Text, tree_of-Int, tree_of-Call, tree_of-Member}
 use Rattle.arm_expr.proofs.ViewLemmas.{tree_of-Index}
-use Rattle.reading.specs.Reading.{pure, none, continued, both}
-use Rattle.reading.specs.Knowledge as knowledge
-use Rattle.reading.specs.Knowledge.{Known, told, both_told}
+use Rattle.arm_env.specs.Reading.{pure, none, continued, both}
+use Rattle.arm_env.specs.Knowledge as knowledge
+use Rattle.arm_env.specs.Knowledge.{Known, told, both_told}
 use Rattle.arm_env.specs.Look.{Look, Fact, Looking, Surroundings}
 use Rattle.arm_env.specs.Held.{Held, held_value}
 use Rattle.expression_values.specs.Meaning.{called, held, values, value, indexed, outcome}
 use Rattle.expression_values.specs.Row.{if_row, chosen}
-use Rattle.function_numbers.specs.Kinds.{truth_of}
+use Rattle.arm_functions.specs.Kinds.{truth_of}
 use Rattle.arm_env.specs.Answer.{outcome_told, Stops}
 use Rattle.arm_env.specs.declared.stop.Stop.TheVariants as stop
 use Rattle.expression_values.specs.Args.{outs}
 use Rattle.arm_env.specs.declared.stop.Stop.{Stop}
-use Rattle.arm_env.proofs.Answers.{told-done, told-both}
+use Rattle.arm_env.proofs.Answers.{told-done, told-both, goes, stops}
 use Rattle.expression_values.proofs.Answers.{told-outcome}
-use Rattle.arm_env.proofs.Answers.{goes, stops}
-use Rattle.foundation.proofs.Lists.{next_item}
+use Rattle.arm_env.proofs.Lists.{next_item}
 
 values-outs : (here : Surroundings) (es : List Expr)
     → values here (trees (map tree_of es)) ≡ outs here es
@@ -150,16 +149,13 @@ length-outs : (here : Surroundings) (es : List Expr) → length (outs here es) �
 length-outs here [] = refl
 length-outs here (x ∷ xs) = ap suc (length-outs here xs)
 
-not_le : (k n : ℕ) → n < k → nat_le k n ≡ false
-not_le k n h = grind (arith, nat_tests)
-
 -- fewer than k arguments
 pub too_few : (k : ℕ) (p : Look → Known Fact) (here : Surroundings) (es : List Expr)
     (r : Looking Json) → length es < k
     → told p (if nat_le k (length (outs here es)) then r else none) ≡ knowledge.no_value
 too_few k p here es r h =
     ap (λ n. told p (if nat_le k n then r else none)) (length-outs here es)
-    ∙ ap (λ b. told p (if b then r else none)) (not_le k (length es) h) ∙ told-done p None
+    ∙ ap (λ b. told p (if b then r else none)) (le_false k (length es) h) ∙ told-done p None
 
 -- three in all
 pub three : {A : Type 0} (xs : List A) (a b c : A) → length xs ≡ 3 → a ≡ get_or xs 0 a

@@ -1,8 +1,8 @@
 -- Ids of texts that may not all be there.
 use Rattle.std.proofs.Common.{◌≡◌, ℕ, List, Option, Some, None, option_map, ap, ◌∙◌}
 use Rattle.arm_value.specs.Json.{text}
-use Rattle.reading.specs.Reading.{done, continued}
-use Rattle.reading.specs.Knowledge.{Known, told, and_then}
+use Rattle.arm_env.specs.Reading.{done, continued}
+use Rattle.arm_env.specs.Knowledge.{Known, told, and_then}
 use Rattle.arm_env.specs.Look.{Look, Fact}
 use Rattle.arm_env.specs.Held.{held_value}
 use Rattle.arm_env.proofs.Answers.{told-done, told-continued, told-plain, goes}

@@ -7,7 +7,7 @@ use Rattle.arm_value.specs.View.{json}
 use Rattle.arm_value.specs.declared.value.Value.{Value}
 use Rattle.arm_expr.specs.declared.expr.Expr.{Expr}
 use Rattle.arm_expr.specs.View.{tree_of}
-use Rattle.reading.specs.Knowledge.{Told, no_value}
+use Rattle.arm_env.specs.Knowledge.{Told, no_value}
 use Rattle.arm_env.specs.Look.{Look, Looking, Surroundings}
 use Rattle.arm_env.specs.Held.{Held}
 use Rattle.arm_env.specs.Answer.{plain_told}

@@ -7,25 +7,23 @@ use Rattle.arm_ids.specs.declared.id.ResourceId.{ResourceId}
 use Rattle.arm_expr.specs.Tree as tree
 use Rattle.arm_expr.specs.Tree.{Tree, Trees}
 use Rattle.arm_functions.specs.Values.{function_value}
-use Rattle.function_numbers.specs.Kinds.{of_none}
-use Rattle.reading.specs.Reading.{done, ask, pure, none, continued, both}
+use Rattle.arm_functions.specs.Kinds.{of_none}
+use Rattle.arm_env.specs.Reading.{done, ask, pure, none, continued, both}
 use Rattle.arm_env.specs.declared.function.Asked.{Asked}
 use Rattle.arm_env.specs.declared.function.Asked.TheVariants.{Properties, Whole}
 use Rattle.arm_env.specs.declared.function.Lazy.{Lazy}
 use Rattle.arm_env.specs.declared.function.Strict.{Strict}
 use Rattle.arm_env.specs.declared.function.Strict.TheVariants as strict
 use Rattle.arm_env.specs.Look as look
-use Rattle.arm_env.specs.Look.{parameter, variable, state, named, Looking, Surroundings, all}
-use Rattle.arm_env.specs.Look.{seen, json_in, key_in, truth_in}
+use Rattle.arm_env.specs.Look.{parameter, variable, state, named, Looking, Surroundings, all, seen, json_in, key_in, truth_in}
 use Rattle.arm_env.specs.Names.{lazy_named, strict_named}
 use Rattle.arm_env.specs.Loop.{copy_index}
 use Rattle.arm_env.specs.Id.{resource_id, subscription_id}
 use Rattle.arm_env.specs.Object as object
 use Rattle.arm_env.specs.Find.{id_key}
 use Rattle.expression_values.specs.Row.{lazy_row, only_text, asked}
-use Rattle.arm_env.specs.Held.{Held, state_whole, deployment, capped, held_value, forced, access}
-use Rattle.arm_env.specs.Held.{access_by}
-use Rattle.function_texts.specs.Cuts.{texts_in}
+use Rattle.arm_env.specs.Held.{Held, state_whole, deployment, capped, held_value, forced, access, access_by}
+use Rattle.arm_functions.specs.Cuts.{texts_in}
 
 -- the state at a key, or its properties
 abbrev pub state_asked : ResourceId → Asked → Looking Held

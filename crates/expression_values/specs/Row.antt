@@ -4,8 +4,8 @@ use Rattle.std.specs.Prelude.{ℕ, Bool, true, false, List, [], ◌∷◌, Optio
 use Rattle.std.specs.Prelude.{nat_le, length, option_map, if◌then◌else◌}
 use Rattle.arm_value.specs.Json.{Json, null, bool, text}
 use Rattle.arm_value.specs.Look.{is_same_folded}
-use Rattle.function_numbers.specs.Kinds.{truth_of}
-use Rattle.reading.specs.Reading.{pure, none, continued}
+use Rattle.arm_functions.specs.Kinds.{truth_of}
+use Rattle.arm_env.specs.Reading.{pure, none, continued}
 use Rattle.arm_env.specs.Look.{Looking}
 use Rattle.arm_env.specs.declared.function.Lazy.{Lazy}
 use Rattle.arm_env.specs.declared.function.Lazy.TheVariants as lazy

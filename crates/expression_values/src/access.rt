@@ -2,10 +2,9 @@
 ghost use Rattle.std.specs.Prelude.{◌≡◌, ◌∷◌, [], chars, map, option_map, codes, None};
 ghost use Rattle.arm_value.specs.Json.{Json, put_each, text, object, pairs};
 ghost use Rattle.arm_value.specs.View.{json};
-ghost use Rattle.reading.specs.Knowledge.{told, finished};
+ghost use Rattle.arm_env.specs.Knowledge.{told, finished};
 ghost use Rattle.arm_env.specs.Held as held;
-ghost use Rattle.arm_env.specs.Held.{is_word, capped, forced, no_part, output_at, part_of_output};
-ghost use Rattle.arm_env.specs.Held.{access, access_by};
+ghost use Rattle.arm_env.specs.Held.{is_word, capped, forced, no_part, output_at, part_of_output, access, access_by};
 ghost use Rattle.arm_env.specs.Answer.{Gives, Sees};
 ghost use Rattle.expression_values.specs.Meaning.{indexed};
 ghost use Rattle.arm_env.specs.Part.{kept};

@@ -2,7 +2,7 @@
 ghost use Rattle.std.specs.Prelude.{◌≡◌, ◌++◌, ◌∷◌, [], Some, None, Ok, map, option_map, IfOk};
 ghost use Rattle.std.specs.Prelude.{if◌then◌else◌};
 ghost use Rattle.arm_value.specs.Json.{Json, text};
-ghost use Rattle.function_numbers.specs.Kinds.{truth_of};
+ghost use Rattle.arm_functions.specs.Kinds.{truth_of};
 ghost use Rattle.arm_value.specs.View.{json};
 ghost use Rattle.arm_expr.specs.Tree as tree;
 ghost use Rattle.arm_expr.specs.View.{tree_of};
@@ -11,7 +11,7 @@ ghost use Rattle.expression_values.specs.Row.{is_null, if_row, all_true, and_row
 ghost use Rattle.expression_values.specs.Row.{first_there, coalesce_row, lazy_row};
 ghost use Rattle.expression_values.specs.Meaning as meaning;
 ghost use Rattle.expression_values.specs.Meaning.{called};
-ghost use Rattle.reading.specs.Knowledge.{told, finished};
+ghost use Rattle.arm_env.specs.Knowledge.{told, finished};
 ghost use Rattle.arm_env.specs.Answer.{outcome_told, plain_told, with_last, Gives};
 ghost use Rattle.arm_env.specs.Sight.{here, held_of};
 ghost use Rattle.expression_values.specs.Args.{all_json, outs};
@@ -24,8 +24,8 @@ use arm_env::held::{Held, own};
 use arm_env::stop;
 use arm_env::stop::{Stop, lacks_memory, let_go, stopped};
 use arm_expr::Expr;
+use arm_functions::truth_of;
 use arm_value::{OutOfMemory, Text, Value};
-use function_numbers::kinds::truth_of;
 use std::alloc::Global;
 
 /// The value of an expression, by what is known of the cells that it looks at, or why there is none:

@@ -4,8 +4,8 @@ ghost use Rattle.arm_value.specs.Json.{Json, text};
 ghost use Rattle.arm_value.specs.View.{json};
 ghost use Rattle.arm_value.specs.Look.{fold};
 ghost use Rattle.arm_functions.specs.Values.{function_value};
-ghost use Rattle.reading.specs.Reading.{continued, done};
-ghost use Rattle.reading.specs.Knowledge.{told};
+ghost use Rattle.arm_env.specs.Reading.{continued, done};
+ghost use Rattle.arm_env.specs.Knowledge.{told};
 ghost use Rattle.arm_env.specs.Look.{parameter, variable, seen, json_in};
 ghost use Rattle.arm_env.specs.Names.{strict_named};
 ghost use Rattle.arm_env.specs.Find.{id_key};
@@ -15,10 +15,10 @@ ghost use Rattle.arm_env.specs.Held.{held_value};
 ghost use Rattle.expression_values.specs.Meaning.{state_asked, found_at, referred, key_meant, reference, strict_row};
 ghost use Rattle.expression_values.specs.Meaning.{strict_call};
 ghost use Rattle.expression_values.specs.Args.{id_told};
-ghost use Rattle.function_numbers.specs.Kinds.{of_none};
+ghost use Rattle.arm_functions.specs.Kinds.{of_none};
 ghost use Rattle.arm_env.specs.Answer.{plain_told, Gives};
 ghost use Rattle.arm_env.specs.Sight.{here, held_of};
-ghost use Rattle.function_texts.specs.Cuts.{texts_in};
+ghost use Rattle.arm_functions.specs.Cuts.{texts_in};
 
 use arm_env::entries::{Around, Entries};
 use arm_env::find::id_key;
@@ -28,10 +28,9 @@ use arm_env::ids::{resource_id, subscription_id};
 use arm_env::loops::copy_index;
 use arm_env::objects::{deployment, resource_group, subscription};
 use arm_env::stop::{Stop, let_go, stopped};
-use arm_functions::{FunctionFault, call};
+use arm_functions::{FunctionFault, call, text_of};
 use arm_ids::{Key, Place};
 use arm_value::{OutOfMemory, Text, Texts, Value};
-use function_numbers::kinds::text_of;
 use std::alloc::{AllocError, Global};
 
 // The value of a function that needs nothing but its arguments; none where no such function has the

@@ -2,6 +2,7 @@
 use Rattle.std.proofs.Common.{◌≡◌, ℕ, ◌<◌, pos, negsuc, Bool, true, false, true≢false, List, Option, Some, None}
 use Rattle.std.proofs.Common.{refl, arith}
 use Rattle.std.specs.Prelude.{codes, is_none, is_some, nat_le, option_map, option_and_then, if◌then◌else◌}
+use Rattle.std.proofs.lemmas.Option.{none-some}
 use Rattle.arm_value.specs.Json.{Json, null, bool, int, text, array, object}
 use Rattle.reading.specs.Knowledge.{value, told}
 use Rattle.arm_eval.specs.Trees.{count_of}
@@ -30,9 +31,6 @@ use Rattle.plan_faults.specs.Faults.{IsBroken, IsCountAbove}
 use Rattle.fault_exactness.proofs.GrowLemmas.{told_too, admitted_too}
 use Rattle.fault_exactness.proofs.EmptyLemmas.{needed_there, breaks_absent}
 
-none_some : {A : Type 0} (x : A) → None ≡ Some x → ⊥
-none_some x e = cc
-
 -- ---- rules
 
 record Breaks (d : Deployment) (c : Cell) (v : Json) : Type 0 where
@@ -40,15 +38,15 @@ record Breaks (d : Deployment) (c : Cell) (v : Json) : Type 0 where
   pub is_broken : rule d c v ≡ false
 
 wrong_some : (b : Bool) (x : List ℕ) (f : BindFault) → wrong_unless b x ≡ Some f → b ≡ false
-wrong_some true x f e = absurd (none_some f e)
+wrong_some true x f e = absurd (none-some f e)
 wrong_some false x f e = refl
 
 breach_some : (o : Option Breach) (x : List ℕ) (f : BindFault) → option_map (fault_of x) o ≡ Some f → is_none o ≡ false
-breach_some None x f e = absurd (none_some f e)
+breach_some None x f e = absurd (none-some f e)
 breach_some (Some b) x f e = refl
 
 count_broken : (v : Json) (f : BindFault) → count_fault v ≡ Some f → is_some (count_of v) ≡ false
-count_broken (int (pos n)) f e = absurd (none_some f e)
+count_broken (int (pos n)) f e = absurd (none-some f e)
 count_broken (int (negsuc n)) f e = refl
 count_broken null f e = refl
 count_broken (bool b) f e = refl
@@ -81,11 +79,11 @@ module _ (d : Deployment) where
     is_needed = refl;
     is_broken = name_broken v (resource_of d.template p s.resource) (wrong_some (is_text v) (codes "name") f e);
   }
-  breaks (variable p x) v f e = absurd (none_some f e)
-  breaks (offered p x) v f e = absurd (none_some f e)
-  breaks (output p x) v f e = absurd (none_some f e)
-  breaks (deployments p) v f e = absurd (none_some f e)
-  breaks (state k) v f e = absurd (none_some f e)
+  breaks (variable p x) v f e = absurd (none-some f e)
+  breaks (offered p x) v f e = absurd (none-some f e)
+  breaks (output p x) v f e = absurd (none-some f e)
+  breaks (deployments p) v f e = absurd (none-some f e)
+  breaks (state k) v f e = absurd (none-some f e)
 
 above : (n : ℕ) (b : Bool) → nat_le n 800 ≡ b → 800 < n → is_some (if b then Some n else None) ≡ false
 above n false e h = refl

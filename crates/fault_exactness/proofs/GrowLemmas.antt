@@ -1,7 +1,6 @@
 -- What some table has of the start, the table of all that is known then has too.
 use Rattle.std.proofs.Common.{◌≡◌, ℕ, true, true≢false, Option, Some, None, refl, sym, ap, subst, ◌∙◌, arith}
-use Rattle.std.specs.Prelude.{nat_lt}
-use Rattle.foundation.proofs.Comparisons.{lt_of_true}
+use Rattle.foundation.proofs.Comparisons.{not_below_zero}
 use Rattle.arm_value.specs.Json.{Json}
 use Rattle.reading.specs.Knowledge.{Known, known, absent, missing, value, told, blanked, known_value}
 use Rattle.reading.specs.Knowledge.{Stays}
@@ -16,14 +15,10 @@ use Rattle.plan_cells.specs.Start.{IsStart, start}
 use Rattle.plan_cells.proofs.KnownLemmas.{has_known}
 use Rattle.plan_faults.specs.Known.{AreKnown}
 
--- without a value nothing is admitted
-no_index : (i : ℕ) → nat_lt i 0 ≡ true → ⊥
-no_index i h = let l = lt_of_true i 0 h in omega (arith, l)
-
 pub never_admitted : (c : Cell) → admits c None ≡ true → ⊥
 never_admitted (count p r) h = true≢false (sym h)
-never_admitted (included p s) h = no_index s.copy h
-never_admitted (name p s) h = no_index s.copy h
+never_admitted (included p s) h = not_below_zero s.copy h
+never_admitted (name p s) h = not_below_zero s.copy h
 never_admitted (parameter p x) h = true≢false (sym h)
 never_admitted (variable p x) h = true≢false (sym h)
 never_admitted (offered p x) h = true≢false (sym h)

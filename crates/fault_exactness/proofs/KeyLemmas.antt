@@ -1,11 +1,10 @@
 -- Faults that compare all instances are false where keys differ.
 use Rattle.std.proofs.Common.{◌≡◌, ◌⊎◌, inl, inr, ℕ, Bool, true, false, true≢false, List, [], refl, sym, ap, ◌∙◌}
-use Rattle.std.specs.Prelude.{◌&&◌}
 use mathlib.Core.Path.{fun_ext}
 use Rattle.deploy_cells.specs.Cells.{Step, Position, included, World}
 use Rattle.deploy_cells.specs.Puts.{ResourcesDiffer, DeploymentsDiffer}
 use Rattle.deploy_cells.specs.Same.{same_instance, same_step}
-use Rattle.deploy_cells.proofs.SameLemmas.{cell_same}
+use Rattle.deploy_cells.proofs.SameLemmas.{cell_same, step_same}
 use Rattle.plan_cells.specs.Known.{Table}
 use Rattle.plan_cells.specs.Meaning.{Deployment, meaning}
 use Rattle.plan_cells.specs.Desired.{kinds}
@@ -27,13 +26,6 @@ module _ (d : Deployment) (w : World) where
       let g : p ≡ q = cc in
       true≢false (sym (cell_same (included p s))
       ∙ ap (λ (u : Step). same_instance p s p u) e ∙ ap (λ (r : Position). same_instance p s r t) g ∙ x.differ)
-
-  step_same : (s : Step) → same_step s s ≡ true
-  step_same s = both_true (same_step s s) _ (cell_same (included [] s))
-    where
-      both_true : (a b : Bool) → (a && b) ≡ true → a ≡ true
-      both_true true b e = refl
-      both_true false b e = e
 
   never_nested : DeploymentsDiffer d.place (kinds d) w → (p : Position) (s t : Step) → ShareNestedKey d w p s t → ⊥
   never_nested differ p s t x =

@@ -2,6 +2,9 @@
 use Rattle.std.proofs.Common.{◌≡◌, inl, inr, ℕ, suc, ◌+◌, ◌<◌, ◌≤◌, Bool, true, false, List, [], ◌∷◌, length}
 use Rattle.std.proofs.Common.{Some, refl, sym, ap, subst, ◌∙◌, arith}
 use Rattle.std.specs.Prelude.{nat_eq, if◌then◌else◌}
+use Rattle.std.proofs.lemmas.Option.{none-some}
+use Rattle.std.proofs.lemmas.Bool.{cases_eq}
+use Rattle.foundation.proofs.Comparisons.{eq_itself}
 use Rattle.arm_value.specs.Json.{Json}
 use Rattle.reading.specs.Knowledge.{known_value}
 use Rattle.template_parts.specs.declared.limit.Which.{Which}
@@ -24,13 +27,13 @@ use Rattle.plan_table.specs.Lines.{cell_of, line_at, frame_of}
 use Rattle.plan_table.specs.Opened.{Opened, opened_at}
 use Rattle.plan_table.specs.Whole.{whole_of, scopes_of, rows_in}
 use Rattle.plan_table.proofs.HaltLemmas.{rows_list, one_scope}
-use Rattle.plan_table.proofs.CountLemmas.{same_number, other_number, is_number}
+use Rattle.plan_table.proofs.CountLemmas.{other_number}
 use Rattle.plan_table.proofs.LaidLemmas.{row_here, length_rows}
 use Rattle.plan_tasks.specs.Start.{start_of, IsStartTable}
 use Rattle.lack_faults.proofs.RowLemmas.{known_rows}
 use Rattle.fault_exactness.proofs.GrowLemmas.{told_too}
 use Rattle.fault_exactness.proofs.EmptyLemmas.{valued, closed}
-use Rattle.fault_exactness.proofs.SumLemmas.{none_some, fewer_with, all_in}
+use Rattle.fault_exactness.proofs.SumLemmas.{fewer_with, all_in}
 
 -- ---- the line of a count
 
@@ -40,7 +43,7 @@ record IsRow (rows : List Row) (c : Cell) : Type 0 where
   pub is : (row_at rows at).cell ≡ c
 
 row_of_status : (rows : List Row) (c : Cell) (s : Status) → status_of rows c ≡ Some s → IsRow rows c
-row_of_status [] c s e = absurd (none_some s e)
+row_of_status [] c s e = absurd (none-some s e)
 row_of_status (r ∷ rs) c s e =
     elim (by_same r.cell c) [
       | inl g ↦ record { at = 0; listed = omega arith; is = cell_is r.cell c g }
@@ -110,9 +113,9 @@ module _ (t : Table) (start_table : IsStartTable t) (counted : IsCounted t)
 
   by_number : (f g : ℕ) → f < length os → g < length os → same_position (at_scope f) (at_scope g) ≡ nat_eq f g
   by_number f g h k =
-      elim (is_number f g) [
+      elim (cases_eq f g) [
         | inl e ↦ ap (λ i. same_position (at_scope f) (at_scope i)) (sym e) ∙ cell_same (deployments (at_scope f))
-            ∙ sym (same_number f) ∙ ap (nat_eq f) e
+            ∙ sym (eq_itself f) ∙ ap (nat_eq f) e
         | inr n ↦ differ f g h k (same_position (at_scope f) (at_scope g)) refl n ∙ sym (other_number f g n)
       ]
 

@@ -3,16 +3,15 @@ use Rattle.std.proofs.Common.{◌≡◌, ◌⊎◌, inl, inr, ◌+◌, ◌≤◌
 use Rattle.std.proofs.Common.{arith}
 use Rattle.std.proofs.Common.{false, true≢false}
 use Rattle.std.specs.Prelude.{if◌then◌else◌}
+use Rattle.std.proofs.lemmas.Option.{none-some}
+use Rattle.foundation.proofs.Choices.{if_true, if_false}
 use Rattle.arm_value.specs.Json.{Json}
 use Rattle.deploy_cells.specs.Cells.{Cell}
 use Rattle.deploy_cells.specs.Same.{same}
 use Rattle.deploy_cells.proofs.SameLemmas.{cell_is, cell_same_as}
 use Rattle.plan_filling.specs.Rows.{Status, New, Open, Value, Empty, Late, Row, status_of, AreDistinct}
 use Rattle.plan_filling.specs.Limits.{Scopes, listed_by, instances_in}
-use Rattle.plan_filling.proofs.RowLemmas.{by_same, test_true, test_false, found_first, found_later}
-
-pub none_some : {A : Type 0} (x : A) → None ≡ Some x → ⊥
-none_some x e = cc
+use Rattle.plan_filling.proofs.RowLemmas.{by_same, found_first, found_later}
 
 clash : {A : Type 0} (o : Option A) (x : A) → o ≡ None → o ≡ Some x → ⊥
 clash o x e f = cc
@@ -34,9 +33,9 @@ status_without : (c d : Cell) (xs : List Row) → (c ≡ d → ⊥) → status_o
 status_without c d [] n = refl
 status_without c d (x ∷ xs) n =
     elim (by_same x.cell c) [
-      | inl e ↦ ap (λ ys. status_of ys d) (test_true (same x.cell c) xs (x ∷ without c xs) e)
+      | inl e ↦ ap (λ ys. status_of ys d) (if_true (same x.cell c) xs (x ∷ without c xs) e)
           ∙ sym (found_later x xs d (other_cell x c d (cell_is x.cell c e) n))
-      | inr e ↦ ap (λ ys. status_of ys d) (test_false (same x.cell c) xs (x ∷ without c xs) e)
+      | inr e ↦ ap (λ ys. status_of ys d) (if_false (same x.cell c) xs (x ∷ without c xs) e)
           ∙ ap (λ o. if same x.cell d then Some x.status else o) (status_without c d xs n)
     ]
 
@@ -51,15 +50,15 @@ module _ (f : Scopes) where
 
   sum_without : (c : Cell) (s : Status) (xs : List Row) → status_of xs c ≡ Some s
       → instances_in f xs ≡ listed_by f s c + instances_in f (without c xs)
-  sum_without c s [] h = absurd (none_some s h)
+  sum_without c s [] h = absurd (none-some s h)
   sum_without c s (x ∷ xs) h =
       elim (by_same x.cell c) [
         | inl e ↦ (let is = cell_is x.cell c e in
             let one = listed_so x c s is (status_first x xs c s is h) in
-            let rest = ap (instances_in f) (test_true (same x.cell c) xs (x ∷ without c xs) e) in
+            let rest = ap (instances_in f) (if_true (same x.cell c) xs (x ∷ without c xs) e) in
             omega (arith, one, rest))
         | inr e ↦ (let more = sum_without c s xs (sym (found_later x xs c e) ∙ h) in
-            let rest = ap (instances_in f) (test_false (same x.cell c) xs (x ∷ without c xs) e) in
+            let rest = ap (instances_in f) (if_false (same x.cell c) xs (x ∷ without c xs) e) in
             omega (arith, more, rest))
       ]
 
@@ -100,7 +99,7 @@ module _ (f : Scopes) where
   pub fewer_with : (c : Cell) (u s : Status) (rs ys : List Row) → AreDistinct rs → AllIn ys rs
       → status_of rs c ≡ Some u → listed_by f u c ≡ 0 → status_of ys c ≡ Some s
       → instances_in f rs + listed_by f s c ≤ instances_in f ys
-  fewer_with c u s [] ys d a h z g = absurd (none_some u h)
+  fewer_with c u s [] ys d a h z g = absurd (none-some u h)
   fewer_with c u s (r ∷ rs) ys d a h z g =
       elim (by_same r.cell c) [
         | inl e ↦ (let is = cell_is r.cell c e in

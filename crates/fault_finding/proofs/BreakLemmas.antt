@@ -6,6 +6,7 @@ use Rattle.std.specs.Prelude.{codes, is_none, is_some, nat_le, option_map, optio
 use Rattle.std.specs.Prelude.{ℤ}
 use lib.Signed.{lt_z}
 use Rattle.std.proofs.lemmas.Int.{ints}
+use Rattle.foundation.proofs.Options.{none_there}
 use Rattle.foundation.proofs.Comparisons.{lt_of_false}
 use Rattle.arm_value.specs.Json.{Json, null, bool, int, text, array, object}
 use Rattle.arm_ids.specs.Held.{HeldResource}
@@ -33,9 +34,9 @@ use Rattle.plan_table.specs.Whole.{whole_of, scopes_of, rows_in, IsLaid}
 use Rattle.plan_table.specs.Found.{scope_at}
 use Rattle.plan_sight.specs.Ready.{IsReady}
 use Rattle.plan_sight.proofs.LookLemmas.{frames_there}
-use Rattle.plan_values.proofs.SiteLemmas.{resource_numbered}
-use Rattle.plan_values.proofs.RawLemmas.{raw_parameter}
-use Rattle.plan_values.proofs.ValueLemmas.{parameter_within}
+use Rattle.plan_start.proofs.SiteLemmas.{resource_numbered}
+use Rattle.plan_start.proofs.RawLemmas.{raw_parameter}
+use Rattle.plan_start.proofs.ValueLemmas.{parameter_within}
 use Rattle.plan_paths.proofs.NamedLemmas.{parameter_is}
 use Rattle.plan_faults.specs.declared.fault.PlanFault.TheVariants as fault
 use Rattle.plan_faults.specs.Rules.{fault_of, wrong_unless, count_fault, parameter_fault, broken}
@@ -88,10 +89,6 @@ title_of (bool b) e = absurd (true≢false (sym e))
 title_of (int z) e = absurd (true≢false (sym e))
 title_of (array js) e = absurd (true≢false (sym e))
 title_of (object ms) e = absurd (true≢false (sym e))
-
-none_of : {A : Type 0} (o : Option A) → is_some o ≡ false → o ≡ None
-none_of None e = refl
-none_of (Some x) e = absurd (true≢false e)
 
 module _ (t : Table) (sound : Sound (whole_of t) (rows_in t)) (path : List ℕ) (mode : Mode) (held : List HeldResource)
     (j : Json) where
@@ -199,7 +196,7 @@ module _ (t : Table) (sound : Sound (whole_of t) (rows_in t)) (path : List ℕ) 
             is_name = b.is_cell;
             has = b.has ∙ ap value n.is;
             of_kind = ap (option_and_then (λ (x : Listed). Some x.type)) listed;
-            has_none = none_of (key_formed (whole_of t).place number.listed.type n.title) broken;
+            has_none = none_there (key_formed (whole_of t).place number.listed.type n.title) broken;
           })),
         ),
       )

@@ -2,8 +2,8 @@
 use Rattle.std.proofs.Common.{◌≡◌, inl, ℕ, ◌<◌, Bool, true, false, true≢false, List, length, get_or}
 use Rattle.std.proofs.Common.{Some, None, refl}
 use Rattle.std.proofs.Common.{sym, ap, subst, ◌∙◌}
-use Rattle.std.specs.Prelude.{◌&&◌}
 use Rattle.std.proofs.lemmas.List.{get_or_read}
+use Rattle.foundation.proofs.TruthValues.{second_of_both}
 use Rattle.arm_value.specs.Json.{Json}
 use Rattle.arm_value.specs.View.{json}
 use Rattle.arm_value.specs.declared.value.Value as code
@@ -29,7 +29,7 @@ use Rattle.plan_sight.specs.declared.lack.Lack.TheVariants as lack
 use Rattle.plan_sight.specs.Ready.{IsReady, told_in}
 use Rattle.plan_sight.proofs.LookLemmas.{listed_row, cell_of_row}
 use Rattle.plan_sight.proofs.ToldLemmas.{told_listed}
-use Rattle.plan_values.specs.Values.{told_raw}
+use Rattle.plan_start.specs.Values.{told_raw}
 use Rattle.plan_start.proofs.AnswerLemmas.{waits_answered}
 use Rattle.plan_paths.specs.CellPaths.{cell_path}
 use Rattle.plan_settling.specs.Refused.{is_refused}
@@ -49,13 +49,9 @@ asked_needed (output p x) e = e
 asked_needed (deployments p) e = e
 asked_needed (state k) e = e
 
-both_true : (a b : Bool) → (a && b) ≡ true → b ≡ true
-both_true true b e = e
-both_true false b e = absurd (true≢false (sym e))
-
 needed_by : (c : Cell) (s : Status) → is_refused (record { cell = c; status = s }) ≡ true → is_needed c ≡ true
 needed_by c (Late k) e = asked_needed c e
-needed_by c Empty e = both_true true (is_needed c) e
+needed_by c Empty e = second_of_both true (is_needed c) e
 needed_by c (Value v) e = absurd (true≢false (sym e))
 needed_by c New e = absurd (true≢false (sym e))
 needed_by c Open e = absurd (true≢false (sym e))

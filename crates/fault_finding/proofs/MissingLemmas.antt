@@ -17,8 +17,8 @@ use Rattle.plan_table.specs.Found.{scope_at}
 use Rattle.plan_table.proofs.FrameLemmas.{frame_is}
 use Rattle.plan_sight.specs.Ready.{IsReady}
 use Rattle.plan_sight.proofs.LookLemmas.{frames_there}
-use Rattle.plan_values.proofs.RawLemmas.{raw_variable, raw_count, raw_included, raw_name}
-use Rattle.plan_values.proofs.ValueLemmas.{variable_within}
+use Rattle.plan_start.proofs.RawLemmas.{raw_variable, raw_count, raw_included, raw_name}
+use Rattle.plan_start.proofs.ValueLemmas.{variable_within}
 use Rattle.lack_faults.specs.Lacks.{IsMissingAt}
 
 element : {A : Type 0} (xs : List A) (n : ℕ) → n < length xs → (x : A) × (x ≡ get_or xs n x)

@@ -3,32 +3,25 @@ use Rattle.std.proofs.Common.{◌≡◌, ◌⊎◌, inl, inr, ℕ, zero, suc, �
 use Rattle.std.proofs.Common.{◌∷◌, ◌++◌, ◌-◌, map, length, get_or, take, drop, refl, sym, ap, subst, ◌∙◌, arith}
 use Rattle.std.proofs.Common.{append_assoc, length-drop}
 use Rattle.std.specs.Prelude.{nat_eq, if◌then◌else◌}
-use Rattle.std.proofs.lemmas.List.{at_drop_more, at_drop_all}
+use Rattle.std.proofs.lemmas.List.{at_drop_more, at_drop_all, append-nil}
+use Rattle.std.proofs.lemmas.Bool.{cases_lt}
+use Rattle.foundation.proofs.Comparisons.{eq_itself}
+use Rattle.foundation.proofs.Lists.{next_item}
 use Rattle.reading.specs.World.{Each}
 use Rattle.deploy_cells.specs.Cells.{Cell, deployments}
 use Rattle.plan_cells.specs.Children.{Has}
 use Rattle.plan_filling.specs.Rows.{Row, fresh, row_at}
 use Rattle.plan_refusals.specs.Refusals.{is_titled}
 use Rattle.plan_tasks.specs.Answered.{is_asked}
-use Rattle.plan_table.proofs.CountLemmas.{same_number, other_number}
+use Rattle.plan_table.proofs.CountLemmas.{other_number}
 use Rattle.fault_finding.specs.Circles.{place_in}
 
 -- ---- lists
-
-more : {A : Type 0} (xs : List A) (i : ℕ) (x : A) → i < length xs → x ≡ get_or xs i x
-    → drop i xs ≡ x ∷ drop (i + 1) xs
-more xs i x h e =
-    at_drop_more (λ ys. ys) xs i x h ∙ ap (λ y. y ∷ drop (i + 1) xs) (sym e)
 
 pub has_at : {A : Type 0} (xs : List A) (i : ℕ) (x : A) → i < length xs → x ≡ get_or xs i x → Has x xs
 has_at [] i x h e = absurd (omega (arith, h))
 has_at (y ∷ ys) zero x h e = inl (sym e)
 has_at (y ∷ ys) (suc i) x h e = inr (has_at ys i x (omega (arith, h)) e)
-
-pub read_so : {A : Type 0} (xs : List A) (i : ℕ) (d e : A) → i < length xs → get_or xs i d ≡ get_or xs i e
-read_so [] i d e h = absurd (omega (arith, h))
-read_so (x ∷ xs) zero d e h = refl
-read_so (x ∷ xs) (suc i) d e h = read_so xs i d e (omega (arith, h))
 
 -- the rest of a list, by its length
 pub rest_is : {A : Type 0} (xs : List A) (k : ℕ) → take (length xs - k) (drop k xs) ≡ drop k xs
@@ -46,7 +39,7 @@ each_at P (y ∷ ys) (suc i) x p h e = each_at P ys i x p.1 (omega (arith, h)) e
 
 pub each_more : {A : Type 0} (P : A → Type 0) (xs : List A) (i : ℕ) (x : A) → i < length xs → x ≡ get_or xs i x
     → (Each P (drop i xs) → Each P xs) → P x → Each P (drop (i + 1) xs) → Each P xs
-each_more P xs i x h e k p r = k (subst (Each P) (sym (more xs i x h e)) (p, r))
+each_more P xs i x h e k p r = k (subst (Each P) (sym (next_item xs i x h e)) (p, r))
 
 pub each_all : {A : Type 0} (P : A → Type 0) (xs : List A) (i : ℕ) → length xs ≤ i → (Each P (drop i xs) → Each P xs)
     → Each P xs
@@ -57,21 +50,17 @@ pub map_more : {A B : Type 0} (f : A → B) (xs : List A) (i : ℕ) (x : A) (don
     → (done ++ f x ∷ []) ++ map f (drop (i + 1) xs) ≡ map f xs
 map_more f xs i x done h e k =
     append_assoc done (f x ∷ []) (map f (drop (i + 1) xs))
-    ∙ ap (λ ys. done ++ map f ys) (sym (more xs i x h e)) ∙ k
-
-append_nil : {B : Type 0} (done : List B) → done ++ [] ≡ done
-append_nil [] = refl
-append_nil (x ∷ xs) = ap (λ ys. x ∷ ys) (append_nil xs)
+    ∙ ap (λ ys. done ++ map f ys) (sym (next_item xs i x h e)) ∙ k
 
 pub map_all : {A B : Type 0} (f : A → B) (xs : List A) (i : ℕ) (done : List B) → length xs ≤ i
     → done ++ map f (drop i xs) ≡ map f xs → done ≡ map f xs
 map_all f xs i done h k =
-    sym (append_nil done) ∙ ap (λ ys. done ++ map f ys) (sym (at_drop_all (λ ys. ys) xs i h)) ∙ k
+    sym (append-nil done) ∙ ap (λ ys. done ++ map f ys) (sym (at_drop_all (λ ys. ys) xs i h)) ∙ k
 
 -- ---- the first place of a number
 
 pub place_here : (w p : ℕ) (xs : List ℕ) → p ≡ w → place_in w (p ∷ xs) ≡ 0
-place_here w p xs e = ap (λ b. if b then 0 else suc (place_in w xs)) (subst (λ x. nat_eq p x ≡ true) e (same_number p))
+place_here w p xs e = ap (λ b. if b then 0 else suc (place_in w xs)) (subst (λ x. nat_eq p x ≡ true) e (eq_itself p))
 
 pub place_later : (w p : ℕ) (xs : List ℕ) → (p ≡ w → ⊥) → place_in w (p ∷ xs) ≡ suc (place_in w xs)
 place_later w p xs n = ap (λ b. if b then 0 else suc (place_in w xs)) (other_number p w n)
@@ -110,15 +99,6 @@ past [] i h = refl
 past (r ∷ rs) zero h = absurd (omega (arith, h))
 past (r ∷ rs) (suc i) h = past rs i (omega (arith, h))
 
-pub below_or : (i n : ℕ) → (i < n) ⊎ (n ≤ i)
-below_or i zero = inr (omega arith)
-below_or zero (suc n) = inl (omega arith)
-below_or (suc i) (suc n) = further (below_or i n)
-  where
-    further : (i < n) ⊎ (n ≤ i) → (suc i < suc n) ⊎ (suc n ≤ suc i)
-    further (inl h) = inl (omega (arith, h))
-    further (inr h) = inr (omega (arith, h))
-
 -- a row that passes a test that the row of no place passes is listed
 listed_by : (test : Cell → Bool) (rs : List Row) (i : ℕ) → test (deployments []) ≡ false
     → test (row_at rs i).cell ≡ true → (i < length rs) ⊎ (length rs ≤ i) → i < length rs
@@ -127,7 +107,7 @@ listed_by test rs i fails passes (inr h) =
     absurd (true≢false (sym passes ∙ ap (λ (r : Row). test r.cell) (past rs i h) ∙ fails))
 
 pub titled_listed : (rs : List Row) (i : ℕ) → is_titled (row_at rs i).cell ≡ true → i < length rs
-titled_listed rs i e = listed_by is_titled rs i refl e (below_or i (length rs))
+titled_listed rs i e = listed_by is_titled rs i refl e (cases_lt i (length rs))
 
 pub asked_listed : (rs : List Row) (i : ℕ) → is_asked (row_at rs i).cell ≡ true → i < length rs
-asked_listed rs i e = listed_by is_asked rs i refl e (below_or i (length rs))
+asked_listed rs i e = listed_by is_asked rs i refl e (cases_lt i (length rs))

@@ -23,7 +23,7 @@ use Rattle.plan_table.specs.Whole.{whole_of, scopes_of, rows_in}
 use Rattle.plan_sight.specs.Ready.{IsReady, told_in}
 use Rattle.plan_sight.proofs.ToldLemmas.{told_pure, goes}
 use Rattle.plan_sight.proofs.LookLemmas.{listed_row}
-use Rattle.plan_values.specs.Values.{told_raw}
+use Rattle.plan_start.specs.Values.{told_raw}
 use Rattle.plan_start.proofs.AnswerLemmas.{rule_met, told_answer}
 use Rattle.plan_settling.specs.Refused.{is_refused}
 use Rattle.lack_faults.proofs.RowLemmas.{listed}

@@ -2,6 +2,7 @@
 use Rattle.std.proofs.Common.{◌≡◌, ◌⊎◌, inl, inr, ℕ, ◌<◌, ◌≤◌, true, false, List, [], ◌∷◌, ◌++◌, map}
 use Rattle.std.proofs.Common.{length}
 use Rattle.std.proofs.Common.{drop, refl, sym, ap, subst, ◌∙◌}
+use Rattle.std.proofs.lemmas.Bool.{cases_lt, cases_eq}
 use Rattle.arm_ids.specs.Held.{HeldResource}
 use Rattle.reading.specs.World.{Each}
 use Rattle.template_parts.specs.declared.mode.Mode.{Mode}
@@ -15,7 +16,6 @@ use Rattle.plan_filling.specs.Sound.{Sound, IsOpenedBy}
 use Rattle.plan_filling.specs.Steps.{WaitsFor, IsChain, IsCircle}
 use Rattle.plan_refusals.specs.Refusals.{is_needed, is_titled, AreTitled}
 use Rattle.plan_tasks.specs.Answered.{is_asked}
-use Rattle.plan_table.proofs.CountLemmas.{is_number}
 use Rattle.plan_paths.specs.CellPaths.{cell_path}
 use Rattle.plan_faults.specs.declared.fault.PlanFault.TheVariants as fault
 use Rattle.fault_finding.specs.Circles.{place_in, AreRowsWaiting, IsRound}
@@ -23,7 +23,7 @@ use Rattle.plan_faults.specs.Faults.{AreWaiting, IsFault}
 use Rattle.lack_faults.proofs.RowLemmas.{known_rows, listed}
 use Rattle.fault_finding.proofs.AskLemmas.{titled_by}
 use Rattle.fault_finding.proofs.LineLemmas.{asked_needed}
-use Rattle.fault_finding.proofs.PlaceLemmas.{place_here, place_later, past, below_or}
+use Rattle.fault_finding.proofs.PlaceLemmas.{place_here, place_later, past}
 
 module _ (d : Deployment) (rows : List Row) where
   abbrev W : ℕ → ℕ → Type 0
@@ -55,7 +55,7 @@ module _ (d : Deployment) (rows : List Row) where
   round_from [] last back c w (inl e) = from_here back last [] e w
   round_from [] last back c w (inr h) = absurd h
   round_from (p ∷ ps) last back c w h =
-      by_case (is_number p back) h (λ g. round_from ps last back (chain_tail p ps last c) w g)
+      by_case (cases_eq p back) h (λ g. round_from ps last back (chain_tail p ps last c) w g)
     where
       by_case : (p ≡ back) ⊎ (p ≡ back → ⊥) → Has back (p ∷ (ps ++ last ∷ []))
           → (Has back (ps ++ last ∷ [])
@@ -99,7 +99,7 @@ module _ (d : Deployment) (rows : List Row) where
     origin_state c (inr o) = (child_is d o.0 o.1.0 c o.1.1.1).no_state
 
     no_state : (i : ℕ) → is_state (cell i) ≡ false
-    no_state i = by_place (below_or i (length rows))
+    no_state i = by_place (cases_lt i (length rows))
       where
         by_place : (i < length rows) ⊎ (length rows ≤ i) → is_state (cell i) ≡ false
         by_place (inl h) =

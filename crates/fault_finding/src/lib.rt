@@ -8,4 +8,5 @@ mod circle;
 mod lines;
 
 pub use circle::circle_fault;
+pub use lack_faults::element_fault;
 pub use lines::line_fault;

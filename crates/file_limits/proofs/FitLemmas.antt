@@ -3,6 +3,8 @@ use Rattle.std.proofs.Common.{◌≡◌, ◌≤◌, ◌+◌, ℕ, suc, Bool, tru
 use Rattle.std.proofs.Common.{Some, None, refl, subst, arith}
 use Rattle.std.specs.Prelude.{option_and_then, if◌then◌else◌}
 use Rattle.std.proofs.lemmas.Option.{slice_get_within}
+use Rattle.arm_value.specs.declared.value.Value.{Value}
+use Rattle.template_parts.specs.declared.mode.Form.{Form}
 use Rattle.template_parts.specs.declared.parameter.Parameter.{Parameter}
 use Rattle.bicep_tree.specs.declared.leaf.Quoted.{Quoted}
 use Rattle.bicep_tree.specs.declared.leaf.TypeName.{TypeName}
@@ -38,7 +40,7 @@ use Rattle.file_limits.specs.Limited.{AllIsPrintable, AllFits}
 use Rattle.file_limits.proofs.PartLemmas.{Within, first_part, second_part, inside, one_of}
 use Rattle.file_limits.proofs.PrintLemmas.{Printed, around, output_printed, default_printed, variable_printed}
 use Rattle.file_limits.proofs.PrintLemmas.{body_printed, arguments_printed}
-use Rattle.file_limits.proofs.HeadLemmas.{head_within, needs_within}
+use Rattle.file_limits.proofs.HeadLemmas.{existing_within, head_within, needs_within}
 
 -- ---- values
 
@@ -63,24 +65,26 @@ four i = omega arith
 flat : (i m : ℕ) → i + suc m ≤ 120 → m ≤ 119
 flat i m h = omega (arith, h)
 
-module _ (z : Shape) (rs : List (Option Parameter)) (inner : ℕ → Extremes) (i : ℕ)
-    (h : Within i (file_extremes z rs inner)) where
-  parts : Within (suc (suc i)) (x.parts_extremes z rs inner)
+module _ (g : Form) (z : Shape) (rs : List (Option Parameter)) (ms os : List (Option Value)) (inner : ℕ → Extremes)
+    (i : ℕ)
+    (h : Within i (file_extremes g z rs ms os inner)) where
+  parts : Within (suc (suc i)) (x.parts_extremes g z rs ms os inner)
   parts =
-      inside (suc i) (x.parts_extremes z rs inner) (inside i (enclosed (x.parts_extremes z rs inner)) h)
+      inside (suc i) (x.parts_extremes g z rs ms os inner) (inside i (enclosed (x.parts_extremes g z rs ms os inner)) h)
 
-  all_declared : Within (suc (suc i)) (all_declarations z rs inner)
-  all_declared = first_part (suc (suc i)) (all_declarations z rs inner) (all_outputs z) parts
+  all_declared : Within (suc (suc i)) (all_declarations g z rs ms inner)
+  all_declared = first_part (suc (suc i)) (all_declarations g z rs ms inner) (all_outputs z os) parts
 
-  outputs_within : Within (suc (suc i)) (all_outputs z)
-  outputs_within = second_part (suc (suc i)) (all_declarations z rs inner) (all_outputs z) parts
+  outputs_within : Within (suc (suc i)) (all_outputs z os)
+  outputs_within = second_part (suc (suc i)) (all_declarations g z rs ms inner) (all_outputs z os) parts
 
   declared_within : (n : ℕ) (c : DeclaredTree) → declaration (file_in z) n ≡ Some c
-      → Within (suc (suc i)) (declared_extremes z rs inner n (Some c))
+      → Within (suc (suc i)) (declared_extremes g z rs ms inner n (Some c))
   declared_within n c e =
       let ds = (file_in z).declared.declarations in
-      subst (λ o. Within (suc (suc i)) (declared_extremes z rs inner n o)) e
-      (one_of (suc (suc i)) (declaration_extremes z rs inner) (length ds) n (slice_get_within ds n c e) all_declared)
+      subst (λ o. Within (suc (suc i)) (declared_extremes g z rs ms inner n o)) e
+      (one_of (suc (suc i)) (declaration_extremes g z rs ms inner) (length ds) n (slice_get_within ds n c e)
+      all_declared)
 
   -- the template of a module
   inner_within : (n at : ℕ) (b : BodyTree) → declaration (file_in z) n ≡ Some (d.a_module at b)
@@ -89,9 +93,11 @@ module _ (z : Shape) (rs : List (Option Parameter)) (inner : ℕ → Extremes) (
       let j = suc (suc i) in
       let args = x.argument_extremes z n b in
       let properties = x.properties_extremes z n b (inner n) in
+      let all = first_part j (x.module_extremes g z n b (inner n)) (x.noted (x.metadata_at ms n))
+      (declared_within n (d.a_module at b) q) in
       let rest = second_part j (head_extremes (whole_in z) n b.each)
-      (joined (x.needs_extremes z n b) (enclosed properties)) (declared_within n (d.a_module at b) q) in
-      let object = inside j properties (second_part j (x.needs_extremes z n b) (enclosed properties) rest) in
+      (joined (x.needs_extremes g z n b) (enclosed properties)) all in
+      let object = inside j properties (second_part j (x.needs_extremes g z n b) (enclosed properties) rest) in
       second_part (suc (suc j)) (enclosed (enclosed args)) (inner n)
       (inside (suc j) (joined (enclosed (enclosed args)) (inner n)) object)
 
@@ -99,20 +105,38 @@ module _ (z : Shape) (rs : List (Option Parameter)) (inner : ℕ → Extremes) (
       → Within (i + 4) (inner n)
   template_within n at b q = subst (λ j. Within j (inner n)) (four i) (inner_within n at b q)
 
-module _ (z : Shape) (rs : List (Option Parameter)) (inner : ℕ → Extremes) (i : ℕ) (a : AllIsPrintable z)
-    (p : Printed z) (h : Within i (file_extremes z rs inner)) where
+module _ (g : Form) (z : Shape) (rs : List (Option Parameter)) (ms os : List (Option Value)) (inner : ℕ → Extremes)
+    (i : ℕ) (a : AllIsPrintable z)
+    (p : Printed z) (h : Within i (file_extremes g z rs ms os inner)) where
   declaration_within : (n : ℕ) (c : DeclaredTree) → declaration (file_in z) n ≡ Some c
-      → Within (suc (suc i)) (declared_extremes z rs inner n (Some c))
-  declaration_within = declared_within z rs inner i h
+      → Within (suc (suc i)) (declared_extremes g z rs ms inner n (Some c))
+  declaration_within = declared_within g z rs ms os inner i h
+
+  -- without metadata
+  resource_within : (n at : ℕ) (w : Quoted) (b : BodyTree)
+      → declaration (file_in z) n ≡ Some (d.a_resource at w false b) → Within (suc (suc i)) (x.put_extremes g z n b)
+  resource_within n at w b q =
+      first_part (suc (suc i)) (x.put_extremes g z n b) (x.noted (x.metadata_at ms n))
+      (declaration_within n (d.a_resource at w false b) q)
+
+  module_within : (n at : ℕ) (b : BodyTree) → declaration (file_in z) n ≡ Some (d.a_module at b)
+      → Within (suc (suc i)) (x.module_extremes g z n b (inner n))
+  module_within n at b q =
+      first_part (suc (suc i)) (x.module_extremes g z n b (inner n)) (x.noted (x.metadata_at ms n))
+      (declaration_within n (d.a_module at b) q)
+
+  output_fits : (b : Bool) (v : TemplateValue) → EachOfValue IsPrintable v
+      → Within (suc (suc i)) (x.output_object b (value_extremes v)) → MayBeBuilt v
+  output_fits false v q w = value_fits (suc (suc i)) v q (inside (suc (suc i)) (value_extremes v) w)
+  output_fits true v q w = value_fits (suc i) v q w
 
   outputs_fit : OutputsFit z
   outputs_fit n o e =
-      let v = value (emission_sight z) None o.value [] in
-      value_fits (suc (suc i)) v (output_printed z a p n o e)
-      (inside (suc (suc i)) (value_extremes v)
-      (subst (λ q. Within (suc (suc i)) (x.output_value z q)) e
-      (one_of (suc (suc i)) (output_extremes z) (length (file_in z).declared.outputs) n
-      (slice_get_within (file_in z).declared.outputs n o e) (outputs_within z rs inner i h))))
+      output_fits (x.is_loop o.value) (value (emission_sight z) None o.value []) (output_printed z a p n o e)
+      (first_part (suc (suc i)) (x.content_extremes z o.value) (x.noted (x.metadata_at os n))
+      (subst (λ q. Within (suc (suc i)) (x.output_value z (x.metadata_at os n) q)) e
+      (one_of (suc (suc i)) (output_extremes z os) (length (file_in z).declared.outputs) n
+      (slice_get_within (file_in z).declared.outputs n o e) (outputs_within g z rs ms os inner i h))))
 
   -- ---- declarations
 
@@ -201,8 +225,8 @@ module _ (z : Shape) (rs : List (Option Parameter)) (inner : ℕ → Extremes) (
       let template = inner n in
       let properties = x.properties_extremes z n b template in
       let rest = second_part j (head_extremes (whole_in z) n b.each)
-      (joined (x.needs_extremes z n b) (enclosed properties)) (declaration_within n (d.a_module at b) q) in
-      let object = inside j properties (second_part j (x.needs_extremes z n b) (enclosed properties) rest) in
+      (joined (x.needs_extremes g z n b) (enclosed properties)) (module_within n at b q) in
+      let object = inside j properties (second_part j (x.needs_extremes g z n b) (enclosed properties) rest) in
       let members = inside (suc j) (joined (enclosed (enclosed args)) template) object in
       let given = first_part (suc (suc j)) (enclosed (enclosed args)) template members in
       arguments_fit (suc (suc (suc j))) n b (arguments_in b.fields) (arguments_printed z a p n at b q)
@@ -214,8 +238,8 @@ module _ (z : Shape) (rs : List (Option Parameter)) (inner : ℕ → Extremes) (
       → Within (suc (suc i)) (tree_extremes (t.object (members_at z n b)))
   members_within n at w b q =
       second_part (suc (suc i)) (head_extremes (whole_in z) n b.each) (tree_extremes (t.object (members_at z n b)))
-      (first_part (suc (suc i)) (resource_extremes z n b) (x.needs_extremes z n b)
-      (declaration_within n (d.a_resource at w false b) q))
+      (first_part (suc (suc i)) (resource_extremes z n b) (x.needs_extremes g z n b)
+      (resource_within n at w b q))
 
   members_fit : (n : ℕ) (b : BodyTree) → Within (suc (suc i)) (tree_extremes (t.object (members_at z n b)))
       → MembersFit (members_at z n b)
@@ -236,7 +260,7 @@ module _ (z : Shape) (rs : List (Option Parameter)) (inner : ℕ → Extremes) (
       by_declaration (Some (d.a_resource at w false b)) q = members_fit n b (members_within n at w b q)
       by_declaration (Some (d.a_module at b)) q = module_fits n at b q
 
-  all_within : (n : ℕ) → IsWithin z n
+  all_within : (n : ℕ) → IsWithin g z n
   all_within n = by_declaration (declaration (file_in z) n) refl
     where
       put_within : (at : ℕ) (w : Quoted) (b : BodyTree) → declaration (file_in z) n ≡ Some (d.a_resource at w false b)
@@ -248,34 +272,37 @@ module _ (z : Shape) (rs : List (Option Parameter)) (inner : ℕ → Extremes) (
             head =
                 head_within z a p (suc (suc i)) n b.each
                 (first_part (suc (suc i)) (head_extremes (whole_in z) n b.each) (tree_extremes object)
-                (first_part (suc (suc i)) (resource_extremes z n b) (x.needs_extremes z n b)
-                (declaration_within n (d.a_resource at w false b) q)));
+                (first_part (suc (suc i)) (resource_extremes z n b) (x.needs_extremes g z n b)
+                (resource_within n at w b q)));
             body = tree_printed object (body_printed z a p n at w false b q) (tree_small object ms.0 ms.1.1);
           }
 
-      by_declaration : (o : Option DeclaredTree) → declaration (file_in z) n ≡ o → IsWithinBy z n o
+      by_declaration : (o : Option DeclaredTree) → declaration (file_in z) n ≡ o → IsWithinBy g z n o
       by_declaration None q = tt
       by_declaration (Some (d.parameter at t)) q = tt
       by_declaration (Some (d.parameter_with at t f)) q = tt
       by_declaration (Some (d.variable at v)) q = tt
-      by_declaration (Some (d.a_resource at w true b)) q = tt
+      by_declaration (Some (d.a_resource at w true b)) q =
+          existing_within z a p g (suc (suc i)) n b (x.metadata_at ms n)
+          (declaration_within n (d.a_resource at w true b) q)
       by_declaration (Some (d.a_resource at w false b)) q = (
         put_within at w b q,
-        needs_within z a p (suc (suc i)) n b
-            (second_part (suc (suc i)) (resource_extremes z n b) (x.needs_extremes z n b)
-            (declaration_within n (d.a_resource at w false b) q)),
+        needs_within z a p g (suc (suc i)) n b
+            (second_part (suc (suc i)) (resource_extremes z n b) (x.needs_extremes g z n b)
+            (resource_within n at w b q)),
       )
       by_declaration (Some (d.a_module at b)) q =
           let j = suc (suc i) in
           let head = head_extremes (whole_in z) n b.each in
-          let needs = x.needs_extremes z n b in
+          let needs = x.needs_extremes g z n b in
           let properties = enclosed (x.properties_extremes z n b (inner n)) in
-          let all = declaration_within n (d.a_module at b) q in (
+          let all = module_within n at b q in (
             head_within z a p j n b.each (first_part j head (joined needs properties) all),
-            needs_within z a p j n b (first_part j needs properties (second_part j head (joined needs properties) all)),
+            needs_within z a p g j n b
+                (first_part j needs properties (second_part j head (joined needs properties) all)),
           )
 
-  pub all_fit : AllFits z
+  pub all_fit : AllFits g z
   all_fit = record {
     defaults = defaults_fit;
     variables = variables_fit;

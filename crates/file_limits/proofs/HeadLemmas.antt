@@ -1,7 +1,9 @@
 -- Heads of resources and elements of `dependsOn` that are beyond no limit can be read back.
 use Rattle.std.proofs.Common.{ℕ, suc, true, false, Bool, List, [], ◌∷◌, Option, Some, None, refl, codes}
 use Rattle.arm_expr.specs.Tree.{Tree}
-use Rattle.template_parts.specs.declared.mode.Form.TheVariants.{One}
+use Rattle.arm_value.specs.declared.value.Value.{Value}
+use Rattle.template_parts.specs.declared.mode.Form.{Form}
+use Rattle.template_parts.specs.declared.mode.Form.TheVariants.{One, Two}
 use Rattle.bicep_resolved.specs.Source.{LoopTree}
 use Rattle.bicep_resolved.specs.Source as s
 use Rattle.bicep_resolved.specs.declared.leaf.Field.TheVariants as field
@@ -22,8 +24,8 @@ use Rattle.emitted_templates.specs.Files.{id_by, element_by, frames_around}
 use Rattle.emitted_templates.specs.Limits.{HeadIsWithin, CountIsWritable, head_extremes, expression_extremes}
 use Rattle.emitted_templates.specs.Limits.{count_extremes}
 use Rattle.emitted_templates.specs.Seen.{Shape, file_in, files_in, whole_in}
-use Rattle.emitted_templates.specs.Within.{DependenciesAreWithin}
-use Rattle.file_limits.specs.Extremes.{needs_extremes, dependency_extremes, loop_extremes}
+use Rattle.emitted_templates.specs.Within.{DependenciesAreWithin, ExistingIsWithin}
+use Rattle.file_limits.specs.Extremes.{dependency_extremes, existing_extremes, loop_extremes, needs_extremes, noted}
 use Rattle.file_limits.specs.Limited.{AllIsPrintable}
 use Rattle.file_limits.proofs.PartLemmas.{Within, first_part, second_part, inside}
 use Rattle.file_limits.proofs.PrintLemmas.{Printed, around}
@@ -79,27 +81,38 @@ module _ (z : Shape) (h : AllIsPrintable z) (p : Printed z) where
       let name = p.expressions (s.field (s.symbol 0 (target.Resource n)) 0 field.Name) [] ((tt, tt), tt) (tt, tt) in
       ((name_is (codes "resourceId") refl, (tt, (name.0, tt))), (tt, (name.1, tt)))
 
-  element_within : (i n : ℕ) (looped : Bool)
-      → Within i (tree_extremes (element_by (files_in z) (file_in z) One looped n))
-      → IsWithin (element_by (files_in z) (file_in z) One looped n)
-  element_within i n true w = tt
-  element_within i n false w =
+  element_within : (g : Form) (i n : ℕ) (looped : Bool)
+      → Within i (tree_extremes (element_by (files_in z) (file_in z) g looped n))
+      → IsWithin (element_by (files_in z) (file_in z) g looped n)
+  element_within Two i n looped w = tt
+  element_within One i n true w = tt
+  element_within One i n false w =
       writable i (id_by (files_in z) (file_in z) n (declaration (file_in z) n))
       (id_printed n (declaration (file_in z) n)) w
 
-  elements_within : (i : ℕ) (ns : List ℕ) → Within i (elements_extremes (files_in z) (file_in z) One ns)
-      → ElementsAreWithin (files_in z) (file_in z) One ns
-  elements_within i [] w = tt
-  elements_within i (n ∷ ns) w =
-      let x = element_extremes (files_in z) (file_in z) One n in
-      let y = elements_extremes (files_in z) (file_in z) One ns in (
-        element_within i n (is_looped (file_in z) n) (first_part i x y w),
-        elements_within i ns (second_part i x y w),
+  elements_within : (g : Form) (i : ℕ) (ns : List ℕ) → Within i (elements_extremes (files_in z) (file_in z) g ns)
+      → ElementsAreWithin (files_in z) (file_in z) g ns
+  elements_within g i [] w = tt
+  elements_within g i (n ∷ ns) w =
+      let x = element_extremes (files_in z) (file_in z) g n in
+      let y = elements_extremes (files_in z) (file_in z) g ns in (
+        element_within g (suc i) n (is_looped (file_in z) n) (inside i x (first_part i (enclosed x) y w)),
+        elements_within g i ns (second_part i (enclosed x) y w),
       )
 
-  pub needs_within : (i n : ℕ) (b : BodyTree) → Within i (needs_extremes z n b) → DependenciesAreWithin z n
-  needs_within i n b w =
-      let x = dependency_extremes z n in
+  pub needs_within : (g : Form) (i n : ℕ) (b : BodyTree) → Within i (needs_extremes g z n b)
+      → DependenciesAreWithin g z n
+  needs_within g i n b w =
+      let x = dependency_extremes g z n in
       let y = loop_extremes b.each in
-      elements_within (suc (suc i)) (dependencies (file_in z) n)
-      (inside (suc i) x (first_part (suc i) (enclosed x) y (inside i (joined (enclosed x) y) w)))
+      elements_within g (suc i) (dependencies (file_in z) n) (first_part (suc i) x y (inside i (joined x y) w))
+
+  -- ---- existing resources
+
+  pub existing_within : (g : Form) (i n : ℕ) (b : BodyTree) (m : Option Value)
+      → Within i (existing_extremes g z n b m) → ExistingIsWithin g z n b
+  existing_within One i n b m w = tt
+  existing_within Two i n b m w =
+      let head = head_extremes (whole_in z) n b.each in
+      let loop = enclosed (loop_extremes b.each) in
+      head_within i n b.each (first_part i head loop (first_part i (joined head loop) (noted m) w))

@@ -4,3 +4,4 @@ mod EntryLemmas
 mod PrintLemmas
 mod HeadLemmas
 mod FitLemmas
+pub use Rattle.emitted_templates.proofs.ListedLemmas

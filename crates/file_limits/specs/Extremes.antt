@@ -1,13 +1,15 @@
--- How much of the limits of templates the template of a file takes in the first form, by its declarations.
-use Rattle.std.specs.Prelude.{◌≡◌, ℕ, zero, suc, max, length, true, false, List, [], Option, Some, None, map}
+-- How much of the limits of templates the template of a file takes, by its declarations.
+use Rattle.std.specs.Prelude.{◌≡◌, ℕ, zero, suc, max, length, Bool, true, false, List, [], Option, Some, None, map}
 use Rattle.std.specs.Prelude.{slice_index_or, Result, IfOk}
 use Rattle.std.specs.declared.alloc.AllocError.{AllocError}
 use Rattle.arm_value.specs.Json.{Json, items_nesting, nesting}
 use Rattle.arm_value.specs.View.{json}
 use Rattle.arm_value.specs.declared.value.Value.{Value}
-use Rattle.template_parts.specs.declared.mode.Form.TheVariants.{One}
+use Rattle.template_parts.specs.declared.mode.Form.{Form}
+use Rattle.template_parts.specs.declared.mode.Form.TheVariants.{One, Two}
 use Rattle.template_parts.specs.declared.parameter.Parameter.{Parameter}
 use Rattle.bicep_resolved.specs.Source.{SourceTree, ValueTree, LoopTree}
+use Rattle.bicep_resolved.specs.Source as source
 use Rattle.bicep_declared.specs.Declarations.{BodyTree, DeclaredTree, OutputTree}
 use Rattle.bicep_declared.specs.Declarations as d
 use Rattle.bicep_declared.specs.View.{declared_tree, output_tree}
@@ -50,6 +52,16 @@ abbrev pub rule_depth : Option Parameter → ℕ
 rule_depth None = 0
 rule_depth (Some p) = max (allowed_depth p.allowed_values) (value_depth p.metadata)
 
+-- ---- metadata
+
+-- that of a number
+abbrev pub metadata_at : List (Option Value) → ℕ → Option Value
+metadata_at ms n = slice_index_or ms n None
+
+-- the member `metadata` of an object
+abbrev pub noted : Option Value → Extremes
+noted m = enclosed (plain (value_depth m))
+
 -- ---- modules
 
 -- what modules take is known of their numbers
@@ -75,6 +87,19 @@ TakesAround m r y = (x : Extremes) → IsOf x m → IfOk r (IsOf (y x))
 abbrev pub loop_extremes : Option LoopTree → Extremes
 loop_extremes None = nothing
 loop_extremes (Some l) = enclosed nothing
+
+-- ---- outputs
+
+-- a value that has one item for each of a list
+abbrev pub is_loop : ValueTree → Bool
+is_loop (source.plain e) = false
+is_loop (source.each l e) = true
+
+-- the object of an output, by what the value of a variable takes. The loop of an output is an object in it; that of a
+-- variable is an object in an array
+abbrev pub output_object : Bool → Extremes → Extremes
+output_object false x = enclosed x
+output_object true x = x
 
 module _ (s : Shape) where
   -- ---- declarations and outputs, as they are in memory
@@ -121,29 +146,20 @@ module _ (s : Shape) where
 
   -- the object of an output
   abbrev pub content_extremes : ValueTree → Extremes
-  content_extremes v = enclosed (value_extremes (value (emission_sight s) None v []))
+  content_extremes v = output_object (is_loop v) (value_extremes (value (emission_sight s) None v []))
 
-  abbrev pub output_value : Option OutputTree → Extremes
-  output_value None = nothing
-  output_value (Some o) = content_extremes o.value
+  abbrev pub output_value : Option Value → Option OutputTree → Extremes
+  output_value m None = nothing
+  output_value m (Some o) = joined (content_extremes o.value) (noted m)
 
-  abbrev pub output_extremes : ℕ → Extremes
-  output_extremes n = output_value (output_at s n)
+  -- by the metadata of outputs
+  abbrev pub output_extremes : List (Option Value) → ℕ → Extremes
+  output_extremes os n = output_value (metadata_at os n) (output_at s n)
 
-  abbrev pub all_outputs : Extremes
-  all_outputs = over output_extremes (length (file_in s).declared.outputs)
+  abbrev pub all_outputs : List (Option Value) → Extremes
+  all_outputs os = over (output_extremes os) (length (file_in s).declared.outputs)
 
-  -- ---- resources and modules
-
-  -- the members `dependsOn` and `copy` of the object of a resource
-  abbrev pub dependency_extremes : ℕ → Extremes
-  dependency_extremes n = elements_extremes (files_in s) (file_in s) One (dependencies (file_in s) n)
-
-  abbrev pub needs_extremes : ℕ → BodyTree → Extremes
-  needs_extremes n b = enclosed (joined (enclosed (dependency_extremes n)) (loop_extremes b.each))
-
-  abbrev pub put_extremes : ℕ → BodyTree → Extremes
-  put_extremes n b = joined (resource_extremes s n b) (needs_extremes n b)
+  -- ---- modules
 
   -- the properties of a nested deployment, with the arguments of the module and the template of its file
   abbrev pub argument_extremes : ℕ → BodyTree → Extremes
@@ -153,22 +169,48 @@ module _ (s : Shape) where
   abbrev pub properties_extremes : ℕ → BodyTree → Extremes → Extremes
   properties_extremes n b template = enclosed (joined (enclosed (enclosed (argument_extremes n b))) template)
 
+-- the object of an existing resource, which a template of the first form does not have
+abbrev pub existing_extremes : Form → Shape → ℕ → BodyTree → Option Value → Extremes
+existing_extremes One s n b m = nothing
+existing_extremes Two s n b m =
+    joined (joined (head_extremes (whole_in s) n b.each) (enclosed (loop_extremes b.each))) (noted m)
+
+module _ (z : Form) (s : Shape) where
+  -- ---- resources and modules
+
+  -- the members `dependsOn` and `copy` of the object of a resource
+  abbrev pub dependency_extremes : ℕ → Extremes
+  dependency_extremes n = elements_extremes (files_in s) (file_in s) z (dependencies (file_in s) n)
+
+  abbrev pub needs_extremes : ℕ → BodyTree → Extremes
+  needs_extremes n b = enclosed (joined (dependency_extremes n) (loop_extremes b.each))
+
+  abbrev pub put_extremes : ℕ → BodyTree → Extremes
+  put_extremes n b = joined (resource_extremes s n b) (needs_extremes n b)
+
   abbrev pub module_extremes : ℕ → BodyTree → Extremes → Extremes
   module_extremes n b template =
       joined (head_extremes (whole_in s) n b.each)
-      (joined (needs_extremes n b) (enclosed (properties_extremes n b template)))
+      (joined (needs_extremes n b) (enclosed (properties_extremes s n b template)))
 
-  -- ---- the file
+  -- the same with metadata
+  abbrev pub put_object : ℕ → BodyTree → Option Value → Extremes
+  put_object n b m = joined (put_extremes n b) (noted m)
 
-  module _ (rs : List (Option Parameter)) (inner : ℕ → Extremes) where
+  abbrev pub module_object : ℕ → BodyTree → Option Value → Extremes → Extremes
+  module_object n b m template = joined (module_extremes n b template) (noted m)
+
+  -- ---- the file, by the rules of its parameters and by the metadata of its symbols and of its outputs
+
+  module _ (rs : List (Option Parameter)) (ms : List (Option Value)) (inner : ℕ → Extremes) where
     abbrev pub declared_extremes : ℕ → Option DeclaredTree → Extremes
     declared_extremes n None = nothing
-    declared_extremes n (Some (d.parameter at t)) = ruled_extremes rs n
-    declared_extremes n (Some (d.parameter_with at t e)) = ruled_extremes rs n
-    declared_extremes n (Some (d.variable at v)) = variable_extremes n
-    declared_extremes n (Some (d.a_resource at q true b)) = nothing
-    declared_extremes n (Some (d.a_resource at q false b)) = put_extremes n b
-    declared_extremes n (Some (d.a_module at b)) = module_extremes n b (inner n)
+    declared_extremes n (Some (d.parameter at t)) = ruled_extremes s rs n
+    declared_extremes n (Some (d.parameter_with at t e)) = ruled_extremes s rs n
+    declared_extremes n (Some (d.variable at v)) = variable_extremes s n
+    declared_extremes n (Some (d.a_resource at q true b)) = existing_extremes z s n b (metadata_at ms n)
+    declared_extremes n (Some (d.a_resource at q false b)) = put_object n b (metadata_at ms n)
+    declared_extremes n (Some (d.a_module at b)) = module_object n b (metadata_at ms n) (inner n)
 
     abbrev pub declaration_extremes : ℕ → Extremes
     declaration_extremes n = declared_extremes n (declaration (file_in s) n)
@@ -176,9 +218,10 @@ module _ (s : Shape) where
     abbrev pub all_declarations : Extremes
     all_declarations = over declaration_extremes (length (file_in s).declared.declarations)
 
+  module _ (rs : List (Option Parameter)) (ms os : List (Option Value)) (inner : ℕ → Extremes) where
     -- the parts of the template: its parameters, variables and resources, and its outputs
     abbrev pub parts_extremes : Extremes
-    parts_extremes = joined all_declarations all_outputs
+    parts_extremes = joined (all_declarations rs ms inner) (all_outputs s os)
 
     -- the template, in which each part is inside two objects, or an object and an array
     abbrev pub file_extremes : Extremes

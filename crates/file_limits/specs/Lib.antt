@@ -6,3 +6,10 @@ pub use Rattle.emitted_templates.specs.Lists
 pub use Rattle.emitted_templates.specs.Seen
 pub use Rattle.emitted_templates.specs.Templates
 pub use Rattle.emitted_templates.specs.Within
+pub use Rattle.emitted_templates.specs.Built
+pub use Rattle.emitted_templates.specs.Files
+pub use Rattle.emitted_templates.specs.Found
+pub use Rattle.emitted_templates.specs.Metadata
+pub use Rattle.emitted_templates.specs.Modules
+pub use Rattle.emitted_templates.specs.Parts
+pub use Rattle.emitted_templates.specs.Values

@@ -1,5 +1,6 @@
 -- When the template of a file can be built and read back.
 use Rattle.std.specs.Prelude.{ℕ}
+use Rattle.template_parts.specs.declared.mode.Form.{Form}
 use Rattle.bicep_meaning.specs.Files.{declaration}
 use Rattle.emitted_numbers.specs.Wholes.{FileHasAllWholes}
 use Rattle.tree_names.specs.Words.{FileHasAllWords}
@@ -16,9 +17,9 @@ pub record AllIsPrintable (s : Shape) : Type 0 where
   pub wholes : FileHasAllWholes (file_in s).declared
 
 -- what the declarations and the outputs of the file become is within the limits of templates
-pub record AllFits (s : Shape) : Type 0 where
+pub record AllFits (z : Form) (s : Shape) : Type 0 where
   pub defaults : DefaultsFit s
   pub variables : VariablesFit s
   pub outputs : OutputsFit s
   pub bodies : (n : ℕ) → FitsBy s n (declaration (file_in s) n)
-  pub within : (n : ℕ) → IsWithin s n
+  pub within : (n : ℕ) → IsWithin z s n

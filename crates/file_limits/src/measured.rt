@@ -1,8 +1,9 @@
 //! What the template of a file takes of the limits.
-ghost use Rattle.std.specs.Prelude.{◌≡◌, [], IfOk, MatchOption, option_map, slice_index_or};
+ghost use Rattle.std.specs.Prelude.{◌≡◌, [], Some, IfOk, MatchOption, option_map, slice_index_or};
 ghost use Rattle.depend_graph.specs.Sets.{keys_of_each};
 ghost use Rattle.bicep_resolved.specs.View.{value_of};
-ghost use Rattle.bicep_declared.specs.View.{body_tree};
+ghost use Rattle.bicep_declared.specs.View.{body_tree, output_tree};
+ghost use Rattle.measured_trees.specs.Extremes.{Extremes};
 ghost use Rattle.measured_trees.specs.Measures.{IsOf};
 ghost use Rattle.emitted_templates.specs.Fits.{IsReady, AreMentioned};
 ghost use Rattle.file_limits.specs.Extremes as spec;
@@ -54,6 +55,23 @@ fn rule_depth(rule: &Option<Parameter>) -> u64
     match rule {
         Some(rule) => allowed_depth(&rule.allowed_values).max(value_depth(&rule.metadata)),
         None => 0,
+    }
+}
+
+// What the member `metadata` of an object takes.
+fn measured_metadata(metadata: &Option<Value>) -> Measure
+    ensures { IsOf (spec.noted metadata.now) result }
+{
+    plain_measure(value_depth(metadata)).enclosed()
+}
+
+// The same for a number.
+fn metadata_in(metadata: &[Option<Value>], number: usize) -> Measure
+    ensures { IsOf (spec.noted (spec.metadata_at metadata.now number)) result }
+{
+    match metadata.get(number) {
+        Some(metadata) => measured_metadata(metadata),
+        None => measured_metadata(&None),
     }
 }
 
@@ -146,6 +164,24 @@ fn measured_variable(
     }
 }
 
+// Whether a value has one item for each of a list.
+#[tactic(auto, using(bicep_resolved::proofs::ViewLemmas::enums))]
+fn is_loop(value: &SourceValue) -> bool
+    ensures { result ≡ spec.is_loop (value_of value.now) }
+{
+    match value {
+        SourceValue::Plain(_) => false,
+        SourceValue::Each(_, _) => true,
+    }
+}
+
+// What the object of an output takes, by what the value of a variable does.
+fn output_object(looped: bool, value: Measure) -> Measure
+    ensures { (x : Extremes) → IsOf x value → IsOf (spec.output_object looped x) result }
+{
+    if looped { value } else { value.enclosed() }
+}
+
 // What the object of an output takes.
 fn measured_output(
     alloc: Global,
@@ -156,7 +192,23 @@ fn measured_output(
     ensures { IfOk result (IsOf (spec.content_extremes table.now (value_of declared.now.value))) }
 {
     let value = measured_content(alloc, table, None, &declared.value, &[])?;
-    Ok(value.enclosed())
+    Ok(output_object(is_loop(&declared.value), value))
+}
+
+// The same with the metadata of the output of a number.
+fn noted_output(
+    alloc: Global,
+    table: &Table,
+    metadata: &[Option<Value>],
+    number: usize,
+    declared: &DeclaredOutput,
+) -> Result<Measure, OutOfMemory>
+    requires ready { IsReady table.now }
+    ensures { IfOk result (IsOf (spec.output_value table.now (spec.metadata_at metadata.now number)
+        (Some (output_tree declared.now)))) }
+{
+    let output = measured_output(alloc, table, declared)?;
+    Ok(output.with(metadata_in(metadata, number)))
 }
 
 // The numbers that the declaration of a symbol mentions.
@@ -167,22 +219,23 @@ fn mentioned_by(mentioned: &[BTreeSet<usize>], number: usize) -> Option<&BTreeSe
     mentioned.get(number)
 }
 
-// What the elements of `dependsOn` of a number take.
+// What the array `dependsOn` of a number takes.
 fn measured_elements(
     alloc: Global,
     table: &Table,
+    form: Form,
     mentioned: &[BTreeSet<usize>],
     number: usize,
 ) -> Measure
     requires ready { IsReady table.now }
     requires mentioned { AreMentioned table.now mentioned.now }
-    ensures { IsOf (spec.dependency_extremes table.now number) result }
+    ensures { IsOf (spec.dependency_extremes form table.now number) result }
 {
     match mentioned_by(mentioned, number) {
-        Some(numbers) => measured_dependencies(table, Form::One, numbers),
+        Some(numbers) => measured_dependencies(table, form, numbers),
         None => {
             let none = BTreeSet::new(alloc);
-            measured_dependencies(table, Form::One, &none)
+            measured_dependencies(table, form, &none)
         }
     }
 }
@@ -201,15 +254,16 @@ fn measured_loop(body: &DeclaredBody) -> Measure
 fn measured_needs(
     alloc: Global,
     table: &Table,
+    form: Form,
     mentioned: &[BTreeSet<usize>],
     number: usize,
     body: &DeclaredBody,
 ) -> Measure
     requires ready { IsReady table.now }
     requires mentioned { AreMentioned table.now mentioned.now }
-    ensures { IsOf (spec.needs_extremes table.now number (body_tree body.now)) result }
+    ensures { IsOf (spec.needs_extremes form table.now number (body_tree body.now)) result }
 {
-    let elements = measured_elements(alloc, table, mentioned, number).enclosed();
+    let elements = measured_elements(alloc, table, form, mentioned, number);
     elements.with(measured_loop(body)).enclosed()
 }
 
@@ -217,16 +271,56 @@ fn measured_needs(
 fn measured_put(
     alloc: Global,
     table: &Table,
+    form: Form,
     mentioned: &[BTreeSet<usize>],
     number: usize,
     body: &DeclaredBody,
 ) -> Result<Measure, OutOfMemory>
     requires ready { IsReady table.now }
     requires mentioned { AreMentioned table.now mentioned.now }
-    ensures { IfOk result (IsOf (spec.put_extremes table.now number (body_tree body.now))) }
+    ensures { IfOk result (IsOf (spec.put_extremes form table.now number (body_tree body.now))) }
 {
     let resource = measured_resource(alloc, table, number, body)?;
-    Ok(resource.with(measured_needs(alloc, table, mentioned, number, body)))
+    Ok(resource.with(measured_needs(alloc, table, form, mentioned, number, body)))
+}
+
+// The same with its metadata.
+fn noted_put(
+    alloc: Global,
+    table: &Table,
+    form: Form,
+    metadata: &[Option<Value>],
+    mentioned: &[BTreeSet<usize>],
+    number: usize,
+    body: &DeclaredBody,
+) -> Result<Measure, OutOfMemory>
+    requires ready { IsReady table.now }
+    requires mentioned { AreMentioned table.now mentioned.now }
+    ensures { IfOk result (IsOf (spec.put_object form table.now number (body_tree body.now)
+        (spec.metadata_at metadata.now number))) }
+{
+    let put = measured_put(alloc, table, form, mentioned, number, body)?;
+    Ok(put.with(metadata_in(metadata, number)))
+}
+
+// What the object of an existing resource takes: a template of the first form has none.
+fn measured_existing(
+    table: &Table,
+    form: Form,
+    metadata: &[Option<Value>],
+    number: usize,
+    body: &DeclaredBody,
+) -> Measure
+    requires { IsReady table.now }
+    ensures { IsOf (spec.existing_extremes form table.now number (body_tree body.now)
+        (spec.metadata_at metadata.now number)) result }
+{
+    match form {
+        Form::One => Measure::nothing(),
+        Form::Two => measured_head(table, number, body)
+            .with(measured_loop(body).enclosed())
+            .with(metadata_in(metadata, number)),
+    }
 }
 
 // What the properties of a nested deployment take, by what its template takes.
@@ -248,6 +342,7 @@ fn measured_properties(
 fn measured_module(
     alloc: Global,
     table: &Table,
+    form: Form,
     mentioned: &[BTreeSet<usize>],
     number: usize,
     body: &DeclaredBody,
@@ -255,11 +350,32 @@ fn measured_module(
 ) -> Result<Measure, OutOfMemory>
     requires ready { IsReady table.now }
     requires mentioned { AreMentioned table.now mentioned.now }
-    ensures { spec.TakesAround template result (λ x. spec.module_extremes table.now number (body_tree body.now) x) }
+    ensures { spec.TakesAround template result
+        (λ x. spec.module_extremes form table.now number (body_tree body.now) x) }
 {
     let properties = measured_properties(alloc, table, number, body, template)?;
-    let needs = measured_needs(alloc, table, mentioned, number, body);
+    let needs = measured_needs(alloc, table, form, mentioned, number, body);
     Ok(measured_head(table, number, body).with(needs.with(properties.enclosed())))
+}
+
+// The same with its metadata.
+fn noted_module(
+    alloc: Global,
+    table: &Table,
+    form: Form,
+    metadata: &[Option<Value>],
+    mentioned: &[BTreeSet<usize>],
+    number: usize,
+    body: &DeclaredBody,
+    template: Measure,
+) -> Result<Measure, OutOfMemory>
+    requires ready { IsReady table.now }
+    requires mentioned { AreMentioned table.now mentioned.now }
+    ensures { spec.TakesAround template result (λ x. spec.module_object form table.now number (body_tree body.now)
+        (spec.metadata_at metadata.now number) x) }
+{
+    let object = measured_module(alloc, table, form, mentioned, number, body, template)?;
+    Ok(object.with(metadata_in(metadata, number)))
 }
 
 // What the template of the module of a number takes.
@@ -277,7 +393,9 @@ fn inner_of(inner: &[Measure], number: usize) -> Measure
 fn measured_declaration(
     alloc: Global,
     table: &Table,
+    form: Form,
     rules: &[Option<Parameter>],
+    metadata: &[Option<Value>],
     mentioned: &[BTreeSet<usize>],
     inner: &[Measure],
     number: usize,
@@ -286,7 +404,8 @@ fn measured_declaration(
     requires ready { IsReady table.now }
     requires mentioned { AreMentioned table.now mentioned.now }
     requires declared { spec.Declares table.now number declared.now }
-    ensures { spec.TakesWith inner.now result (λ x. spec.declaration_extremes table.now rules.now x number) }
+    ensures { spec.TakesWith inner.now result
+        (λ x. spec.declaration_extremes form table.now rules.now metadata.now x number) }
 {
     match declared {
         Declared::Parameter(_, _) | Declared::ParameterWith(_, _, _) => {
@@ -295,14 +414,16 @@ fn measured_declaration(
         Declared::Variable(_, value) => measured_variable(alloc, table, number, value),
         Declared::Resource(_, _, existing, body) => {
             if *existing {
-                Ok(Measure::nothing())
+                Ok(measured_existing(table, form, metadata, number, body))
             } else {
-                measured_put(alloc, table, mentioned, number, body)
+                noted_put(alloc, table, form, metadata, mentioned, number, body)
             }
         }
         Declared::Module(_, body) => {
             let template = inner_of(inner, number);
-            measured_module(alloc, table, mentioned, number, body, template)
+            noted_module(
+                alloc, table, form, metadata, mentioned, number, body, template,
+            )
         }
     }
 }
@@ -311,7 +432,9 @@ fn measured_declaration(
 fn measured_declarations(
     alloc: Global,
     table: &Table,
+    form: Form,
     rules: &[Option<Parameter>],
+    metadata: &[Option<Value>],
     mentioned: &[BTreeSet<usize>],
     inner: &[Measure],
     declarations: &[Declared],
@@ -319,11 +442,14 @@ fn measured_declarations(
     requires ready { IsReady table.now }
     requires mentioned { AreMentioned table.now mentioned.now }
     requires declared { spec.AreDeclared table.now declarations.now }
-    ensures { spec.TakesWith inner.now result (λ x. spec.all_declarations table.now rules.now x) }
+    ensures { spec.TakesWith inner.now result
+        (λ x. spec.all_declarations form table.now rules.now metadata.now x) }
 {
     let mut all = Measure::nothing();
     for (number, declared) in declarations.iter().enumerate() {
-        let one = measured_declaration(alloc, table, rules, mentioned, inner, number, declared)?;
+        let one = measured_declaration(
+            alloc, table, form, rules, metadata, mentioned, inner, number, declared,
+        )?;
         all = all.with(one);
     }
     Ok(all)
@@ -333,24 +459,26 @@ fn measured_declarations(
 fn measured_outputs(
     alloc: Global,
     table: &Table,
+    metadata: &[Option<Value>],
     outputs: &[DeclaredOutput],
 ) -> Result<Measure, OutOfMemory>
     requires ready { IsReady table.now }
     requires declared { spec.AreDeclaredOutputs table.now outputs.now }
-    ensures { IfOk result (IsOf (spec.all_outputs table.now)) }
+    ensures { IfOk result (IsOf (spec.all_outputs table.now metadata.now)) }
 {
     let mut all = Measure::nothing();
-    for output in outputs {
-        let one = measured_output(alloc, table, output)?;
+    for (number, declared) in outputs.iter().enumerate() {
+        let one = noted_output(alloc, table, metadata, number, declared)?;
         all = all.with(one);
     }
     Ok(all)
 }
 
-/// How much of the limits of templates the template of a file takes in the first form, with a table of all its
-/// declarations. `rules` has at the number of each symbol that is a parameter the values that are allowed and its
-/// metadata. `mentioned` is what `dependencies` of `bicep_dependencies` returns. `inner` has at the number of each
-/// module what the template of its file takes.
+/// How much of the limits of templates the template of a file takes in a form, with a table of all its declarations.
+/// `rules` has at the number of each symbol that is a parameter the values that are allowed and its metadata; `symbols`
+/// has the metadata of resources and modules, by the numbers of their symbols, and `outputs` that of outputs.
+/// `mentioned` is what `dependencies` of `bicep_dependencies` returns. `inner` has at the number of each module what
+/// the template of its file takes.
 ///
 /// # Errors
 ///
@@ -358,17 +486,30 @@ fn measured_outputs(
 pub fn measured_file(
     alloc: Global,
     table: &Table,
+    form: Form,
     rules: &[Option<Parameter>],
+    symbols: &[Option<Value>],
+    outputs: &[Option<Value>],
     mentioned: &[BTreeSet<usize>],
     inner: &[Measure],
 ) -> Result<Measure, OutOfMemory>
     requires ready { IsReady table.now }
     requires mentioned { AreMentioned table.now mentioned.now }
-    ensures { spec.TakesWith inner.now result (λ x. spec.file_extremes table.now rules.now x) }
+    ensures { spec.TakesWith inner.now result
+        (λ x. spec.file_extremes form table.now rules.now symbols.now outputs.now x) }
 {
     let declared = &table.file().declared;
     let declarations = declared.declarations.as_slice();
-    let outputs = measured_outputs(alloc, table, declared.outputs.as_slice())?;
-    let all = measured_declarations(alloc, table, rules, mentioned, inner, declarations)?;
-    Ok(all.with(outputs).enclosed().enclosed())
+    let of_outputs = measured_outputs(alloc, table, outputs, declared.outputs.as_slice())?;
+    let all = measured_declarations(
+        alloc,
+        table,
+        form,
+        rules,
+        symbols,
+        mentioned,
+        inner,
+        declarations,
+    )?;
+    Ok(all.with(of_outputs).enclosed().enclosed())
 }

@@ -4,6 +4,8 @@ use Rattle.std.proofs.Common.{None, bytes_eq, refl, sym, ap, ◌∙◌, subst, a
 use Rattle.std.proofs.Common.{◌⊎◌, inl, inr}
 use Rattle.std.specs.Prelude.{option_and_then}
 use Rattle.std.specs.List.Sorted.{IsStrictlySortedBy}
+use Rattle.std.proofs.lemmas.Bool.{cases_lt}
+use Rattle.foundation.proofs.Comparisons.{lt_or_is}
 use Rattle.foundation.proofs.Options.{same_some}
 use Rattle.arm_value.specs.Look.{fold}
 use Rattle.emitted_values.specs.Values.{AreBoth}
@@ -19,27 +21,6 @@ use Rattle.file_lists.proofs.SoughtLemmas.{sought_name, not_sought, is_sought, o
 pub none_in_order : {A : Type 0} (name : A → List ℕ) → AreInOrder name []
 unfolding IsStrictlySortedBy
 none_in_order name = tt
-
--- a number below the next is below, or is the last
-split : (n k : ℕ) → n < k + 1 → (n < k) ⊎ (n ≡ k)
-split zero zero l = inr refl
-split zero (suc k) l = inl (omega arith)
-split (suc n) zero l = absurd (omega (arith, l))
-split (suc n) (suc k) l = by_part (split n k (omega (arith, l)))
-  where
-    by_part : (n < k) ⊎ (n ≡ k) → (suc n < suc k) ⊎ (suc n ≡ suc k)
-    by_part (inl h) = inl (omega (arith, h))
-    by_part (inr h) = inr (ap suc h)
-
--- a number is below another one, or is not
-order : (n k : ℕ) → (n < k) ⊎ (k ≤ n)
-order n zero = inr (omega arith)
-order zero (suc k) = inl (omega arith)
-order (suc n) (suc k) = next (order n k)
-  where
-    next : (n < k) ⊎ (k ≤ n) → (suc n < suc k) ⊎ (suc k ≤ suc n)
-    next (inl l) = inl (omega (arith, l))
-    next (inr l) = inr (omega (arith, l))
 
 module _ {E A B : Type 0} (key : E → List ℕ) (es : List E) (differ : Differ key es) (by : ℕ → Option B)
     (name : A → List ℕ) (R : B → A → Type 0) where
@@ -61,7 +42,7 @@ module _ {E A B : Type 0} (key : E → List ℕ) (es : List E) (differ : Differ 
   skipped : (k : ℕ) (xs : List A) → ((x : List ℕ) → sought key es x ≡ Some k → by k ≡ None) → First k xs
       → First (k + 1) xs
   skipped k xs nothing h = record {
-    there = λ x n e l. by_part x n e (split n k l);
+    there = λ x n e l. by_part x n e (lt_or_is n k l);
     later = λ x n e l. h.later x n e (omega (arith, l));
     none = h.none;
   }
@@ -91,7 +72,7 @@ module _ {E A B : Type 0} (key : E → List ℕ) (es : List E) (differ : Differ 
     -- one part more, that of the next entry
     added : (b : B) (xs ys : List A) → by k ≡ Some b → R b a → HasOneMore a xs ys → First k xs → First (k + 1) ys
     added b xs ys is r more h = record {
-      there = λ x n e l. by_part x n e (split n k l);
+      there = λ x n e l. by_part x n e (lt_or_is n k l);
       later = λ x n e l.
           more.others (λ c. bytes_eq x (fold (name c))) (is_other x n e (λ q. absurd (omega (arith, l, q))))
           ∙ h.later x n e (omega (arith, l));
@@ -160,7 +141,7 @@ module _ {E A B : Type 0} (key : E → List ℕ) (es : List E) (differ : Differ 
     where
       by_place : (o : Option ℕ) → sought key es x ≡ o → AreBoth R (option_and_then by o) (found name x xs)
       by_place None e = subst (AreBoth R None) (sym (h.none x e)) tt
-      by_place (Some n) e = by_part (order n k)
+      by_place (Some n) e = by_part (cases_lt n k)
         where
           by_part : (n < k) ⊎ (k ≤ n) → AreBoth R (by n) (found name x xs)
           by_part (inl l) = h.there x n e l

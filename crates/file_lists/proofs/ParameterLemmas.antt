@@ -4,6 +4,7 @@ use Rattle.std.proofs.Common.{refl}
 use Rattle.std.proofs.Common.{sym, ap, ◌∙◌, subst, arith, ◌<◌, Result, Ok, Err}
 use Rattle.std.specs.Prelude.{is_some, option_and_then, option_map, slice_index_or, if◌then◌else◌, IfOk}
 use Rattle.std.specs.declared.alloc.AllocError.{AllocError}
+use Rattle.std.proofs.lemmas.Option.{slice_get_past}
 use Rattle.foundation.proofs.Options.{if_ok}
 use Rattle.arm_value.specs.View.{json}
 use Rattle.arm_value.specs.declared.value.Value.{Value}
@@ -21,7 +22,6 @@ use Rattle.file_lists.specs.Lists.{AreRules}
 use Rattle.file_lists.specs.Lists.{SymbolsDiffer, IsDefault, default_of}
 use Rattle.file_lists.proofs.FirstLemmas.{all_first}
 use Rattle.file_lists.proofs.PartLemmas.{no_part, part_there}
-use Rattle.file_lists.proofs.VariableLemmas.{past_end}
 
 past_rules : (rs : List (Option Parameter)) (n : ℕ) → length rs ≤ n → slice_index_or rs n None ≡ None
 past_rules [] n l = refl
@@ -77,7 +77,7 @@ module _ (s : Shape) (rs : List (Option Parameter)) (rules : AreRules s rs) wher
 pub past_symbols : (s : Shape) (n : ℕ) → length (file_in s).symbols ≤ n → parameter_at s n ≡ None
 past_symbols s n l =
     ap (λ (o : Option (ℕ × List ℕ × Kind)). if is_parameter (option_map (λ x. x.2) o) then Some n else None)
-    (past_end (file_in s).symbols n l)
+    (slice_get_past (file_in s).symbols n l)
 
 module _ (s : Shape) (n : ℕ) where
   -- a default that is made of its declaration

@@ -3,8 +3,9 @@ use Rattle.std.proofs.Common.{◌≡◌, ◌≤◌, ◌+◌, ℕ, zero, suc, Boo
 use Rattle.std.proofs.Common.{Option, Some, None, Ordering, Less, Equal, Greater, refl, sym, ap, ap₂, ◌∙◌, subst}
 use Rattle.std.proofs.Common.{arith, bytes_eq, length-append}
 use Rattle.std.proofs.lemmas.List.{append-nil, append_assoc, take-append-drop}
-use Rattle.std.specs.Prelude.{slice_get, if◌then◌else◌}
+use Rattle.std.specs.Prelude.{if◌then◌else◌}
 use Rattle.std.specs.Ordering.{match_ordering}
+use Rattle.std.proofs.lemmas.Option.{slice_get_past}
 use Rattle.arm_value.specs.Json.{key_cmp}
 use Rattle.arm_value.specs.Look.{fold}
 use Rattle.template_parts.specs.declared.variable.Variable.{Variable}
@@ -23,11 +24,6 @@ use Rattle.file_lists.specs.Lists.{entry_at, variable_count}
 use Rattle.file_lists.specs.Lists.{IsNextVariable, AreVariables, SymbolsDiffer}
 use Rattle.file_lists.proofs.FirstLemmas.{none_in_order, begin, next_first, next_fresh, all_first}
 use Rattle.file_lists.proofs.SizeLemmas.{none_yet, size_inserted, is_declared, not_more, one_more_at, at_most}
-
-pub past_end : {A : Type 0} (xs : List A) (n : ℕ) → length xs ≤ n → slice_get xs n ≡ None
-past_end [] n l = refl
-past_end (x ∷ xs) zero l = absurd (omega (arith, l))
-past_end (x ∷ xs) (suc n) l = past_end xs n (omega (arith, l))
 
 -- ---- one variable more
 
@@ -194,13 +190,13 @@ module _ (s : Shape) (differ : SymbolsDiffer s) where
     where
       nothing : (n : ℕ) → k ≤ n → entry_at s n ≡ None
       nothing n m =
-          ap (variable_by (file_in s) n) (past_end (file_in s).declared.declarations n (omega (arith, l, m)))
+          ap (variable_by (file_in s) n) (slice_get_past (file_in s).declared.declarations n (omega (arith, l, m)))
 
   pub are_few : (k : ℕ) (ps ls vs : List Variable) → vs ≡ ps ++ ls → SoFar s k ps ls → length vs ≤ variable_count s
   are_few k ps ls vs e h =
       subst (λ xs. length xs ≤ variable_count s) (sym e)
       (at_most (entry_at s) (length (file_in s).declared.declarations)
-      (λ n m. ap (variable_by (file_in s) n) (past_end (file_in s).declared.declarations n m)) k (ps ++ ls) h.size)
+      (λ n m. ap (variable_by (file_in s) n) (slice_get_past (file_in s).declared.declarations n m)) k (ps ++ ls) h.size)
 
   pub are_divided : (k : ℕ) (ps ls vs : List Variable) → vs ≡ ps ++ ls → SoFar s k ps ls → AreDivided vs
   are_divided k ps ls vs e h = record {

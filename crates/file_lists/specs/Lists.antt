@@ -22,7 +22,7 @@ use Rattle.emitted_values.specs.Buildable.{MayBeBuilt, TreeMayBeBuilt}
 use Rattle.emitted_values.specs.Metadata.{metadata_at}
 use Rattle.emitted_values.specs.Seen.{Shape, file_in, files_in}
 use Rattle.emitted_values.specs.Filled.{emission_sight}
-use Rattle.tree_building.specs.Sight.{tree, value}
+use Rattle.emitted_values.specs.Sight.{tree, value}
 use Rattle.file_lists.specs.Found.{Differ, IsPart, sought, declared_before}
 
 -- ---- names

@@ -2,11 +2,11 @@
 ghost use Rattle.std.specs.Prelude.{◌≡◌, ◌≤◌, [], Some, None, IfOk, length, map, option_map, slice_get};
 ghost use Rattle.bicep_resolved.specs.View.{value_of};
 ghost use Rattle.bicep_declared.specs.View.{output_tree};
-ghost use Rattle.declaration_laws.specs.Sound.{IsSound};
+ghost use Rattle.emitted_values.specs.Sound.{IsSound};
 ghost use Rattle.emitted_values.specs.Metadata.{metadata_at};
 ghost use Rattle.emitted_values.specs.Seen.{file_in};
 ghost use Rattle.emitted_values.specs.Filled.{IsFilled, emission_sight};
-ghost use Rattle.tree_building.specs.Sight.{value};
+ghost use Rattle.emitted_values.specs.Sight.{value};
 ghost use Rattle.emitted_values.specs.Buildable.{MayBeBuilt};
 ghost use Rattle.named_parts.specs.Order.{AreInOrder};
 ghost use Rattle.file_lists.specs.Found.{IsPart, IsNext};

@@ -4,7 +4,7 @@ ghost use Rattle.arm_value.specs.View.{json};
 ghost use Rattle.bicep_declared.specs.View.{declared_tree};
 ghost use Rattle.bicep_meaning.specs.Files.{declaration, symbol_kind, symbol_name};
 ghost use Rattle.bicep_meaning.specs.Instances.{is_parameter};
-ghost use Rattle.declaration_laws.specs.Sound.{IsSound};
+ghost use Rattle.emitted_values.specs.Sound.{IsSound};
 ghost use Rattle.emitted_values.specs.Values.{AreBoth};
 ghost use Rattle.emitted_values.specs.Seen.{file_in};
 ghost use Rattle.emitted_values.specs.Filled.{IsFilled};

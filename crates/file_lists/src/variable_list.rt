@@ -3,7 +3,7 @@ ghost use Rattle.std.specs.Prelude.{◌≡◌, ◌≤◌, Some, IfOk, length, ma
 ghost use Rattle.bicep_resolved.specs.View.{value_of};
 ghost use Rattle.bicep_declared.specs.View.{declared_tree};
 ghost use Rattle.bicep_meaning.specs.Files.{declaration, symbol_name};
-ghost use Rattle.declaration_laws.specs.Sound.{IsSound};
+ghost use Rattle.emitted_values.specs.Sound.{IsSound};
 ghost use Rattle.emitted_values.specs.Files.{IsVariable};
 ghost use Rattle.emitted_values.specs.Seen.{file_in, files_in};
 ghost use Rattle.emitted_values.specs.Filled.{IsFilled};

@@ -1,4 +1,5 @@
-mod NameLemmas
+pub mod NameLemmas
+pub mod EachLemmas
 mod MadeLemmas
 mod PartLemmas
 mod ListLemmas

@@ -1,27 +1,28 @@
--- The resources of the template of a file in the first form.
-use Rattle.std.specs.Prelude.{◌≡◌, ◌++◌, ℕ, true, false, List, [], ◌∷◌, Option, Some, None, option_to_list, map}
-use Rattle.std.specs.Prelude.{option_map, slice_index_or, Result, Ok, Err}
-use Rattle.std.specs.declared.alloc.AllocError.{AllocError}
+-- The resources of the template of a file.
+use Rattle.std.specs.Prelude.{◌≡◌, ◌++◌, ℕ, true, false, List, [], ◌∷◌, Option, Some, None, map, option_map}
+use Rattle.std.specs.Prelude.{slice_index_or}
+use Rattle.arm_value.specs.Json.{Json}
 use Rattle.arm_value.specs.declared.value.Value.{Value}
 use Rattle.template_parts.specs.declared.declaration.Declaration.{Declaration}
-use Rattle.template_parts.specs.declared.mode.Form.TheVariants.{One}
+use Rattle.template_parts.specs.declared.mode.Form.{Form}
+use Rattle.template_parts.specs.declared.mode.Form.TheVariants.{One, Two}
 use Rattle.template_tree.specs.Tree.{TemplateTree, ResourceTree, resource, Trees, no_resources}
 use Rattle.template_tree.specs.Tree as template
 use Rattle.template_tree.specs.View.{template_tree}
-use Rattle.template_tree.specs.declared.resource.Resource.{Resource}
 use Rattle.template_tree.specs.declared.resource.Template.{Template}
 use Rattle.deploy_cells.specs.Puts.{Kind}
 use Rattle.bicep_declared.specs.Declarations.{BodyTree, DeclaredTree}
 use Rattle.bicep_declared.specs.Declarations as d
 use Rattle.bicep_meaning.specs.Files.{declaration}
 use Rattle.bicep_meaning.specs.Instances.{resource_kind, module_kind}
-use Rattle.source_needs.specs.Dependencies.{dependencies}
-use Rattle.source_worlds.specs.Numbers.{is_put, name_of}
+use Rattle.emitted_dependencies.specs.Dependencies.{dependencies}
+use Rattle.source_worlds.specs.Numbers.{name_of}
 use Rattle.emitted_modules.specs.Seen.{Shape, file_in, files_in, whole_in}
 use Rattle.emitted_modules.specs.Limits.{members_at}
 use Rattle.emitted_modules.specs.Metadata.{metadata_at}
 use Rattle.emitted_modules.specs.Resources.{IsHead, HasMembers}
 use Rattle.emitted_modules.specs.Modules.{Needed, IsDeployment}
+use Rattle.existing_resources.specs.Existing.{IsExistingHead}
 use Rattle.emitted_dependencies.specs.Elements.{elements}
 
 -- the templates of the modules of a file, by the numbers of their symbols
@@ -44,11 +45,6 @@ body_in (resource x b rs) = b
 abbrev pub children : ResourceTree → Trees
 children (resource x b rs) = rs
 
--- the same resource, which is there, or no memory
-abbrev pub IsThere : Result Resource AllocError → Result (Option Resource) AllocError → Type 0
-IsThere (Ok r) x = x ≡ Ok (Some r)
-IsThere (Err e) x = x ≡ Err e
-
 -- one resource for each of these numbers, in their order
 abbrev pub AreEach : (ℕ → ResourceTree → Type 0) → List ℕ → List ResourceTree → Type 0
 AreEach R [] [] = Unit {0}
@@ -63,20 +59,23 @@ HasMetadata ms n r = (declared_by r).metadata ≡ metadata_at ms n
 abbrev pub HaveMetadata : List (Option Value) → List ℕ → List ResourceTree → Type 0
 HaveMetadata ms ns rs = AreEach (HasMetadata ms) ns rs
 
--- the same of a resource that may be there
-abbrev pub MayHaveMetadata : List (Option Value) → ℕ → Option ResourceTree → Type 0
-MayHaveMetadata ms n None = Unit {0}
-MayHaveMetadata ms n (Some r) = HasMetadata ms n r
+-- in the second form a resource has the name of its symbol
+abbrev pub symbol_in : Form → List ℕ → Option (List ℕ)
+symbol_in One x = None
+symbol_in Two x = Some x
 
-module _ (s : Shape) where
-  -- in the first form a resource has no symbolic name
-  abbrev pub needs_of : ℕ → Option Value → Needed
-  needs_of n m = record {
-    symbol = None;
-    depends_on = elements (files_in s) (file_in s) One (dependencies (file_in s) n);
+module _ (z : Form) (s : Shape) where
+  -- what the declaration of a resource does not say, by its metadata and by the elements of `dependsOn`
+  abbrev pub needs_with : ℕ → Option Value → List Json → Needed
+  needs_with n m js = record {
+    symbol = symbol_in z (name_of (file_in s) n);
+    depends_on = js;
     batches = (file_in s).batches n;
     metadata = m;
   }
+
+  abbrev pub needs_of : ℕ → Option Value → Needed
+  needs_of n m = needs_with n m (elements (files_in s) (file_in s) z (dependencies (file_in s) n))
 
   -- what declares the resource or the module of a number, with any metadata
   abbrev pub IsDeclaredBy : ℕ → BodyTree → Kind → Declaration → Type 0
@@ -86,6 +85,12 @@ module _ (s : Shape) where
   pub record IsResourceOf (n : ℕ) (b : BodyTree) (r : ResourceTree) : Type 0 where
     pub head : IsDeclaredBy n b (resource_kind (file_in s) n) (declared_by r)
     pub body : HasMembers (members_at s n b) (body_in r)
+    pub childless : children r ≡ no_resources
+
+  -- the existing resource of a number: it has no body, and depends on nothing
+  pub record IsExistingOf (n : ℕ) (b : BodyTree) (r : ResourceTree) : Type 0 where
+    pub head : IsExistingHead s n b (name_of (file_in s) n) (needs_with n (declared_by r).metadata []) (declared_by r)
+    pub body : body_in r ≡ template.body_members []
     pub childless : children r ≡ no_resources
 
   -- the module of a number that has this body, with the template of its file
@@ -100,7 +105,8 @@ module _ (s : Shape) where
 
   -- the resource of a number, by its declaration and by the template of its module
   abbrev pub IsBuiltFor : ℕ → Option TemplateTree → Option DeclaredTree → ResourceTree → Type 0
-  IsBuiltFor n o (Some (d.a_resource at q existing b)) r = IsResourceOf n b r
+  IsBuiltFor n o (Some (d.a_resource at q false b)) r = IsResourceOf n b r
+  IsBuiltFor n o (Some (d.a_resource at q true b)) r = IsExistingOf n b r
   IsBuiltFor n o (Some (d.a_module at b)) r = IsModuleWith n b o r
   IsBuiltFor n o e r = ⊥
 
@@ -111,12 +117,6 @@ module _ (s : Shape) where
   abbrev pub AreBuilt : Templates → List ℕ → List ResourceTree → Type 0
   AreBuilt us ns rs = AreEach (λ n r. IsBuilt n (template_of us n) r) ns rs
 
-  -- what a declaration becomes: a resource where it is that of a resource that is put, or of a module, else nothing
-  abbrev pub IsPart : ℕ → Option TemplateTree → Option ResourceTree → Type 0
-  IsPart n o None = is_put (file_in s) n ≡ false
-  IsPart n o (Some r) = (is_put (file_in s) n ≡ true) × IsBuilt n o r
-
-  -- these resources, and then what the declaration of a number becomes, with its metadata
+  -- these resources, and then that of a number, with its metadata
   abbrev pub IsGrown : List (Option Value) → ℕ → Option TemplateTree → List ResourceTree → List ResourceTree → Type 0
-  IsGrown ms n o rs more =
-      (x : Option ResourceTree) × (IsPart n o x × (MayHaveMetadata ms n x × (more ≡ rs ++ option_to_list x)))
+  IsGrown ms n o rs more = (r : ResourceTree) × ((IsBuilt n o r × HasMetadata ms n r) × (more ≡ rs ++ r ∷ []))

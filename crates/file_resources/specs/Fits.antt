@@ -6,9 +6,9 @@ use Rattle.bicep_declared.specs.Declarations.{BodyTree, DeclaredTree}
 use Rattle.bicep_declared.specs.Declarations as d
 use Rattle.bicep_dependencies.specs.Dependencies.{AreDependencies}
 use Rattle.bicep_meaning.specs.Files.{declaration}
-use Rattle.declaration_laws.specs.Sound.{IsSound}
+use Rattle.emitted_modules.specs.Sound.{IsSound}
 use Rattle.ordered_emissions.specs.Orders.{IsPaired}
-use Rattle.source_needs.specs.Dependencies.{kinds_of}
+use Rattle.emitted_dependencies.specs.Dependencies.{kinds_of}
 use Rattle.emitted_modules.specs.Files.{frames_around}
 use Rattle.emitted_modules.specs.Seen.{Shape, file_in, whole_in}
 use Rattle.emitted_modules.specs.Filled.{IsFilled, emission_sight}
@@ -38,6 +38,12 @@ FitsBy s n (Some (d.a_resource at q false b)) = MembersFit (members_at s n b)
 FitsBy s n (Some (d.a_resource at q true b)) = Unit {0}
 FitsBy s n (Some (d.a_module at b)) = ArgumentsFitAt s n b
 FitsBy s n o = Unit {0}
+
+-- whether a declaration is that of a resource or of a module
+abbrev pub IsResourceBy : Option DeclaredTree → Type 0
+IsResourceBy (Some (d.a_resource at q existing b)) = Unit {0}
+IsResourceBy (Some (d.a_module at b)) = Unit {0}
+IsResourceBy o = ⊥
 
 -- a module has a template
 abbrev pub HasTemplate : Option DeclaredTree → Bool → Type 0

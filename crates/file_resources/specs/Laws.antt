@@ -1,6 +1,6 @@
 -- What holds of the resources of a template that are built.
 use Rattle.std.specs.Prelude.{◌≡◌, ℕ, List, Some, map, option_and_then}
-use Rattle.template_parts.specs.declared.mode.Form.TheVariants.{One}
+use Rattle.template_parts.specs.declared.mode.Form.{Form}
 use Rattle.template_tree.specs.Tree.{Header, template, ResourceTree, trees}
 use Rattle.plan_cells.specs.Resources.{Listed, resource_at, nested_numbers}
 use Rattle.bicep_meaning.specs.Instances.{Put, put_of}
@@ -14,35 +14,35 @@ use Rattle.file_resources.specs.Modules.{modules_in}
 use Rattle.file_resources.specs.Within.{IsWithin}
 
 -- a template with the resources that are built for a file
-abbrev pub HasBuilt : Shape → Templates → List ResourceTree → Type 0
-HasBuilt s us rs = AreBuilt s us (in_template One (file_in s)) rs
+abbrev pub HasBuilt : Form → Shape → Templates → List ResourceTree → Type 0
+HasBuilt z s us rs = AreBuilt z s us (in_template z (file_in s)) rs
 
 -- a template with these resources has for each number the resource of its symbol
-abbrev pub AreOfSymbols : Shape → (Put → Listed → Type 0) → Header → List ResourceTree → Type 0
-AreOfSymbols s R h rs =
-    (m : ℕ) → AreBoth R (option_and_then (λ n. put_of n (file_in s)) (symbol_of One (file_in s) m))
+abbrev pub AreOfSymbols : Form → Shape → (Put → Listed → Type 0) → Header → List ResourceTree → Type 0
+AreOfSymbols z s R h rs =
+    (m : ℕ) → AreBoth R (option_and_then (λ n. put_of n (file_in s)) (symbol_of z (file_in s) m))
     (resource_at (template h (trees rs)) m)
 
 abbrev pub BuiltResourcesAreEmitted : Type 0
 BuiltResourcesAreEmitted =
-    (s : Shape) (us : Templates) (h : Header) (rs : List ResourceTree) → HasBuilt s us rs → IsPaired (file_in s)
-    → ((n : ℕ) → IsWithin s n) → AreOfSymbols s (IsResource (files_in s) (file_in s)) h rs
+    (z : Form) (s : Shape) (us : Templates) (h : Header) (rs : List ResourceTree) → HasBuilt z s us rs
+    → IsPaired (file_in s) → ((n : ℕ) → IsWithin z s n) → AreOfSymbols z s (IsResource (files_in s) (file_in s)) h rs
 
 -- which depends on what the symbol depends on
 abbrev pub BuiltResourcesDepend : Type 0
 BuiltResourcesDepend =
-    (s : Shape) (us : Templates) (h : Header) (rs : List ResourceTree) → HasBuilt s us rs → IsPaired (file_in s)
-    → ((n : ℕ) → IsWithin s n) → AreOfSymbols s (IsDependent (files_in s) (file_in s) One) h rs
+    (z : Form) (s : Shape) (us : Templates) (h : Header) (rs : List ResourceTree) → HasBuilt z s us rs
+    → IsPaired (file_in s) → ((n : ℕ) → IsWithin z s n) → AreOfSymbols z s (IsDependent (files_in s) (file_in s) z) h rs
 
--- it has no existing resources
+-- in the first form it has no existing resources
 abbrev pub NoneIsExisting : Type 0
 NoneIsExisting =
-    (s : Shape) (us : Templates) (h : Header) (rs : List ResourceTree) → HasBuilt s us rs
-    → NoneExist (files_in s) (file_in s) One (template h (trees rs))
+    (z : Form) (s : Shape) (us : Templates) (h : Header) (rs : List ResourceTree) → HasBuilt z s us rs
+    → NoneExist (files_in s) (file_in s) z (template h (trees rs))
 
 -- the modules of the file are its nested deployments, in their order
 abbrev pub ModulesAreNested : Type 0
 ModulesAreNested =
-    (s : Shape) (us : Templates) (h : Header) (rs : List ResourceTree) → HasBuilt s us rs
-    → map (number_of One (file_in s)) (modules_in (file_in s))
+    (z : Form) (s : Shape) (us : Templates) (h : Header) (rs : List ResourceTree) → HasBuilt z s us rs
+    → map (number_of z (file_in s)) (modules_in z (file_in s))
     ≡ map (λ m. Some m) (nested_numbers (template h (trees rs)))

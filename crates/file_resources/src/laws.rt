@@ -3,7 +3,7 @@ ghost use Rattle.file_resources.specs.Laws.{BuiltResourcesAreEmitted, BuiltResou
 ghost use Rattle.file_resources.specs.Laws.{ModulesAreNested};
 
 /// A template with the resources that are built has for each number the resource of its symbol, which depends on what
-/// the symbol depends on, and has no existing resources.
+/// the symbol depends on; in the first form it has no existing resources.
 pub fn built_resources_are_of_the_file()
     ensures resources { BuiltResourcesAreEmitted }
     ensures dependents { BuiltResourcesDepend }

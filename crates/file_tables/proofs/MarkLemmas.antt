@@ -1,10 +1,11 @@
 -- Lists of marks, by the numbers of symbols.
 use Rattle.std.proofs.Common.{◌≡◌, ◌≤◌, ◌+◌, ℕ, zero, suc, Bool, false, List, [], ◌∷◌, ◌++◌, length, map}
-use Rattle.std.proofs.Common.{None, Ok, Err, refl, sym, ap, ◌∙◌, arith}
-use Rattle.std.specs.Prelude.{◌&&◌, not, slice_get, slice_index_or, Result, IfOk}
+use Rattle.std.proofs.Common.{Ok, Err, refl, sym, ap, ◌∙◌, arith}
+use Rattle.std.specs.Prelude.{◌&&◌, not, slice_index_or, Result, IfOk}
 use Rattle.std.specs.declared.alloc.AllocError.{AllocError}
 use Rattle.std.specs.declared.alloc.Global.{Global}
 use Rattle.std.specs.declared.vec.Vec.{Vec}
+use Rattle.std.proofs.lemmas.Option.{slice_get_past}
 use Rattle.template_parts.specs.declared.looping.Batches.{Batches}
 use Rattle.template_parts.specs.declared.looping.Batches.TheVariants.{Parallel}
 use Rattle.bicep_names.specs.declared.kind.Kind.{Kind}
@@ -33,11 +34,6 @@ one_more p k (c ∷ bs) b h e =
     let same : suc (length bs) + k ≡ length bs + suc k = omega arith in
     (h.0, one_more p (suc k) bs b h.1 (e ∙ ap p same))
 
-past : {A : Type 0} (xs : List A) (n : ℕ) → length xs ≤ n → slice_get xs n ≡ None
-past [] n le = refl
-past (x ∷ xs) zero le = absurd (omega (arith, le))
-past (x ∷ xs) (suc n) le = past xs n (omega (arith, le))
-
 past_end : {A : Type 0} (d : A) (xs : List A) (n : ℕ) → length xs ≤ n → slice_index_or xs n d ≡ d
 past_end d [] n le = refl
 past_end d (x ∷ xs) zero le = absurd (omega (arith, le))
@@ -54,7 +50,7 @@ read none p k (b ∷ bs) h f (suc n) =
 
 -- no number beyond the declarations is marked
 none_there : (kinds : List Kind) (ds : List DeclaredTree) (n : ℕ) → length ds ≤ n → has_entry kinds ds n ≡ false
-none_there kinds ds n le = ap (λ x. is_variable x && not ((state_reads kinds ds).own n)) (past ds n le)
+none_there kinds ds n le = ap (λ x. is_variable x && not ((state_reads kinds ds).own n)) (slice_get_past ds n le)
 
 -- where each declaration has its mark, all numbers have theirs
 pub all_marked : (kinds : List Kind) (ds : List DeclaredTree) (bs : List Bool) → AreMarks (has_entry kinds ds) 0 bs

@@ -6,7 +6,7 @@ use Rattle.resolved_program.specs.declared.resolved.ResolvedFile.{ResolvedFile}
 use Rattle.symbol_decorators.specs.Limits.{IsFault}
 use Rattle.symbol_decorators.specs.declared.fault.BatchFault.{BatchFault}
 use Rattle.symbol_decorators.specs.declared.fault.BatchFault.TheVariants as batch
-use Rattle.emitted_templates.specs.Seen.{Shape}
+use Rattle.source_templates.specs.Seen.{Shape}
 use Rattle.file_templates.specs.Faults.{IsMemoryFault, IsFaultOf, IsBatchFault, IsCountOrMemory, IsFileFault}
 use Rattle.file_templates.specs.Texts.{IsTabled}
 use Rattle.file_templates.specs.declared.fault.EmitFault.{EmitFault}

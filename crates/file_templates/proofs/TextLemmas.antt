@@ -7,6 +7,7 @@ use Rattle.std.specs.declared.alloc.Global.{Global}
 use Rattle.std.specs.declared.vec.Vec.{Vec}
 use Rattle.template_parts.specs.declared.looping.Batches.{Batches}
 use Rattle.template_parts.specs.declared.looping.Batches.TheVariants.{Parallel, Serial}
+use Rattle.template_parts.specs.declared.mode.Form.{Form}
 use Rattle.template_parts.specs.declared.parameter.Parameter.{Parameter}
 use Rattle.depend_graph.specs.Sets.{keys_of_each}
 use Rattle.bicep_tree.specs.Tree.{FileTree}
@@ -27,33 +28,34 @@ use Rattle.bicep_meaning.specs.Files.{SourceFile}
 use Rattle.symbol_decorators.specs.Batches.{batches_of}
 use Rattle.symbol_decorators.specs.Limits.{IsSmall}
 use Rattle.parameter_rules.specs.Files.{IsParameterAt}
-use Rattle.emitted_templates.specs.Seen.{Shape, file_of, file_in, files_of}
-use Rattle.emitted_templates.specs.Lists.{AreRules, rule_at}
-use Rattle.emitted_templates.specs.Fits.{IsReady, AreMentioned}
+use Rattle.source_templates.specs.Seen.{Shape, file_of, file_in, files_of}
+use Rattle.source_templates.specs.Lists.{AreRules, rule_at}
+use Rattle.source_templates.specs.Fits.{IsReady, AreMentioned}
 use Rattle.foundation.proofs.Comparisons.{le_true}
 use Rattle.template_tree.specs.declared.resource.Template.{Template}
 use Rattle.template_written.specs.Keeps.{KeepsBatches}
-use Rattle.placed_files.specs.Laws.{CheckedFilesArePlaced}
+use Rattle.kept_templates.specs.Laws.{CheckedFilesArePlaced}
 use Rattle.kept_templates.specs.Kept.{AreBatchesSmall}
 use Rattle.measured_trees.specs.Limits.{IsBeyond}
 use Rattle.file_metadata.specs.Files.{IsMetadataOf}
 use Rattle.file_metadata.specs.declared.files.FileMetadata.{FileMetadata}
-use Rattle.file_counts.specs.Counts.{first_beyond}
-use Rattle.file_limits.specs.Laws.{FilesWithinLimitsFit}
-use Rattle.file_limits.specs.Limited.{AllIsPrintable}
+use Rattle.counted_templates.specs.Counts.{first_beyond}
+use Rattle.source_templates.specs.Laws.{FilesWithinLimitsFit}
+use Rattle.source_templates.specs.Limited.{AllIsPrintable}
 use Rattle.file_tables.specs.Orders as tables
 use Rattle.file_tables.specs.Tables.{IsTableOf, IsOfProgram}
 use Rattle.file_tables.specs.declared.order.FileOrder.{FileOrder}
-use Rattle.program_templates.specs.Laws.{CheckedFilesHaveKinds, CheckedNamesDiffer}
+use Rattle.source_templates.specs.Laws.{CheckedFilesHaveKinds, CheckedNamesDiffer}
 use Rattle.source_templates.specs.Texts.{IsOfText}
 use Rattle.file_templates.specs.Made.{CanBeFilled, IsKeptBy, KeepsRules}
 use Rattle.file_templates.specs.Parts.{AreCountedParts, AreMentionedParts, AreMentionsOf, AreParts, ArePartsFor}
-use Rattle.file_templates.specs.Parts.{ArePartsOf, AreRuledParts, AreRulesOf, AreWithTable, IsMeasureOf, extremes_of, unmeasured}
+use Rattle.file_templates.specs.Parts.{ArePartsOf, AreRuledParts, AreRulesOf, AreWithTable, IsMeasureOf}
+use Rattle.file_templates.specs.Parts.{extremes_of, unmeasured}
 use Rattle.file_templates.specs.Texts.{text_of, HasLoops, IsTabled, IsTabledIn, IsOfFile}
 use Rattle.file_templates.specs.declared.fault.EmitFault.{EmitFault}
 use Rattle.file_templates.specs.declared.file.FileParts.{FileParts}
 use Rattle.file_templates.specs.declared.file.Parts.{Parts}
-use Rattle.emitted_templates.specs.Built.{Templates}
+use Rattle.source_templates.specs.Built.{Templates}
 
 -- ---- loops
 
@@ -182,27 +184,28 @@ all_printable s h =
 
 -- ---- parts
 
-pub with_mentions : (s : Shape) (rules : List (Option Parameter)) (x : FileMetadata) (sets : List (BTreeSet ℕ))
-    → AreMentioned s sets → (res : Result Parts EmitFault) → IfOk res (AreParts s rules x sets)
-    → IfOk res (AreMentionedParts s rules x)
-with_mentions s rules x sets m (Ok p) h = (sets, (m, h))
-with_mentions s rules x sets m (Err e) h = tt
+pub with_mentions : (z : Form) (s : Shape) (rules : List (Option Parameter)) (x : FileMetadata)
+    (sets : List (BTreeSet ℕ)) → AreMentioned s sets → (res : Result Parts EmitFault)
+    → IfOk res (AreParts z s rules x sets) → IfOk res (AreMentionedParts z s rules x)
+with_mentions z s rules x sets m (Ok p) h = (sets, (m, h))
+with_mentions z s rules x sets m (Err e) h = tt
 
-pub with_metadata : (t : FileTree) (s : Shape) (rules : List (Option Parameter)) (x : FileMetadata)
-    → IsMetadataOf t x → (res : Result Parts EmitFault) → IfOk res (AreMentionedParts s rules x)
-    → IfOk res (AreRuledParts t s rules)
-with_metadata t s rules x m (Ok p) h = (x, (m, h))
-with_metadata t s rules x m (Err e) h = tt
+pub with_metadata : (z : Form) (t : FileTree) (s : Shape) (rules : List (Option Parameter)) (x : FileMetadata)
+    → IsMetadataOf t x → (res : Result Parts EmitFault) → IfOk res (AreMentionedParts z s rules x)
+    → IfOk res (AreRuledParts z t s rules)
+with_metadata z t s rules x m (Ok p) h = (x, (m, h))
+with_metadata z t s rules x m (Err e) h = tt
 
 pub metadata_are : (x : Text) (ss : List Statement) → ss ≡ x.file.items → (res : Result FileMetadata AllocError)
     → IfOk res (IsMetadataOf (view.file_of ss)) → IfOk res (IsMetadataOf (text_of x))
 metadata_are x ss e (Ok m) h = subst (λ (l : List Statement). IsMetadataOf (view.file_of l) m) e h
 metadata_are x ss e (Err y) h = tt
 
-pub all_parts : (t : FileTree) (s : Shape) (rules : List (Option Parameter))
+pub all_parts : (z : Form) (t : FileTree) (s : Shape) (rules : List (Option Parameter))
     → ((n : ℕ) → IsParameterAt t (file_in s) n (rule_at s rules n)) → AreRules s rules
-    → (res : Result Parts EmitFault) → IfOk res (AreRuledParts t s rules) → IfOk res (ArePartsOf t s)
-all_parts t s rules are there (Ok p) h =
+    → (res : Result Parts EmitFault) → IfOk res (AreRuledParts z t s rules)
+    → IfOk res (ArePartsOf z t s)
+all_parts z t s rules are there (Ok p) h =
     let x = h.1.1.1.1 in
     record {
       rules =
@@ -211,26 +214,32 @@ all_parts t s rules are there (Ok p) h =
       there = subst (λ (l : List (Option Parameter)). AreRules s l) (sym x.rules_are) there;
       metadata = subst (λ (m : FileMetadata). IsMetadataOf t m) (sym x.metadata_is) h.1.0;
       mentioned = subst (λ (l : List (BTreeSet ℕ)). AreMentioned s l) (sym x.mentioned_are) h.1.1.1.0;
-      measure = subst (λ (l : List (Option Parameter)). IsMeasureOf s l p.measure) (sym x.rules_are) x.measure;
+      measure =
+          subst (λ (m : FileMetadata). IsMeasureOf z s p.rules.items m p.measure) (sym x.metadata_is)
+          (subst (λ (l : List (Option Parameter)). IsMeasureOf z s l h.0 p.measure) (sym x.rules_are) x.measure);
     }
-all_parts t s rules are there (Err x) h = tt
+all_parts z t s rules are there (Err x) h = tt
 
-pub counted : (t : FileTree) (s : Shape) → first_beyond (file_in s) ≡ None → (res : Result Parts EmitFault)
-    → IfOk res (ArePartsOf t s) → IfOk res (AreCountedParts t s)
-counted t s e (Ok p) h = (h, e)
-counted t s e (Err x) h = tt
+pub counted : (z : Form) (t : FileTree) (s : Shape) → first_beyond (file_in s) ≡ None → (res : Result Parts EmitFault)
+    → IfOk res (ArePartsOf z t s) → IfOk res (AreCountedParts z t s)
+counted z t s e (Ok p) h = (h, e)
+counted z t s e (Err x) h = tt
 
-pub with_table : (t : FileTree) (r : ResolvedFile) (rs : List ResolvedFile) (s : Shape) → IsTabled t r rs s
-    → (res : Result FileParts EmitFault) → IfOk res (AreWithTable t s) → IfOk res (ArePartsFor t r rs)
-with_table t r rs s h (Ok x) w = record {
-  table = subst (λ (z : Shape). IsTabled t r rs z) (sym w.table) h;
-  parts = subst (λ (z : Shape). AreCountedParts t z x.parts) (sym w.table) w.parts;
+pub with_table : (z : Form) (t : FileTree) (r : ResolvedFile) (rs : List ResolvedFile) (s : Shape) → IsTabled t r rs s
+    → (res : Result FileParts EmitFault) → IfOk res (AreWithTable z t s) → IfOk res (ArePartsFor z t r rs)
+with_table z t r rs s h (Ok x) w = record {
+  form = w.form;
+  table = subst (λ (y : Shape). IsTabled t r rs y) (sym w.table) h;
+  parts =
+      subst (λ (f : Form). AreCountedParts f t x.table x.parts) (sym w.form)
+      (subst (λ (y : Shape). AreCountedParts z t y x.parts) (sym w.table) w.parts);
 }
-with_table t r rs s h (Err e) w = tt
+with_table z t r rs s h (Err e) w = tt
 
 -- ---- templates of parts
 
-module _ (t : FileTree) (r : ResolvedFile) (rs : List ResolvedFile) (x : FileParts) (h : ArePartsFor t r rs x) where
+module _ (z : Form) (t : FileTree) (r : ResolvedFile) (rs : List ResolvedFile) (x : FileParts)
+    (h : ArePartsFor z t r rs x) where
   pub of_parts : (rules : List (Option Parameter)) → rules ≡ x.parts.rules.items → IsOfText t r x.table rules
   of_parts rules e =
       of_text r x.table t (rs, h.table) rules
@@ -238,13 +247,14 @@ module _ (t : FileTree) (r : ResolvedFile) (rs : List ResolvedFile) (x : FilePar
       (h.parts.0.rules n))
 
 -- what is beyond no limit can be filled with templates of modules
-pub can_be_filled : FilesWithinLimitsFit → (t : FileTree) (r : ResolvedFile) (rs : List ResolvedFile) (x : FileParts)
-    → ArePartsFor t r rs x → IsBeyond 0 (extremes_of x) None → CanBeFilled x
-can_be_filled fit t r rs x h k =
+pub can_be_filled : FilesWithinLimitsFit → (z : Form) (t : FileTree) (r : ResolvedFile) (rs : List ResolvedFile)
+    (x : FileParts) → ArePartsFor z t r rs x → IsBeyond 0 (extremes_of x) None → CanBeFilled x
+can_be_filled fit z t r rs x h k =
     let s = x.table in
     let rules = x.parts.rules.items in
     let file = of_file r s t (rs, h.table) in
-    let a = fit s rules unmeasured 0 (all_printable s file) k in
+    let notes = x.parts.metadata in
+    let a = fit x.form s rules notes.symbols.items notes.outputs.items unmeasured 0 (all_printable s file) k in
     record {
       ready = is_ready s file;
       kinds = h.table.kinds;

@@ -7,8 +7,8 @@ use Rattle.resolved_program.specs.declared.resolved.ResolvedFile.{ResolvedFile}
 use Rattle.symbol_decorators.specs.Limits.{IsFault}
 use Rattle.symbol_decorators.specs.declared.fault.BatchFault.{BatchFault}
 use Rattle.symbol_decorators.specs.declared.fault.BatchFault.TheVariants as batch
-use Rattle.emitted_templates.specs.Seen.{Shape, file_in}
-use Rattle.file_counts.specs.Counts.{first_beyond}
+use Rattle.source_templates.specs.Seen.{Shape, file_in}
+use Rattle.counted_templates.specs.Counts.{first_beyond}
 use Rattle.file_templates.specs.Texts.{IsTabled}
 use Rattle.file_templates.specs.declared.fault.EmitFault.{EmitFault}
 use Rattle.file_templates.specs.declared.fault.EmitFault.TheVariants as fault

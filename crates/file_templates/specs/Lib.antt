@@ -1,4 +1,5 @@
 pub mod Clauses
+pub mod Details
 pub mod Faults
 pub mod Laws
 pub mod Made
@@ -7,3 +8,11 @@ pub mod Texts
 pub use Rattle.file_tables.specs.Orders
 pub use Rattle.file_tables.specs.Tables
 pub use Rattle.file_tables.specs.declared.order.FileOrder
+pub use Rattle.source_templates.specs.Built
+pub use Rattle.source_templates.specs.Files
+pub use Rattle.source_templates.specs.Fits
+pub use Rattle.source_templates.specs.Kinds
+pub use Rattle.source_templates.specs.Modules
+pub use Rattle.source_templates.specs.Seen
+pub use Rattle.source_templates.specs.Sources
+pub use Rattle.source_templates.specs.Whole

@@ -6,15 +6,15 @@ use Rattle.bicep_program.specs.declared.file.SourceFile.{SourceFile as Text}
 use Rattle.resolved_program.specs.declared.resolved.ResolvedFile.{ResolvedFile}
 use Rattle.resolved_program.specs.View.{file_view}
 use Rattle.bicep_meaning.specs.Files.{SourceFile}
-use Rattle.sound_files.specs.Files.{IsFileOf}
+use Rattle.file_tables.specs.Files.{IsFileOf}
 use Rattle.symbol_decorators.specs.Batches.{HasBatches, batches_of}
 use Rattle.symbol_decorators.specs.Limits.{IsSmall}
-use Rattle.emitted_templates.specs.Seen.{Shape, file_of, file_in, files_of}
-use Rattle.declared_table.specs.declared.mark.Mark.{Mark}
+use Rattle.source_templates.specs.Seen.{Shape, file_of, file_in, files_of}
+use Rattle.counted_templates.specs.Mark.{Mark}
 use Rattle.file_tables.specs.Tables.{IsTableOf}
 use Rattle.file_tables.specs.declared.order.FileOrder.{FileOrder}
-use Rattle.placed_files.specs.Placed.{IsPlaced}
-use Rattle.program_templates.specs.Kinds.{HasKinds, NamesDiffer}
+use Rattle.kept_templates.specs.Placed.{IsPlaced}
+use Rattle.source_templates.specs.Kinds.{HasKinds, NamesDiffer}
 
 -- the tree of a text
 abbrev pub text_of : Text → FileTree

@@ -5,28 +5,27 @@ use crate::fault::{EmitFault, refuse};
 use arm_value::OutOfMemory;
 use bicep_dependencies::dependencies;
 use bicep_program::SourceFile;
-use emitted_templates::laws::templates_have_the_parts_of_the_file;
-use emitted_templates::{Measure, Table, template};
-use file_counts::first_beyond;
-use file_limits::measured_file;
+use counted_templates::first_beyond;
+use counted_templates::laws::templates_have_few_parts;
 use file_metadata::{FileMetadata, metadata_of_file};
 use file_tables::{FileOrder, file_order, file_table};
+use kept_templates::checked_files_are_placed;
 use kept_templates::laws::templates_keep_the_rules;
 use parameter_rules::parameters;
-use placed_files::laws::checked_files_are_placed;
-use program_templates::laws::{
-    checked_files_have_kinds, checked_names_differ, nested_templates_are_given,
-    parameters_are_there,
-};
 use resolved_program::ResolvedFile;
 use source_templates::laws::{
     symbols_have_the_same_numbers, templates_are_of_their_texts,
-    templates_have_the_metadata_of_texts,
+    templates_have_the_existing_resources_of_texts, templates_have_the_metadata_of_texts,
+};
+use source_templates::{
+    Measure, Table, checked_files_have_kinds, checked_names_differ, measured_file,
+    nested_templates_are_given, parameters_are_there, template,
+    templates_have_the_parts_of_the_file,
 };
 use std::alloc::Global;
 use std::collections::BTreeSet;
 use symbol_decorators::{BatchFault, batches};
-use template_parts::{Batches, Parameter, Which};
+use template_parts::{Batches, Form, Parameter, Which};
 use template_tree::Template;
 
 // The fault of a file whose loops have no batches.
@@ -95,6 +94,8 @@ pub struct Parts {
 /// What the template of a file is made of, beside the templates of its modules.
 #[derive(Drop)]
 pub struct FileParts<'a> {
+    /// The form of the template.
+    pub form: Form,
     /// What the declarations of the file become.
     pub table: Table<'a>,
     /// The other parts.
@@ -147,30 +148,49 @@ fn metadata_of(alloc: Global, source: &SourceFile) -> Result<FileMetadata, OutOf
 fn measure_of(
     alloc: Global,
     table: &Table,
+    form: Form,
     rules: &[Option<Parameter>],
+    metadata: &FileMetadata,
     mentioned: &[BTreeSet<usize>],
 ) -> Result<Measure, OutOfMemory>
     requires table { spec.IsOfFile table.now }
     requires mentioned { spec.AreMentioned table.now mentioned.now }
-    ensures { spec.IfOk result (spec.IsMeasureOf table.now rules.now) }
+    ensures { spec.IfOk result (spec.IsMeasureOf form table.now rules.now metadata.now) }
 {
-    measured_file(alloc, table, rules, mentioned, &[])
+    measured_file(
+        alloc,
+        table,
+        form,
+        rules,
+        metadata.symbols.as_slice(),
+        metadata.outputs.as_slice(),
+        mentioned,
+        &[],
+    )
 }
 
 // These parts, with what the template takes of the limits.
 fn measured_parts(
     alloc: Global,
     table: &Table,
+    form: Form,
     rules: Vec<Option<Parameter>>,
     metadata: FileMetadata,
     mentioned: Vec<BTreeSet<usize>>,
 ) -> Result<Parts, EmitFault>
     requires table { spec.IsOfFile table.now }
     requires mentioned { spec.AreMentioned table.now mentioned.items }
-    ensures parts { spec.IfOk result (spec.AreParts table.now rules.items metadata mentioned.items) }
+    ensures parts { spec.IfOk result (spec.AreParts form table.now rules.items metadata mentioned.items) }
     ensures fault { spec.IfErr result spec.IsMemoryFault }
 {
-    match measure_of(alloc, table, rules.as_slice(), mentioned.as_slice()) {
+    match measure_of(
+        alloc,
+        table,
+        form,
+        rules.as_slice(),
+        &metadata,
+        mentioned.as_slice(),
+    ) {
         Ok(measure) => Ok(Parts {
             rules,
             metadata,
@@ -184,6 +204,7 @@ fn measured_parts(
 // The same with what the declarations of the file mention.
 fn mentioned_parts(
     alloc: Global,
+    form: Form,
     file: &ResolvedFile,
     order: &[u32],
     table: &Table,
@@ -192,11 +213,11 @@ fn mentioned_parts(
 ) -> Result<Parts, EmitFault>
     requires order { spec.HasOrder file.now order.now }
     requires table { spec.IsTabledBySome file.now table.now }
-    ensures parts { spec.IfOk result (spec.AreMentionedParts table.now rules.items metadata) }
+    ensures parts { spec.IfOk result (spec.AreMentionedParts form table.now rules.items metadata) }
     ensures fault { spec.IfErr result spec.IsMemoryFault }
 {
     match mentions_of(alloc, file, order) {
-        Ok(mentioned) => measured_parts(alloc, table, rules, metadata, mentioned),
+        Ok(mentioned) => measured_parts(alloc, table, form, rules, metadata, mentioned),
         Err(_) => refuse(EmitFault::OutOfMemory, (rules, metadata)),
     }
 }
@@ -204,6 +225,7 @@ fn mentioned_parts(
 // The same with the metadata of the file.
 fn ruled_parts(
     alloc: Global,
+    form: Form,
     source: &SourceFile,
     file: &ResolvedFile,
     order: &[u32],
@@ -213,11 +235,11 @@ fn ruled_parts(
     requires text { spec.IsShallow source.now }
     requires order { spec.HasOrder file.now order.now }
     requires table { spec.IsTabledBySome file.now table.now }
-    ensures parts { spec.IfOk result (spec.AreRuledParts (spec.text_of source.now) table.now rules.items) }
+    ensures parts { spec.IfOk result (spec.AreRuledParts form (spec.text_of source.now) table.now rules.items) }
     ensures fault { spec.IfErr result spec.IsMemoryFault }
 {
     match metadata_of(alloc, source) {
-        Ok(metadata) => mentioned_parts(alloc, file, order, table, rules, metadata),
+        Ok(metadata) => mentioned_parts(alloc, form, file, order, table, rules, metadata),
         Err(_) => refuse(EmitFault::OutOfMemory, rules),
     }
 }
@@ -225,6 +247,7 @@ fn ruled_parts(
 // What the template of the file of a table is made of.
 fn parts_of(
     alloc: Global,
+    form: Form,
     source: &SourceFile,
     file: &ResolvedFile,
     order: &[u32],
@@ -233,12 +256,12 @@ fn parts_of(
     requires text { spec.IsShallow source.now }
     requires order { spec.HasOrder file.now order.now }
     requires table { spec.IsTabledIn (spec.text_of source.now) file.now table.now }
-    ensures parts { spec.IfOk result (spec.ArePartsOf (spec.text_of source.now) table.now) }
+    ensures parts { spec.IfOk result (spec.ArePartsOf form (spec.text_of source.now) table.now) }
     ensures fault { spec.IfErr result spec.IsMemoryFault }
 {
     parameters_are_there();
     match rules_of(alloc, source, file) {
-        Ok(rules) => ruled_parts(alloc, source, file, order, table, rules),
+        Ok(rules) => ruled_parts(alloc, form, source, file, order, table, rules),
         Err(_) => Err(EmitFault::OutOfMemory),
     }
 }
@@ -253,6 +276,7 @@ fn count_fault(beyond: (Which, u64)) -> EmitFault
 // What the template of the file of a table is made of, where none of its lists is too long.
 fn counted_parts(
     alloc: Global,
+    form: Form,
     source: &SourceFile,
     file: &ResolvedFile,
     order: &[u32],
@@ -261,18 +285,19 @@ fn counted_parts(
     requires text { spec.IsShallow source.now }
     requires order { spec.HasOrder file.now order.now }
     requires table { spec.IsTabledIn (spec.text_of source.now) file.now table.now }
-    ensures parts { spec.IfOk result (spec.AreCountedParts (spec.text_of source.now) table.now) }
+    ensures parts { spec.IfOk result (spec.AreCountedParts form (spec.text_of source.now) table.now) }
     ensures fault { spec.IfErr result (spec.IsCountOrMemory table.now) }
 {
     match first_beyond(table) {
         Some(beyond) => Err(count_fault(beyond)),
-        None => parts_of(alloc, source, file, order, table),
+        None => parts_of(alloc, form, source, file, order, table),
     }
 }
 
 // The same with the table.
 fn tabled<'a>(
     alloc: Global,
+    form: Form,
     source: &SourceFile,
     file: &ResolvedFile,
     order: &[u32],
@@ -281,17 +306,18 @@ fn tabled<'a>(
     requires text { spec.IsShallow source.now }
     requires order { spec.HasOrder file.now order.now }
     requires table { spec.IsTabledIn (spec.text_of source.now) file.now table }
-    ensures parts { spec.IfOk result (spec.AreWithTable (spec.text_of source.now) table.entry) }
+    ensures parts { spec.IfOk result (spec.AreWithTable form (spec.text_of source.now) table.entry) }
     ensures fault { spec.IfErr result (spec.IsCountOrMemory table.entry) }
 {
-    match counted_parts(alloc, source, file, order, &table) {
-        Ok(parts) => Ok(FileParts { table, parts }),
+    match counted_parts(alloc, form, source, file, order, &table) {
+        Ok(parts) => Ok(FileParts { form, table, parts }),
         Err(fault) => refuse(fault, table),
     }
 }
 
-/// What the template of a file of a checked program is made of, beside the templates of its modules. `source` is its
-/// text, `file` what its names are, `files` are all files of the program, and `order` is what `file_loops` returned.
+/// What the template of a file of a checked program is made of in a form, beside the templates of its modules. `source`
+/// is its text, `file` what its names are, `files` are all files of the program, and `order` is what `file_loops`
+/// returned.
 ///
 /// # Errors
 ///
@@ -299,6 +325,7 @@ fn tabled<'a>(
 /// - `OutOfMemory`.
 pub fn file_parts<'a>(
     alloc: Global,
+    form: Form,
     source: &SourceFile,
     file: &'a ResolvedFile,
     files: &'a [ResolvedFile],
@@ -308,14 +335,14 @@ pub fn file_parts<'a>(
     requires checked { spec.IsOfProgram files.now file.now }
     requires order { spec.IsOrderFor file.now order.now }
     requires loops { spec.HasLoops (spec.text_of source.now) file.now order.now }
-    ensures parts { spec.IfOk result (spec.ArePartsFor (spec.text_of source.now) file.now files.now) }
+    ensures parts { spec.IfOk result (spec.ArePartsFor form (spec.text_of source.now) file.now files.now) }
     ensures fault { spec.IfErr result (spec.IsFileFault (spec.text_of source.now) file.now files.now) }
 {
     checked_files_are_placed();
     checked_files_have_kinds();
     checked_names_differ();
     match file_table(alloc, file, files, order) {
-        Ok(table) => tabled(alloc, source, file, order.order.as_slice(), table),
+        Ok(table) => tabled(alloc, form, source, file, order.order.as_slice(), table),
         Err(_) => Err(EmitFault::OutOfMemory),
     }
 }
@@ -324,28 +351,33 @@ pub fn file_parts<'a>(
 fn made(
     alloc: Global,
     table: &Table,
+    form: Form,
     rules: &[Option<Parameter>],
     metadata: &FileMetadata,
     mentioned: &[BTreeSet<usize>],
     templates: Vec<Option<Template>>,
 ) -> Result<Template, OutOfMemory>
     requires ready { spec.IsReady table.now }
-    requires fits { spec.CanBeMade table.now rules.now }
+    requires fits { spec.CanBeMade form table.now rules.now }
     requires mentioned { spec.AreMentioned table.now mentioned.now }
     requires given { spec.AreGivenIn table.now (spec.templates_of templates.items) }
-    ensures text { spec.IfOk result (spec.IsOfEachText table.now rules.now (spec.templates_of templates.items)) }
+    ensures text { spec.IfOk result (spec.IsOfEachText form table.now rules.now (spec.templates_of templates.items)) }
     ensures keeps { spec.IfOk result (spec.IsKeptBy table.now (spec.templates_of templates.items)) }
-    ensures metadata { spec.IfOk result (spec.IsNotedForEach table.now rules.now metadata.now) }
+    ensures metadata { spec.IfOk result (spec.IsNotedForEach form table.now rules.now metadata.now) }
+    ensures few { spec.IfOk result (spec.HasFewIn table.now) }
 {
     templates_keep_the_rules();
     templates_have_the_parts_of_the_file();
     templates_are_of_their_texts();
     symbols_have_the_same_numbers();
     nested_templates_are_given();
+    templates_have_the_existing_resources_of_texts();
     templates_have_the_metadata_of_texts();
+    templates_have_few_parts();
     template(
         alloc,
         table,
+        form,
         rules,
         metadata.symbols.as_slice(),
         metadata.outputs.as_slice(),
@@ -354,9 +386,9 @@ fn made(
     )
 }
 
-/// The template of a file of a checked program, in the first form. `parts` are what `file_parts` returned, which take no
-/// more than the limits of templates. `templates` has by the number of each symbol the template of the file of its
-/// module, where it is that of a module.
+/// The template of a file of a checked program. `parts` are what `file_parts` returned, which take no more than the
+/// limits of templates. `templates` has by the number of each symbol the template of the file of its module, where it
+/// is that of a module.
 ///
 /// # Errors
 ///
@@ -371,10 +403,12 @@ pub fn file_template(
     ensures made { spec.IsMadeForEach parts.now (spec.templates_of templates.items) result }
     ensures keeps { spec.KeepsForEach parts.now (spec.templates_of templates.items) result }
     ensures metadata { spec.HasMetadataForEach parts.now result }
+    ensures few { spec.HasFewForEach parts.now result }
 {
     made(
         alloc,
         &parts.table,
+        parts.form,
         parts.parts.rules.as_slice(),
         &parts.parts.metadata,
         parts.parts.mentioned.as_slice(),

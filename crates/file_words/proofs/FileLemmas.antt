@@ -40,7 +40,7 @@ use Rattle.bicep_meaning.specs.Files.{SourceFile, declaration, parent, around_ki
 use Rattle.bicep_resolved.specs.Source.{field_named}
 use Rattle.emitted_names.specs.Words.{HasWords, FileHasWords, OutputsAreNames}
 use Rattle.sound_values.proofs.FoundLemmas.{of_mapped}
-use Rattle.sound_declarations.specs.Few.{LoopHasFew, ConditionHasFew, BodyHasFew, DeclaredHasFew, FileHasFew}
+use Rattle.sound_files.specs.Few.{LoopHasFew, ConditionHasFew, BodyHasFew, DeclaredHasFew, FileHasFew}
 use Rattle.sound_values.specs.FewHoles.{ValueHasFew}
 use Rattle.sound_files.specs.Files.{IsFileOf}
 use Rattle.sound_files.proofs.SoundLemmas.{by_around}

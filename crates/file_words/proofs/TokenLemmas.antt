@@ -1,6 +1,6 @@
 -- Names among the tokens of a source are names of template expressions, texts among them are no longer than the source,
 -- and there are no more tokens than bytes.
-use Rattle.std.proofs.Common.{◌≡◌, ◌⊎◌, inl, inr, ◌<◌, ◌≤◌, ℕ, pos, ◌+◌, Bool, true, false, true≢false, List, []}
+use Rattle.std.proofs.Common.{◌≡◌, inl, inr, ◌<◌, ◌≤◌, ℕ, pos, ◌+◌, Bool, true, false, true≢false, List, []}
 use Rattle.std.proofs.Common.{◌∷◌, length, map, Option, Some, None, refl, sym, ap, ◌∙◌, subst, arith}
 use Rattle.std.proofs.Common.{length-take, length-drop, length-append, codes, cond, zero, suc, ◌*◌, ◌-◌, ◌++◌}
 use Rattle.std.specs.Prelude.{◌||◌, ◌&&◌, ◌==◌, ◌^◌, nat_le, nat_lt, bytes_eq, take, drop, unwrap_or, if◌then◌else◌}
@@ -8,6 +8,7 @@ use Rattle.std.specs.Str.{chars, chars_after, continuation_len, lead_bits}
 use Rattle.std.specs.Char.{is_ascii_alphabetic, is_ascii_digit, to_ascii_lowercase}
 use Rattle.std.specs.Int.{is_in_range}
 use Rattle.std.specs.List.{AllByRecursion, list_all}
+use Rattle.std.proofs.lemmas.Bool.{or_cases, or_left, or_right}
 use Rattle.foundation.proofs.AsciiWords.{word}
 use Rattle.foundation.proofs.Comparisons.{le_true, le_of_true, le_of_false, lt_true, lt_of_true, eq_of_true}
 use Rattle.foundation.proofs.TruthValues.{both, and_true}
@@ -123,18 +124,6 @@ word_is os row at kind w rest turn (g.double s first second is m) n =
 word_is os row at kind w rest turn (g.single s first is m d c e) n =
     absurd (no_mark (single_mark first) kind (single_is_none first) m n)
 
-first_true : (a b : Bool) → a ≡ true → (a || b) ≡ true
-first_true true b e = refl
-first_true false b e = absurd cc
-
-last_true : (a b : Bool) → b ≡ true → (a || b) ≡ true
-last_true true b e = refl
-last_true false b e = e
-
-either : (a b : Bool) → (a || b) ≡ true → (a ≡ true) ⊎ (b ≡ true)
-either true b e = inl refl
-either false b e = inr e
-
 small_in : (a b c : ℕ) → b < 128 → is_in_range a b c ≡ true → nat_lt c 128 ≡ true
 small_in a b c h e =
     let most = le_of_true c b (both (nat_le a c) (nat_le c b) e).1 in
@@ -142,9 +131,9 @@ small_in a b c h e =
 
 small_letter : (c : ℕ) → is_letter c ≡ true → nat_lt c 128 ≡ true
 small_letter c e =
-    elim (either (is_ascii_alphabetic c) (c == 95) e) [
+    elim (or_cases (is_ascii_alphabetic c) (c == 95) e) [
       | inl h ↦
-          elim (either (is_in_range 65 90 c) (is_in_range 97 122 c) h) [
+          elim (or_cases (is_in_range 65 90 c) (is_in_range 97 122 c) h) [
             | inl i ↦ small_in 65 90 c (omega arith) i
             | inr i ↦ small_in 97 122 c (omega arith) i
           ]
@@ -153,7 +142,7 @@ small_letter c e =
 
 small_byte : (c : ℕ) → is_name_byte c ≡ true → nat_lt c 128 ≡ true
 small_byte c e =
-    elim (either (is_letter c) (is_ascii_digit c) e) [
+    elim (or_cases (is_letter c) (is_ascii_digit c) e) [
       | inl h ↦ small_letter c h
       | inr h ↦ small_in 48 57 c (omega arith) h
     ]
@@ -177,7 +166,7 @@ goes_by false d other e = ap (λ x. goes_on_name (if x then digit else other)) e
 
 goes_on_byte : (c : ℕ) → is_name_byte c ≡ true → goes_on_name (kind_of c) ≡ true
 goes_on_byte c e =
-    elim (either (is_letter c) (is_ascii_digit c) e) [
+    elim (or_cases (is_letter c) (is_ascii_digit c) e) [
       | inl h ↦ ap goes_on_name (letter_kind c h)
       | inr h ↦
           goes_by (is_letter c) (is_ascii_digit c) (if c == 32 || c == 9 || c == 13 || c == 10 then blank else sign) h
@@ -201,7 +190,7 @@ name_word w h =
 -- a letter in small form is one
 small_letters : (c : ℕ) → 65 ≤ c → c < 91 → is_ascii_alphabetic (c + 32) ≡ true
 small_letters c low high =
-    last_true (is_in_range 65 90 (c + 32)) (is_in_range 97 122 (c + 32))
+    or_right (is_in_range 65 90 (c + 32)) (is_in_range 97 122 (c + 32))
     (and_true (nat_le 97 (c + 32)) (nat_le (c + 32) 122) (le_true 97 (c + 32) (omega (arith, low)))
     (le_true (c + 32) 122 (omega (arith, high))))
 
@@ -211,7 +200,7 @@ small_by P c true b e g h l = h
 small_by P c false false e g h l = h
 small_by P c false true e g h l =
     subst P
-    (sym (letter_kind (c + 32) (first_true (is_ascii_alphabetic (c + 32)) (c + 32 == 95)
+    (sym (letter_kind (c + 32) (or_left (is_ascii_alphabetic (c + 32)) (c + 32 == 95)
     (small_letters c (le_of_false c 65 e) (lt_of_true c 91 g))))) l
 
 pub letter_of_small : (c : ℕ) → kind_of c ≡ letter → kind_of (to_ascii_lowercase c) ≡ letter

@@ -8,7 +8,7 @@ ghost use Rattle.bicep_program.specs.Sources.{Folder, IsReadAs};
 ghost use Rattle.resolved_program.specs.Programs.{ResolvedFileTree, IsResolved};
 ghost use Rattle.bicep_meaning.specs.Files.{SourceFile, symbol_name};
 ghost use Rattle.emitted_names.specs.Words.{FileHasWords, OutputsAreNames};
-ghost use Rattle.sound_declarations.specs.Few.{FileHasFew};
+ghost use Rattle.sound_files.specs.Few.{FileHasFew};
 ghost use Rattle.sound_files.specs.Files.{IsFileOf};
 ghost use Rattle.tree_names.specs.Words.{FileHasAllWords};
 ghost use Rattle.emitted_numbers.specs.Wholes.{FileHasWholes, FileHasAllWholes, HasFewParts};

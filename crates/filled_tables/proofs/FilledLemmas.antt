@@ -1,7 +1,7 @@
 -- Expressions with a table of all declarations.
 use Rattle.std.proofs.Common.{◌≡◌, ℕ, List, length, ap, ◌∙◌}
-use Rattle.bicep_emission.specs.Emitted.{Frame}
-use Rattle.declaration_laws.specs.Sound.{IsSound}
+use Rattle.tree_building.specs.Emitted.{Frame}
+use Rattle.emission_laws.specs.Sound.{IsSound}
 use Rattle.emission_laws.specs.Holes.{IsRun}
 use Rattle.emission_laws.proofs.FilledLemmas.{has_holes, refilled_same}
 use Rattle.tree_building.specs.Sight.{expression}

@@ -3,10 +3,10 @@ use Rattle.std.proofs.Common.{◌≡◌, ℕ, List, ◌∷◌, Option, Some, ref
 use Rattle.std.specs.Prelude.{if◌then◌else◌}
 use Rattle.bicep_resolved.specs.Source.{SourceTree, SourceTrees, PropertyTrees, ValueTree}
 use Rattle.bicep_resolved.specs.Source as s
-use Rattle.bicep_emission.specs.Emitted.{Frame, element}
-use Rattle.emitted_expressions.specs.Sight.{Sight}
-use Rattle.emitted_trees.specs.EmittedTrees.{signed, literal_or, copy_index, count_of, has_copy}
-use Rattle.emitted_trees.specs.Templates as t
+use Rattle.tree_building.specs.Emitted.{Frame, element}
+use Rattle.declared_table.specs.Sight.{Sight}
+use Rattle.tree_building.specs.EmittedTrees.{signed, literal_or, copy_index, count_of, has_copy}
+use Rattle.tree_building.specs.Templates as t
 use Rattle.tree_building.specs.Sight.{expression, tree, items, members, value}
 use Rattle.filled_tables.specs.Same.{SameExpressions}
 

@@ -1,10 +1,9 @@
 -- Tables of all declarations of a file.
 use Rattle.std.specs.Prelude.{◌≡◌, ℕ, List}
-use Rattle.bicep_emission.specs.Emitted.{Frame}
+use Rattle.tree_building.specs.Emitted.{Frame}
 use Rattle.emission_laws.specs.Holes.{IsRun}
-use Rattle.emitted_expressions.specs.Sight.{Sight}
-use Rattle.declared_table.specs.Seen.{Shape, sight, whole_sight, file_in, files_in, whole_in}
-use Rattle.declared_table.specs.Seen.{full_name_in, condition_in}
+use Rattle.declared_table.specs.Sight.{Sight}
+use Rattle.declared_table.specs.Seen.{Shape, sight, whole_sight, file_in, files_in, whole_in, full_name_in, condition_in}
 
 -- the table has all declarations, with whole names and conditions, with the loop around a declaration or without one
 pub record IsFilled (s : Shape) : Type 0 where

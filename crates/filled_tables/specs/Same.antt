@@ -1,8 +1,8 @@
 -- Where expressions become the same.
 use Rattle.std.specs.Prelude.{◌≡◌, List}
 use Rattle.bicep_resolved.specs.Source.{SourceTree}
-use Rattle.bicep_emission.specs.Emitted.{Frame}
-use Rattle.emitted_expressions.specs.Sight.{Sight}
+use Rattle.tree_building.specs.Emitted.{Frame}
+use Rattle.declared_table.specs.Sight.{Sight}
 use Rattle.tree_building.specs.Sight.{expression}
 
 -- each expression becomes the same with what surrounds it on either side

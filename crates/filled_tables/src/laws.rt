@@ -1,10 +1,10 @@
 //! What holds of values with a table of all declarations. A law has no body: its contract is the law.
 ghost use Rattle.std.specs.Prelude.{◌≡◌, ℕ, List, Option};
 ghost use Rattle.bicep_resolved.specs.Source.{SourceTree, PropertyTrees, ValueTree};
-ghost use Rattle.bicep_emission.specs.Emitted.{Frame};
-ghost use Rattle.declaration_laws.specs.Sound.{IsSound};
+ghost use Rattle.tree_building.specs.Emitted.{Frame};
+ghost use Rattle.emission_laws.specs.Sound.{IsSound};
 ghost use Rattle.emission_laws.specs.Holes.{IsRun};
-ghost use Rattle.emitted_expressions.specs.Sight.{Sight};
+ghost use Rattle.declared_table.specs.Sight.{Sight};
 ghost use Rattle.tree_building.specs.Sight.{tree, members, value};
 ghost use Rattle.declared_table.specs.Seen.{Shape, sight, file_in, whole_in};
 ghost use Rattle.filled_tables.specs.Filled.{IsFilled, emission_sight};

@@ -4,8 +4,9 @@ use Rattle.std.proofs.Common.{ap₂}
 use Rattle.std.proofs.Common.{sym, ◌∙◌, add-one, ◌-◌, arith, zero, ◌≤◌, length-append, append_assoc, length-drop}
 use Rattle.std.specs.List.{insert}
 use Rattle.std.proofs.Math.Seq.{drop-cons, take-add}
-use Rattle.std.proofs.lemmas.List.{take-map, drop-map, map-append, take_all}
-use Rattle.std.specs.Prelude.{Contains}
+use Rattle.std.proofs.lemmas.List.{take-map, drop-map, map-append, take_all, drop_all}
+use Rattle.std.proofs.lemmas.Option.{slice_get_within, get_or_from_slice_get}
+use Rattle.std.specs.Prelude.{Contains, slice_get, Some}
 
 -- a list with one item more
 pub map-push : {A B : Type 0} (f : A → B) (xs : List A) (x : A) → map f (xs ++ x ∷ []) ≡ map f xs ++ f x ∷ []
@@ -22,6 +23,29 @@ map-insert f xs i x =
 pub next_item : {A : Type 0} (xs : List A) (i : ℕ) (x : A) → i < length xs → x ≡ get_or xs i x
     → drop i xs ≡ x ∷ drop (i + 1) xs
 next_item xs i x h e = rw (add-one, drop-cons xs i x h) (ap (λ y. y ∷ drop (suc i) xs) (sym e))
+
+pub next_after : {A : Type 0} (xs : List A) (i : ℕ) (x : A) → i < length xs → x ≡ get_or xs i x
+    → drop i xs ≡ x ∷ drop (suc i) xs
+next_after xs i x h e = drop-cons xs i x h ∙ ap (λ y. y ∷ drop (suc i) xs) (sym e)
+
+pub got_next : {A : Type 0} (xs : List A) (i : ℕ) (x : A) → slice_get xs i ≡ Some x → drop i xs ≡ x ∷ drop (suc i) xs
+got_next xs i x e =
+    next_after xs i x (slice_get_within xs i x e) (sym (get_or_from_slice_get xs i x x e))
+
+-- nothing is left from the end on
+pub nothing_left : {A : Type 0} (xs : List A) (i : ℕ) → length xs ≤ i → drop i xs ≡ []
+nothing_left xs i h = drop_all i xs h
+
+-- what is at a place of a list with one item more
+pub got_last : {A : Type 0} (xs : List A) (x : A) → slice_get (xs ++ x ∷ []) (length xs) ≡ Some x
+got_last [] x = refl
+got_last (y ∷ ys) x = got_last ys x
+
+pub got_before : {A : Type 0} (xs : List A) (x : A) (i : ℕ) → i < length xs
+    → slice_get (xs ++ x ∷ []) i ≡ slice_get xs i
+got_before [] x i h = absurd (omega (arith, h))
+got_before (y ∷ ys) x zero h = refl
+got_before (y ∷ ys) x (suc i) h = got_before ys x i (omega (arith, h))
 
 pub map-both : {A B C : Type 0} (f : A → B) (g : B → C) (xs : List A) → map (λ x. g (f x)) xs ≡ map g (map f xs)
 map-both f g [] = refl

@@ -1,10 +1,16 @@
 -- Lemmas on truth values.
-use Rattle.std.proofs.Common.{◌≡◌, Bool, true, false, ◌&&◌, ◌||◌, cond, refl, sym, true≢false, not}
+use Rattle.std.proofs.Common.{◌≡◌, Bool, true, false, ◌&&◌, ◌||◌, cond, refl, sym, true≢false, not, ◌∙◌}
 
 -- a conjunction that holds, holds of both
 pub both : (a b : Bool) → (a && b) ≡ true → (a ≡ true) × (b ≡ true)
 both true b e = (refl, e)
 both false b e = absurd (true≢false (sym e))
+
+pub first_of_both : (a b : Bool) → (a && b) ≡ true → a ≡ true
+first_of_both a b e = (both a b e).0
+
+pub second_of_both : (a b : Bool) → (a && b) ≡ true → b ≡ true
+second_of_both a b e = (both a b e).1
 
 -- what holds of both, holds of the conjunction
 pub and_true : (a b : Bool) → a ≡ true → b ≡ true → (a && b) ≡ true
@@ -81,6 +87,15 @@ pub and_true_is : (a : Bool) → (a && true) ≡ a
 and_true_is true = refl
 and_true_is false = refl
 
+-- a disjunction with false that holds, and a conjunction with true that fails
+pub first_alone : (a : Bool) → (a || false) ≡ true → a ≡ true
+first_alone true e = refl
+first_alone false e = e
+
+pub first_fails_alone : (a : Bool) → (a && true) ≡ false → a ≡ false
+first_fails_alone true e = e
+first_fails_alone false e = refl
+
 pub and_false_is : (t : Bool) → (t && false) ≡ false
 and_false_is true = refl
 and_false_is false = refl
@@ -95,6 +110,30 @@ or_crossed true b c d = refl
 or_crossed false true true d = refl
 or_crossed false true false d = refl
 or_crossed false false c d = refl
+
+-- a disjunction, the other way around and with its first part once more
+pub or_turned : (a b : Bool) → (a || b) ≡ (b || a)
+or_turned true b = sym (or_true b)
+or_turned false b = sym (or_false b)
+
+pub or_again : (a b : Bool) → (a || b) ≡ (a || (a || b))
+or_again true b = refl
+or_again false b = refl
+
+-- a part that two conjunctions share
+pub and_shared : (a b c : Bool) → ((a && b) || (a && c)) ≡ (a && (b || c))
+and_shared true b c = refl
+and_shared false b c = refl
+
+pub not_both : (b : Bool) → b ≡ true → b ≡ false → ⊥
+not_both b e f = true≢false (sym e ∙ f)
+
+pub never_true : (b : Bool) → b ≡ false → b ≡ true → ⊥
+never_true b e f = not_both b f e
+
+pub of_not_false : (b : Bool) → not b ≡ false → b ≡ true
+of_not_false true e = refl
+of_not_false false e = let d : true ≡ false = e in cc
 
 pub of_not : (b : Bool) → not b ≡ true → b ≡ false
 of_not true e = let d : true ≡ false = sym e in cc

@@ -1,21 +1,18 @@
 -- A member that is looked for by its key, among members in the order of their keys.
-use Rattle.std.proofs.Common.{◌≡◌, ◌<◌, ◌+◌, ℕ, zero, suc, Bool, true, false, ◌&&◌, ◌||◌, List, [], ◌∷◌, length}
+use Rattle.std.proofs.Common.{◌≡◌, ◌<◌, ◌+◌, ℕ, zero, suc, Bool, true, false, ◌&&◌, List, [], ◌∷◌, length}
 use Rattle.std.proofs.Common.{get_or, drop, map, Err, Ordering, Less, Equal, Greater, bytes_eq, add-one, refl, ap}
 use Rattle.std.proofs.Common.{sym, ◌∙◌, subst, arith}
 use Rattle.std.specs.Ordering.{match_ordering}
 use Rattle.std.specs.List.{AllByRecursion, list_any}
 use Rattle.std.specs.List.Sorted.{IsStrictlySortedBy, IsBinarySearchResult, IsSearchInRange}
 use Rattle.std.proofs.lemmas.List.Edits.{length-insert}
+use Rattle.foundation.proofs.TruthValues.{or_false}
 use Rattle.arm_value.specs.Json.{Json, Member, keys, key_cmp, put, IsInOrder}
 use Rattle.arm_value.specs.View.{member}
 use Rattle.arm_value.specs.Place.{IsPlace}
 use Rattle.arm_value.specs.declared.value.Field.{Field}
 use Rattle.arm_value.proofs.SetLemmas.{equal_keys, is_place, all_at}
 use Rattle.function_lists.proofs.MergeLemmas.{beneath, alike, differs, differs_from, same_key, after, same_after}
-
-or_last : (b : Bool) → (b || false) ≡ b
-or_last true = refl
-or_last false = refl
 
 none_above : (q : Member → Bool) (k : List ℕ) (ms : List Member) → AllByRecursion (λ y. key_cmp k y ≡ Less) (keys ms)
     → list_any (λ n. bytes_eq k n.0 && q n) ms ≡ false
@@ -32,7 +29,7 @@ found_at q k (f ∷ fs) zero d o h e =
     let here : bytes_eq k f.name ≡ true = same_key k f.name (alike f.name k e) in
     let later : list_any (λ n. bytes_eq k n.0 && q n) (map member fs) ≡ false =
     none_above q k (map member fs) (same_after k f.name (keys (map member fs)) (alike f.name k e) o.0) in
-    rw (here, later) (or_last (q (member f)))
+    rw (here, later) (or_false (q (member f)))
 found_at q k (f ∷ fs) (suc i) d o h e =
     let less : key_cmp f.name k ≡ Less = ap (key_cmp f.name) (sym (equal_keys (get_or fs i d).name k e))
     ∙ all_at _ fs i d o.0 (omega arith) in

@@ -8,6 +8,7 @@ use Rattle.std.proofs.lemmas.Slice.Eq.{bytes_eq-Decides}
 use Rattle.std.specs.Ordering.{ordering_reverse, is_lt}
 use Rattle.std.specs.List.{AllByRecursion}
 use Rattle.std.specs.List.Sorted.{IsStrictlySortedBy}
+use Rattle.arm_value.proofs.MemberLemmas.{front_stays, put_each-append}
 use Rattle.arm_value.specs.Json.{Json, Pairs, no_pairs, pair, Member, keys, pair_keys, key_cmp, put, put_each}
 use Rattle.arm_value.specs.Json.{IsInOrder}
 use Rattle.arm_value.proofs.SetLemmas.{equal_keys, in_order}
@@ -68,12 +69,6 @@ same_after a b (k ∷ ks) l h = (
 )
 
 -- ---- one member of either object
-
--- a member whose key is below all that are put stays in front
-front_stays : (m : Member) (ms us : List Member) → AllByRecursion (λ y. key_cmp m.0 y ≡ Less) (keys us)
-    → put_each (m ∷ ms) us ≡ m ∷ put_each ms us
-front_stays m ms [] h = refl
-front_stays m ms (u ∷ us) h = rw (above m.0 u.0 h.0) (front_stays m (put u.0 u.1 ms) us h.1)
 
 keys_updated : (ms : List Member) (ns : Pairs) → keys (updated ms ns) ≡ pair_keys ns
 keys_updated ms no_pairs = refl
@@ -209,10 +204,6 @@ steps k j [] ns o h = step_empty k j ns h
 steps k j (m ∷ ms) ns o h = step_by (key_cmp m.0 k) k j m ms ns refl o.0 h (steps k j ms ns o.1 h)
 
 -- ---- the start and the end
-
-pub put_each-append : (ns ms us : List Member) → put_each ns (ms ++ us) ≡ put_each (put_each ns ms) us
-put_each-append ns [] us = refl
-put_each-append ns (m ∷ ms) us = put_each-append (put m.0 m.1 ns) ms us
 
 pub put_each-ordered : (ms : List Member) → IsInOrder ms → put_each [] ms ≡ ms
 unfolding IsStrictlySortedBy

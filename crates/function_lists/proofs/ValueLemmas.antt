@@ -3,9 +3,9 @@ use Rattle.std.proofs.Common.{◌≡◌, ◌<◌, ◌≤◌, ℕ, suc, Bool, tru
 use Rattle.std.proofs.Common.{sym, ◌∙◌, arith}
 use Rattle.std.specs.Prelude.{nat_le, if◌then◌else◌}
 use Rattle.std.proofs.lemmas.Bool.Decides.{nat_tests}
+use Rattle.arm_value.proofs.SameLemmas.{items-row}
 use Rattle.arm_value.specs.Json.{Json, array, object, row, items, pairs, nesting, items_nesting, members_nesting}
 use Rattle.arm_value.specs.Json.{Member, put_each}
-use Rattle.function_numbers.proofs.RowLemmas.{items_of_row}
 use Rattle.function_lists.specs.Values.{array_of, object_of, capped}
 
 within_120 : (n : ℕ) → n ≤ 119 → nat_le (suc n) 120 ≡ true
@@ -42,7 +42,7 @@ nests_among all ms ns m h e = omega (arith, h, deep_among ms ns m, ap members_ne
 
 array_is_by : (b : Bool) (js ks : List Json) → (if b then Some (array (row js)) else None) ≡ Some (array (row ks))
     → ks ≡ js
-array_is_by true js ks e = let rows : row ks ≡ row js = cc in sym (items_of_row ks) ∙ ap items rows ∙ items_of_row js
+array_is_by true js ks e = let rows : row ks ≡ row js = cc in sym (items-row ks) ∙ ap items rows ∙ items-row js
 array_is_by false js ks e = absurd (cc)
 
 -- an array is of the items that it was made of

@@ -3,17 +3,10 @@ use Rattle.std.proofs.Common.{◌≡◌, ◌<◌, ◌≤◌, ◌+◌, ◌-◌, �
 use Rattle.std.proofs.Common.{ap, sym, add-one, arith}
 use Rattle.std.proofs.Math.Seq.{drop-cons}
 use Rattle.std.proofs.lemmas.List.{drop_all, take_all}
-use Rattle.arm_value.specs.Json.{Json, Member, row, pairs, items, members}
+use Rattle.arm_value.proofs.TreeLemmas.{members-pairs}
+use Rattle.arm_value.proofs.SameLemmas.{items-row}
 use Rattle.arm_value.specs.View.{json}
 use Rattle.arm_value.specs.declared.value.Value.{Value}
-
-pub items_of_row : (js : List Json) → items (row js) ≡ js
-items_of_row [] = refl
-items_of_row (j ∷ js) = ap (λ ks. j ∷ ks) (items_of_row js)
-
-pub members_of_pairs : (ms : List Member) → members (pairs ms) ≡ ms
-members_of_pairs [] = refl
-members_of_pairs (m ∷ ms) = ap (λ ns. m ∷ ns) (members_of_pairs ms)
 
 -- the next of what is left, and what is left after it
 pub next_in : (vs : List Value) (i : ℕ) (v : Value) → i < length vs → v ≡ get_or vs i v
@@ -27,4 +20,9 @@ none_left vs i h = ap (map json) (drop_all i vs h)
 pub after_first : {A : Type 0} (x : A) (xs : List A) → take (length (x ∷ xs) - 1) (drop 1 (x ∷ xs)) ≡ xs
 after_first x xs = let n : length xs ≤ length (x ∷ xs) - 1 = omega arith in take_all (length (x ∷ xs) - 1) xs n
 
-pub ruleset rows_and_pairs = (items_of_row, members_of_pairs)
+pub ruleset rows_and_pairs = (items-row, members-pairs)
+
+-- lemmas of `arm_value`, by names that the tactics of contracts can have
+pub ruleset items_of_row = (items-row)
+
+pub ruleset members_of_pairs = (members-pairs)

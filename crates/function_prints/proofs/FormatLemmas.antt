@@ -7,9 +7,10 @@ use Rattle.std.specs.Prelude.{if◌then◌else◌}
 use Rattle.std.proofs.Math.Seq.{drop-cons}
 use Rattle.std.proofs.lemmas.List.{drop_all}
 use Rattle.std.proofs.lemmas.Bool.Decides.{nat_tests}
-use Rattle.function_numbers.specs.Numbers.{with_digit, read_on, numeral, is_digit}
+use Rattle.function_texts.specs.Numbers.{with_digit, read_on, numeral, is_digit}
 use Rattle.std.proofs.lemmas.Option.{slice_get_past, slice_get_read, slice_get-map}
 use Rattle.std.proofs.lemmas.List.{length-map, take_all}
+use Rattle.function_texts.proofs.Lists.{next_item}
 use Rattle.arm_value.specs.Json.{Json}
 use Rattle.arm_value.specs.View.{json}
 use Rattle.arm_value.specs.declared.value.Value.{Value}
@@ -102,15 +103,11 @@ numbered-all bound cs = by_digits (before_closing cs)
     by_digits None = refl
     by_digits (Some digits) = number_of-all bound (0 + length digits) digits (omega arith)
 
--- the next of what is left, and what is left after it
-next_left : (cs : List ℕ) (i c : ℕ) → i < length cs → c ≡ get_or cs i c → drop i cs ≡ c ∷ drop (i + 1) cs
-next_left cs i c h e = rw (add-one, drop-cons cs i c h) (ap (λ x. x ∷ drop (suc i) cs) (sym e))
-
 pub number_closes : (bound i n c : ℕ) (cs : List ℕ) (all : Option (ℕ × ℕ)) → i < length cs → c ≡ get_or cs i c
     → c ≡ 125 → 0 < i → n < bound
     → numbered_from bound i n (drop i cs) ≡ all → Some (n, i) ≡ all
 number_closes bound i n c cs all h e is p w before =
-    let left : drop i cs ≡ 125 ∷ drop (i + 1) cs = next_left cs i c h e ∙ ap (λ x. x ∷ drop (i + 1) cs) is in
+    let left : drop i cs ≡ 125 ∷ drop (i + 1) cs = next_item cs i c h e ∙ ap (λ x. x ∷ drop (i + 1) cs) is in
     let some : (i + 0 == 0) ≡ false = grind (arith, nat_tests) in
     let same : i + 0 ≡ i = omega arith in
     sym (rw (left, closing-here, some, read-nil, below-some bound n w, same) refl) ∙ before
@@ -119,7 +116,7 @@ pub number_is_empty : (bound i n c : ℕ) (cs : List ℕ) (all : Option (ℕ × 
     → c ≡ 125 → i ≤ 0
     → numbered_from bound i n (drop i cs) ≡ all → None ≡ all
 number_is_empty bound i n c cs all h e is p before =
-    let left : drop i cs ≡ 125 ∷ drop (i + 1) cs = next_left cs i c h e ∙ ap (λ x. x ∷ drop (i + 1) cs) is in
+    let left : drop i cs ≡ 125 ∷ drop (i + 1) cs = next_item cs i c h e ∙ ap (λ x. x ∷ drop (i + 1) cs) is in
     let none : (i + 0 == 0) ≡ true = grind (arith, nat_tests) in
     sym (rw (left, closing-here, none) refl) ∙ before
 
@@ -184,7 +181,7 @@ pub number_goes_on : (bound i n m c : ℕ) (cs : List ℕ) (all : Option (ℕ ×
     → numbered_from bound i n (drop i cs) ≡ all → numbered_from bound (i + 1) m (drop (i + 1) cs) ≡ all
 number_goes_on bound i n m c cs all h e is d before =
     let rest = drop (i + 1) cs in
-    sym (ap (numbered_from bound i n) (next_left cs i c h e) ∙ number_step bound i n c rest (is_other c is)
+    sym (ap (numbered_from bound i n) (next_item cs i c h e) ∙ number_step bound i n c rest (is_other c is)
     ∙ goes_on_by bound (i + 1) m rest (with_digit n c) d) ∙ before
 
 pub number_stops : (bound i n c : ℕ) (cs : List ℕ) (all : Option (ℕ × ℕ)) → i < length cs → c ≡ get_or cs i c
@@ -192,7 +189,7 @@ pub number_stops : (bound i n c : ℕ) (cs : List ℕ) (all : Option (ℕ × ℕ
     → numbered_from bound i n (drop i cs) ≡ all → ◌≡◌ {A = Option (ℕ × ℕ)} None all
 number_stops bound i n c cs all h e is d before =
     let rest = drop (i + 1) cs in
-    sym (ap (numbered_from bound i n) (next_left cs i c h e) ∙ number_step bound i n c rest (is_other c is)
+    sym (ap (numbered_from bound i n) (next_item cs i c h e) ∙ number_step bound i n c rest (is_other c is)
     ∙ stops_by bound (i + 1) rest (with_digit n c) d) ∙ before
 
 pub number_ends : (bound i n : ℕ) (cs : List ℕ) (all : Option (ℕ × ℕ)) → length cs ≤ i

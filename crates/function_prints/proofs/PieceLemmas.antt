@@ -6,7 +6,7 @@ use Rattle.std.specs.Prelude.{if◌then◌else◌}
 use Rattle.std.proofs.lemmas.List.{drop_all}
 use Rattle.std.proofs.lemmas.Bool.Decides.{nat_tests}
 use Rattle.arm_value.specs.Json.{Json}
-use Rattle.function_numbers.specs.Numbers.{with_digit, read_on, numeral, is_digit}
+use Rattle.function_texts.specs.Numbers.{with_digit, read_on, numeral, is_digit}
 use Rattle.function_prints.specs.Printed.{printed}
 use Rattle.function_prints.specs.Format.{Field, before_closing, argument, argument_field, is_brace, field}
 use Rattle.function_prints.specs.Format.{filled_rest, filled}

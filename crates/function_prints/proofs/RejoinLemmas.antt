@@ -4,13 +4,12 @@ use Rattle.std.proofs.Common.{length, map, Option, Some, None, refl, ap, sym, �
 use Rattle.std.specs.Prelude.{if◌then◌else◌}
 use Rattle.std.specs.List.{flat_map}
 use Rattle.std.proofs.lemmas.Bool.Decides.{nat_tests}
+use Rattle.arm_value.proofs.SameLemmas.{items-row}
 use Rattle.arm_value.specs.Json.{Json, text, array, row, items}
-use Rattle.function_numbers.proofs.RowLemmas.{items_of_row}
 use Rattle.function_lists.specs.Values.{array_of}
 use Rattle.function_lists.proofs.ValueLemmas.{array_of_is}
 use Rattle.function_texts.specs.Places.{begins}
-use Rattle.function_texts.specs.Cuts.{delimiter_at, Cut, IsFirstCut, first_cut, cut_at, pieces_within, pieces}
-use Rattle.function_texts.specs.Cuts.{joined, can_cut}
+use Rattle.function_texts.specs.Cuts.{delimiter_at, Cut, IsFirstCut, first_cut, cut_at, pieces_within, pieces, joined, can_cut}
 use Rattle.function_texts.proofs.CutLemmas.{delimiter-cons, delimiter-nil, one_not_empty, some_pieces, joined-cons}
 use Rattle.function_texts.proofs.PieceLemmas.{cut_is}
 use Rattle.function_prints.specs.Printed.{printed, joined_by}
@@ -60,6 +59,8 @@ recombined s d js e = by_test (can_cut (d ∷ [])) refl e
         → joined_by d (items (row js)) ≡ s
     by_test true t f =
         let some : 0 < length d = grind (arith, nat_tests) in
-        ap (joined_by d) (items_of_row js ∙ array_of_is (map text (pieces (d ∷ []) s)) js f)
+        ap (joined_by d) (items-row js ∙ array_of_is (map text (pieces (d ∷ []) s)) js f)
         ∙ texts_joined d (pieces (d ∷ []) s) ∙ rejoined d s some
     by_test false t f = absurd (cc)
+
+pub ruleset items_of_row = (items-row)

@@ -16,7 +16,7 @@ use Rattle.arm_value.specs.Reading.{data_of, row_data, pairs_data, or_else, not_
 use Rattle.arm_value.specs.Reading.{members_not_whole}
 use Rattle.function_prints.specs.Stated.{tree_of, row_of, pairs_of, shallow_tree}
 use Rattle.arm_value.proofs.DataLemmas.{mapped_none, or_else_first, or_else_none}
-use Rattle.foundation.proofs.Comparisons.{le_true}
+use Rattle.function_texts.proofs.Comparisons.{le_true}
 
 -- ---- data of a tree
 

@@ -13,7 +13,7 @@ use Rattle.arm_value.specs.View.{json}
 use Rattle.arm_value.specs.declared.value.Value.{Value}
 use Rattle.serde_json.specs.Data.{Data}
 use Rattle.arm_value.specs.Reading.{reading}
-use Rattle.function_numbers.proofs.RowLemmas.{next_in, none_left}
+use Rattle.function_texts.proofs.RowLemmas.{next_in, none_left}
 use Rattle.function_prints.specs.Printed.{printed, printed_scalar, printed_scalars}
 
 pub ruleset characters = (chars-nil, append-nil, append_assoc)

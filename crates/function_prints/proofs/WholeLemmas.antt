@@ -11,7 +11,7 @@ use Rattle.arm_value.specs.declared.value.Field.{Field}
 use Rattle.arm_value.specs.Json.{row, pairs}
 use Rattle.arm_value.specs.View.{json, member}
 use Rattle.arm_value.specs.Reading.{data_of, row_data, pairs_data, not_whole, items_not_whole, members_not_whole}
-use Rattle.function_numbers.proofs.RowLemmas.{next_in, none_left}
+use Rattle.function_texts.proofs.RowLemmas.{next_in, none_left}
 
 below_top : (n : ℕ) → n < 2 ^ 63 → nat_lt n (2 ^ 63) ≡ true
 below_top n h = grind (arith, nat_tests)

@@ -2,7 +2,7 @@
 use Rattle.std.specs.Prelude.{ℕ, nat_lt, List, ◌++◌, length, Option, Some, None, option_map, option_and_then}
 use Rattle.std.specs.Prelude.{if◌then◌else◌}
 use Rattle.arm_value.specs.Json.{Json}
-use Rattle.function_numbers.specs.Numbers.{numeral}
+use Rattle.function_texts.specs.Numbers.{numeral}
 use Rattle.function_prints.specs.Format.{Field, before_closing, filled_rest}
 
 abbrev pub below : ℕ → ℕ → Option ℕ

@@ -2,8 +2,8 @@
 use Rattle.std.specs.Prelude.{ℕ, zero, suc, ◌==◌, ◌||◌, Bool, List, [], ◌∷◌, ◌++◌, length, slice_get, Option, Some}
 use Rattle.std.specs.Prelude.{None, option_map, option_and_then, if◌then◌else◌}
 use Rattle.arm_value.specs.Json.{Json, text}
-use Rattle.function_numbers.specs.Kinds.{text_of}
-use Rattle.function_numbers.specs.Numbers.{numeral}
+use Rattle.function_texts.specs.Kinds.{text_of}
+use Rattle.function_texts.specs.Numbers.{numeral}
 use Rattle.function_prints.specs.Printed.{printed}
 
 -- what a brace means, and how many of the characters after it belong to it

@@ -3,3 +3,12 @@ pub mod Stated
 pub mod Format
 pub mod Filling
 pub mod Pieces
+pub use Rattle.function_texts.specs.Cuts
+pub use Rattle.function_texts.specs.Letters
+pub use Rattle.function_texts.specs.Places
+pub use Rattle.function_lists.specs.Ends
+pub use Rattle.function_lists.specs.Items
+pub use Rattle.function_lists.specs.Members
+pub use Rattle.function_lists.specs.Sizes
+pub use Rattle.arm_value.specs.Json
+pub use Rattle.arm_value.specs.Look

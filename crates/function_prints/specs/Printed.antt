@@ -6,7 +6,7 @@ use Rattle.std.specs.List.{flat_map}
 use Rattle.serde_json.specs.Written.{compact_text}
 use Rattle.arm_value.specs.Json.{Json, null, bool, int, text, array, object, items}
 use Rattle.arm_value.specs.Reading.{data_of}
-use Rattle.function_numbers.specs.Kinds.{text_of, of_one, of_two}
+use Rattle.function_texts.specs.Kinds.{text_of, of_one, of_two}
 use Rattle.function_lists.specs.Items.{concat_arrays}
 
 -- the printed form: a text itself, a number's decimal digits, `True` or `False`, nothing for null, and else the

@@ -6,7 +6,7 @@ use Rattle.serde_json.specs.Find.{as_i64}
 use Rattle.arm_value.specs.Json.{Json, null, bool, int, text, array, object, Row, no_items, item, Pairs, no_pairs, pair}
 use Rattle.arm_value.specs.Fault.{Gives}
 use Rattle.arm_value.specs.Reading.{reading}
-use Rattle.function_numbers.specs.Kinds.{text_of, of_one}
+use Rattle.function_texts.specs.Kinds.{text_of, of_one}
 
 -- the tree that this data of `serde_json` is; none where a number is no whole one of 64 bits with a sign
 abbrev mutual

@@ -3,7 +3,7 @@ ghost use Rattle.std.specs.Prelude.{◌≡◌, ◌<◌, ◌∷◌, ◌++◌, [],
 ghost use Rattle.std.specs.Prelude.{option_and_then, IfOk, IfSome, OnOk};
 ghost use Rattle.arm_value.specs.Json.{text};
 ghost use Rattle.arm_value.specs.View.{json};
-ghost use Rattle.function_numbers.specs.Numbers.{with_digit};
+ghost use Rattle.function_texts.specs.Numbers.{with_digit};
 ghost use Rattle.function_prints.specs.Format as row;
 ghost use Rattle.function_prints.specs.Format.{argument_field, field, filled, format_by, is_brace};
 ghost use Rattle.function_prints.specs.Filling.{below, ending, filled_after, filled_on, number_before_closing};
@@ -13,7 +13,7 @@ use crate::joining::add;
 use crate::printed::printed;
 use arm_value::{OutOfMemory, Text, Value};
 use function_lists::characters::characters_of;
-use function_numbers::kinds::text_of;
+use function_texts::text_of;
 use std::alloc::Global;
 
 // The number with one more digit; none where the character is no digit, or from the bound on.

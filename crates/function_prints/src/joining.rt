@@ -124,7 +124,7 @@ fn joined_by(alloc: Global, between: &Text, values: &[Value]) -> Result<Text, Ou
     }
 }
 
-#[tactic(auto, using(function_numbers::proofs::RowLemmas::items_of_row))]
+#[tactic(auto, using(crate::proofs::RejoinLemmas::items_of_row))]
 fn join_items(alloc: Global, value: &Value, between: &Value) -> Result<Option<Value>, OutOfMemory>
     ensures { IfOk result (λ text. option_map json text ≡ join_items (json value.now) (json between.now)) }
 {

@@ -14,6 +14,14 @@ mod stated;
 mod whole;
 
 pub use filling::format;
+pub use function_lists::{
+    create_array, create_object, empty, first, flatten, intersection, last, object_items,
+    object_keys, size, skip, take, to_array, try_get, union,
+};
+pub use function_texts::{
+    contains, ends_with, index_of, last_index_of, replace, split, starts_with, substring, to_lower,
+    to_upper, trim,
+};
 pub use joining::{concat, join};
 pub use padding::pad_left;
 pub use printed::to_text;

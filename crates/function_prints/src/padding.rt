@@ -7,7 +7,7 @@ ghost use Rattle.function_prints.specs.Printed.{width_of, one_character, filled,
 use crate::printed::printed;
 use arm_value::{OutOfMemory, Text, Value};
 use function_lists::characters::{characters_of, text_of_characters};
-use function_numbers::kinds::text_of;
+use function_texts::text_of;
 use std::alloc::Global;
 
 // A width that can be filled.

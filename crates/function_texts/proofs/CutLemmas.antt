@@ -1,11 +1,12 @@
 -- Texts cut at delimiters.
 use Rattle.std.proofs.Common.{◌≡◌, ◌<◌, ◌≤◌, ◌+◌, ℕ, zero, suc, Bool, true, false, List, [], ◌∷◌, ◌++◌, length}
 use Rattle.std.proofs.Common.{take, drop, Option, Some, None, refl, ap, ap₂, sym, ◌∙◌, arith, append_assoc}
-use Rattle.std.proofs.Common.{append-nil, true≢false, subst}
-use Rattle.std.specs.Prelude.{if◌then◌else◌, not, ◌==◌, ◌&&◌}
+use Rattle.std.proofs.Common.{append-nil, subst}
+use Rattle.std.specs.Prelude.{if◌then◌else◌, not, ◌==◌}
 use Rattle.std.specs.List.{flat_map}
 use Rattle.std.proofs.lemmas.List.{length-drop, drop-drop}
 use Rattle.std.proofs.lemmas.Bool.Decides.{nat_tests}
+use Rattle.foundation.proofs.TruthValues.{both}
 use Rattle.function_texts.specs.Places.{begins}
 use Rattle.function_texts.specs.Cuts.{delimiter_at, Cut, cut_here, first_cut, cut_at, pieces_within, pieces, joined}
 use Rattle.function_texts.specs.Cuts.{replaced, none_empty}
@@ -23,18 +24,14 @@ pub delimiter-nil : (s : List ℕ) → delimiter_at [] s ≡ None
 unfolding delimiter_at
 delimiter-nil s = refl
 
-both_true : (a b : Bool) → (a && b) ≡ true → (a ≡ true) × (b ≡ true)
-both_true true b h = (refl, h)
-both_true false b h = absurd (true≢false (sym h))
-
 some_length : (n : ℕ) → not (n == 0) ≡ true → 0 < n
 some_length n h = grind (arith, nat_tests)
 
 pub first_not_empty : (d : List ℕ) (ds : List (List ℕ)) → none_empty (d ∷ ds) ≡ true → 0 < length d
-first_not_empty d ds h = some_length (length d) (both_true (not (length d == 0)) (none_empty ds) h).0
+first_not_empty d ds h = some_length (length d) (both (not (length d == 0)) (none_empty ds) h).0
 
 pub others_not_empty : (d : List ℕ) (ds : List (List ℕ)) → none_empty (d ∷ ds) ≡ true → none_empty ds ≡ true
-others_not_empty d ds h = (both_true (not (length d == 0)) (none_empty ds) h).1
+others_not_empty d ds h = (both (not (length d == 0)) (none_empty ds) h).1
 
 pub one_not_empty : (d : List ℕ) → 0 < length d → none_empty (d ∷ []) ≡ true
 one_not_empty d h = grind (arith, nat_tests)

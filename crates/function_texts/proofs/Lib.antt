@@ -6,3 +6,8 @@ pub mod SearchLemmas
 pub mod PartLemmas
 pub mod MarkLemmas
 pub mod PieceLemmas
+pub mod RowRules
+pub use Rattle.function_numbers.proofs.RowLemmas
+pub use Rattle.foundation.proofs.Characters
+pub use Rattle.foundation.proofs.Comparisons
+pub use Rattle.foundation.proofs.Lists

@@ -3,11 +3,11 @@ use Rattle.std.proofs.Common.{◌≡◌, ◌<◌, ◌≤◌, ◌+◌, ◌-◌, �
 use Rattle.std.proofs.Common.{Option, Some, None, refl, ap, ap₂, sym, ◌∙◌, arith, subst, ◌⊎◌, inl, inr}
 use Rattle.std.specs.Prelude.{◌==◌}
 use Rattle.std.proofs.lemmas.Bool.{cases_lt}
-use Rattle.std.proofs.lemmas.Bool.Decides.{nat_tests}
 use Rattle.function_lists.specs.Items.{or_found, here}
 use Rattle.function_texts.specs.Places.{begins, first_from, last_from}
 use Rattle.function_texts.specs.Search.{IsLongest, HasNotBegun, IsFirst, IsLastBegun}
 use Rattle.std.proofs.lemmas.List.{length-drop}
+use Rattle.foundation.proofs.Comparisons.{eq_of_true, ne_of_false}
 use Rattle.function_texts.proofs.PlaceLemmas.{no_room}
 use Rattle.function_texts.proofs.SearchLemmas.{begun_at, not_begun, nowhere_more, nowhere_left}
 
@@ -103,12 +103,6 @@ pub last-empty : (p s : List ℕ) → length p ≡ 0 → IsLastBegun p s (length
 last-empty [] s e = (omega arith, begins-nil (drop (length s) s), λ place l k. absurd (omega arith))
 last-empty (c ∷ cs) s e = absurd (omega arith)
 
-apart : (n m : ℕ) → (n == m) ≡ false → n ≡ m → ⊥
-apart n m h e = grind (arith, nat_tests)
-
-same : (n m : ℕ) → (n == m) ≡ true → n ≡ m
-same n m h = grind (arith, nat_tests)
-
 last_kept : (p s : List ℕ) (i n : ℕ) (found : Option ℕ) → IsLastBegun p s i found
     → IsLongest p s (i + 1) (length p) n → n < length p → IsLastBegun p s (i + 1) found
 last_kept p s i n None before long l = nowhere_more p s i n before long l
@@ -138,7 +132,7 @@ last_more p s i n found next before l long e =
     subst (IsLastBegun p s (i + 1)) (sym e) (by_test (n == length p) refl)
   where
     by_test : (b : Bool) → (n == length p) ≡ b → IsLastBegun p s (i + 1) (or_found (here b (i + 1 - n)) found)
-    by_test true t = last_found p s i n l long (same n (length p) t)
+    by_test true t = last_found p s i n l long (eq_of_true n (length p) t)
     by_test false t =
-        let different : n ≡ length p → ⊥ = apart n (length p) t in
+        let different : n ≡ length p → ⊥ = ne_of_false n (length p) t in
         last_kept p s i n found before long (omega (arith, long.within))

@@ -3,7 +3,8 @@ use Rattle.std.proofs.Common.{◌≡◌, ◌<◌, ◌≤◌, ◌+◌, ◌-◌, �
 use Rattle.std.proofs.Common.{drop, refl, ap, ap₂, sym, ◌∙◌, arith}
 use Rattle.std.specs.Prelude.{◌==◌, ◌&&◌}
 use Rattle.std.proofs.lemmas.List.{drop_all, take_all, length-drop}
-use Rattle.std.proofs.lemmas.Bool.Decides.{nat_tests}
+use Rattle.foundation.proofs.Comparisons.{eq_false, eq_true}
+use Rattle.foundation.proofs.TruthValues.{and_false_is}
 use Rattle.function_texts.specs.Places.{begins}
 use Rattle.foundation.proofs.Lists.{next_item}
 
@@ -19,20 +20,10 @@ begins_short : (part s : List ℕ) → length s < length part → begins part s 
 unfolding begins
 begins_short [] s h = absurd (omega arith)
 begins_short (c ∷ cs) [] h = refl
-begins_short (c ∷ cs) (d ∷ ds) h = ap (λ b. (c == d) && b) (begins_short cs ds (omega arith)) ∙ and_false (c == d)
-  where
-    and_false : (b : Bool) → (b && false) ≡ false
-    and_false true = refl
-    and_false false = refl
+begins_short (c ∷ cs) (d ∷ ds) h = ap (λ b. (c == d) && b) (begins_short cs ds (omega arith)) ∙ and_false_is (c == d)
 
 pub no_room : (part s : List ℕ) → length s < length part → false ≡ begins part s
 no_room part s h = sym (begins_short part s h)
-
-differ : (c d : ℕ) → (c ≡ d → ⊥) → (c == d) ≡ false
-differ c d h = grind (arith, nat_tests)
-
-alike : (c d : ℕ) → c ≡ d → (c == d) ≡ true
-alike c d h = grind (arith, nat_tests)
 
 pub begins_differs : (part s : List ℕ) (i c d : ℕ) (all : Bool) → i < length part → i < length s → c ≡ get_or part i c
     → d ≡ get_or s i d → (c ≡ d → ⊥) → begins (drop i part) (drop i s) ≡ all → false ≡ all
@@ -40,7 +31,7 @@ begins_differs part s i c d all h k e f t before =
     let step : begins (drop i part) (drop i s) ≡ false =
     ap₂ begins (next_item part i c h e) (next_item s i d k f)
     ∙ begins-cons c d (drop (i + 1) part) (drop (i + 1) s)
-    ∙ ap (λ b. b && begins (drop (i + 1) part) (drop (i + 1) s)) (differ c d t) in
+    ∙ ap (λ b. b && begins (drop (i + 1) part) (drop (i + 1) s)) (eq_false c d t) in
     sym step ∙ before
 
 pub begins_more : (part s : List ℕ) (i c d : ℕ) (all : Bool) → i < length part → i < length s → c ≡ get_or part i c
@@ -50,7 +41,7 @@ begins_more part s i c d all h k e f t before =
     let step : begins (drop i part) (drop i s) ≡ begins (drop (i + 1) part) (drop (i + 1) s) =
     ap₂ begins (next_item part i c h e) (next_item s i d k f)
     ∙ begins-cons c d (drop (i + 1) part) (drop (i + 1) s)
-    ∙ ap (λ b. b && begins (drop (i + 1) part) (drop (i + 1) s)) (alike c d t) in
+    ∙ ap (λ b. b && begins (drop (i + 1) part) (drop (i + 1) s)) (eq_true c d t) in
     sym step ∙ before
 
 pub begins_ends : (part s : List ℕ) (i : ℕ) (all : Bool) → length part ≤ i → begins (drop i part) (drop i s) ≡ all

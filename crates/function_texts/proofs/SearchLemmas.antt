@@ -3,8 +3,9 @@ use Rattle.std.proofs.Common.{◌≡◌, ◌<◌, ◌≤◌, ◌+◌, ◌-◌, �
 use Rattle.std.proofs.Common.{get_or, drop, refl, ap, ap₂, sym, ◌∙◌, arith, subst, ◌⊎◌, inl, inr, true≢false}
 use Rattle.std.specs.Prelude.{◌==◌, ◌&&◌}
 use Rattle.std.proofs.lemmas.Bool.{cases_lt}
-use Rattle.std.proofs.lemmas.Bool.Decides.{nat_tests}
 use Rattle.std.proofs.lemmas.List.{get_or-drop, length-drop, get_or_append_left, get_or_push, length_push}
+use Rattle.foundation.proofs.Comparisons.{eq_of_true, eq_true}
+use Rattle.foundation.proofs.TruthValues.{both}
 use Rattle.function_texts.specs.Places.{begins}
 use Rattle.function_texts.specs.Search.{EndAt, IsLongest, AreBorders, HasAt, GoesOn, IsNext, HasNotBegun}
 use Rattle.function_texts.proofs.PlaceLemmas.{no_room}
@@ -162,12 +163,6 @@ begins-cons : (c d : ℕ) (cs ds : List ℕ) → begins (c ∷ cs) (d ∷ ds) �
 unfolding begins
 begins-cons c d cs ds = refl
 
-same_characters : (c d : ℕ) → (c == d) ≡ true → c ≡ d
-same_characters c d h = grind (arith, nat_tests)
-
-alike : (c d : ℕ) → c ≡ d → (c == d) ≡ true
-alike c d h = grind (arith, nat_tests)
-
 -- a part begins where each of its characters is
 pub begins_from_reads : (p s : List ℕ) → length p ≤ length s
     → ((i : ℕ) → i < length p → get_or p i 0 ≡ get_or s i 0) → begins p s ≡ true
@@ -176,26 +171,22 @@ begins_from_reads [] s h same = refl
 begins_from_reads (c ∷ cs) [] h same = absurd (omega arith)
 begins_from_reads (c ∷ cs) (d ∷ ds) h same =
     let rest : begins cs ds ≡ true = begins_from_reads cs ds (omega arith) (λ i l. same (suc i) (omega arith)) in
-    ap₂ (λ a b. a && b) (alike c d (same 0 (omega arith))) rest
-
-and_both : (a b : Bool) → (a && b) ≡ true → (a ≡ true) × (b ≡ true)
-and_both true b h = (refl, h)
-and_both false b h = absurd (true≢false (sym h))
+    ap₂ (λ a b. a && b) (eq_true c d (same 0 (omega arith))) rest
 
 pub begins_fits : (p s : List ℕ) → begins p s ≡ true → length p ≤ length s
 unfolding begins
 begins_fits [] s h = omega arith
 begins_fits (c ∷ cs) [] h = absurd (true≢false (sym h))
 begins_fits (c ∷ cs) (d ∷ ds) h = let fits : length cs ≤ length ds =
-    begins_fits cs ds (and_both (c == d) (begins cs ds) h).1 in omega arith
+    begins_fits cs ds (both (c == d) (begins cs ds) h).1 in omega arith
 
 pub begins_reads : (p s : List ℕ) → begins p s ≡ true → (i : ℕ) → i < length p → get_or p i 0 ≡ get_or s i 0
 unfolding begins
 begins_reads [] s h i l = absurd (omega arith)
 begins_reads (c ∷ cs) [] h i l = absurd (true≢false (sym h))
-begins_reads (c ∷ cs) (d ∷ ds) h zero l = same_characters c d (and_both (c == d) (begins cs ds) h).0
+begins_reads (c ∷ cs) (d ∷ ds) h zero l = eq_of_true c d (both (c == d) (begins cs ds) h).0
 begins_reads (c ∷ cs) (d ∷ ds) h (suc i) l =
-    begins_reads cs ds (and_both (c == d) (begins cs ds) h).1 i (omega arith)
+    begins_reads cs ds (both (c == d) (begins cs ds) h).1 i (omega arith)
 
 -- the whole part ends where it began so many characters before
 pub begun_at : (p s : List ℕ) (i : ℕ) → EndAt p s i (length p) → i ≤ length s

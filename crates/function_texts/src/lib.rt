@@ -15,6 +15,7 @@ mod search;
 mod splits;
 
 pub use cuts::{replace, substring};
+pub use function_numbers::kinds::text_of;
 pub use letters::{to_lower, to_upper, trim};
 pub use places::{contains, ends_with, index_of, last_index_of, starts_with};
 pub use splits::split;

@@ -124,7 +124,7 @@ fn first_in(alloc: Global, text: &Text, part: &Text) -> Result<Option<usize>, Ou
     first_part(alloc, part.as_slice(), characters.as_slice())
 }
 
-#[tactic(auto, using(function_numbers::proofs::RowLemmas::items_of_row))]
+#[tactic(auto, using(crate::proofs::RowRules::items_of_row))]
 fn index_in(alloc: Global, value: &Value, part: &Value) -> Result<Option<Value>, OutOfMemory>
     ensures { IfOk result (λ index. option_map json index ≡ index_in (json value.now) (json part.now)) }
 {
@@ -157,7 +157,7 @@ fn last_in(alloc: Global, text: &Text, part: &Text) -> Result<Option<usize>, Out
     last_part(alloc, part.as_slice(), characters.as_slice())
 }
 
-#[tactic(auto, using(function_numbers::proofs::RowLemmas::items_of_row))]
+#[tactic(auto, using(crate::proofs::RowRules::items_of_row))]
 fn last_index_in(alloc: Global, value: &Value, part: &Value) -> Result<Option<Value>, OutOfMemory>
     ensures { IfOk result (λ index. option_map json index ≡ last_index_in (json value.now) (json part.now)) }
 {
@@ -189,7 +189,7 @@ fn text_has(alloc: Global, text: &Text, part: &Text) -> Result<bool, OutOfMemory
     Ok(first_part(alloc, part.as_slice(), characters.as_slice())?.is_some())
 }
 
-#[tactic(auto, using(function_numbers::proofs::RowLemmas::rows_and_pairs))]
+#[tactic(auto, using(crate::proofs::RowRules::rows_and_pairs))]
 fn has_part(alloc: Global, value: &Value, part: &Value) -> Result<Option<Value>, OutOfMemory>
     ensures { IfOk result (λ has. option_map json has ≡ has_part (json value.now) (json part.now)) }
 {

@@ -80,7 +80,7 @@ fn alone(alloc: Global, text: &Text) -> Result<Vec<Vec<char>>, OutOfMemory>
     Ok(all)
 }
 
-#[tactic(auto, using(function_numbers::proofs::RowLemmas::items_of_row))]
+#[tactic(auto, using(crate::proofs::RowRules::items_of_row))]
 fn delimiters(alloc: Global, value: &Value) -> Result<Option<Vec<Vec<char>>>, OutOfMemory>
     ensures { IfOk result (λ all. option_map (λ v. map (λ d. d.items) v.items) all ≡ delimiters (json value.now)) }
 {

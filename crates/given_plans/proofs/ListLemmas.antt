@@ -3,16 +3,13 @@ use Rattle.std.proofs.Common.{◌≡◌, ◌⊎◌, inl, inr, ℕ, ◌+◌, ◌�
 use Rattle.std.proofs.Common.{◌∷◌, ◌++◌, length, Some, refl, sym, ap, subst, ◌∙◌, arith}
 use Rattle.std.specs.Prelude.{slice_get}
 use Rattle.std.proofs.lemmas.Bool.{cases_eq}
-use Rattle.std.proofs.lemmas.Option.{slice_get_within}
+use Rattle.std.proofs.lemmas.Option.{slice_get_within, same_Some}
 use Rattle.plan_cells.specs.Plan.{Need, IsListed}
 use Rattle.plan_cells.specs.Tasks.{Task}
 use Rattle.deploy_histories.specs.Planned.{Planned}
 use Rattle.deploy_histories.specs.Readiness.{needs_first}
 use Rattle.deploy_core.specs.Opens.{AreStartNeeds}
 use Rattle.given_plans.specs.Listing.{AreListed}
-
-one_task : (a b : Task) → Some a ≡ Some b → a ≡ b
-one_task a b e = cc
 
 listed_before : (ns : List Need) (n m : Need) → IsListed n ns → IsListed n (ns ++ m ∷ [])
 listed_before [] n m l = absurd l
@@ -64,8 +61,8 @@ module _ (x : Planned) where
         same : (i j : ℕ) (s r : Task) → slice_get x.tasks i ≡ Some s → slice_get x.tasks j ≡ Some r
             → ◌≡◌ {A = Need} (u, v) (i, j) → needs_first x s r ≡ true
         same i j s r f g e =
-            let p : t ≡ s = one_task t s (sym it ∙ ap (λ (k : Need). slice_get x.tasks k.0) e ∙ f) in
-            let q : w ≡ r = one_task w r (sym iw ∙ ap (λ (k : Need). slice_get x.tasks k.1) e ∙ g) in
+            let p : t ≡ s = same_Some t s (sym it ∙ ap (λ (k : Need). slice_get x.tasks k.0) e ∙ f) in
+            let q : w ≡ r = same_Some w r (sym iw ∙ ap (λ (k : Need). slice_get x.tasks k.1) e ∙ g) in
             subst (λ (z : Task). needs_first x z r ≡ true) p (subst (λ (z : Task). needs_first x t z ≡ true) q n)
 
     pub pair_skipped : needs_first x t w ≡ false → AreListed x u (v + 1) ns
@@ -83,8 +80,8 @@ module _ (x : Planned) where
         same : (i j : ℕ) (s r : Task) → slice_get x.tasks i ≡ Some s → slice_get x.tasks j ≡ Some r → i ≡ u → j ≡ v
             → needs_first x s r ≡ false
         same i j s r f g e h =
-            let p : t ≡ s = one_task t s (sym it ∙ ap (λ (k : ℕ). slice_get x.tasks k) (sym e) ∙ f) in
-            let q : w ≡ r = one_task w r (sym iw ∙ ap (λ (k : ℕ). slice_get x.tasks k) (sym h) ∙ g) in
+            let p : t ≡ s = same_Some t s (sym it ∙ ap (λ (k : ℕ). slice_get x.tasks k) (sym e) ∙ f) in
+            let q : w ≡ r = same_Some w r (sym iw ∙ ap (λ (k : ℕ). slice_get x.tasks k) (sym h) ∙ g) in
             subst (λ (z : Task). needs_first x z r ≡ false) p (subst (λ (z : Task). needs_first x t z ≡ false) q n)
 
   -- all pairs of a task

@@ -4,7 +4,8 @@ use Rattle.std.proofs.Common.{Some, None, refl, sym, ap, subst, ◌∙◌, arith
 use Rattle.std.specs.Prelude.{slice_get, option_map, not, nat_eq, ◌&&◌, ◌||◌, if◌then◌else◌}
 use Rattle.std.proofs.lemmas.Bool.Decides.{nat_tests}
 use Rattle.std.proofs.lemmas.List.{map-append}
-use Rattle.std.proofs.lemmas.Option.{slice_get-map}
+use Rattle.std.proofs.lemmas.Option.{slice_get-map, same_Some}
+use Rattle.foundation.proofs.TruthValues.{and_false_is, and_true_is, or_false, or_true}
 use Rattle.arm_value.specs.Json.{Json}
 use Rattle.provider_trait.specs.declared.answer.Answer.{Answer}
 use Rattle.provider_trait.specs.declared.answer.Answer.TheVariants.{Stored, Gone, Refused}
@@ -28,29 +29,13 @@ use Rattle.given_plans.specs.Open.{is_open_status, is_open_now}
 
 -- ---- one event more
 
-and_false : (b : Bool) → (b && false) ≡ false
-and_false true = refl
-and_false false = refl
-
-and_true : (b : Bool) → (b && true) ≡ b
-and_true true = refl
-and_true false = refl
-
-or_true : (b : Bool) → (b || true) ≡ true
-or_true true = refl
-or_true false = refl
-
-or_false : (b : Bool) → (b || false) ≡ b
-or_false true = refl
-or_false false = refl
-
 pub shut : (was : Bool) (p : Progress) (u v : ℕ) (s : Status) → is_open_status s ≡ false → was ≡ is_open_now p v
     → (was && not (nat_eq v u)) ≡ is_open_status (changed u s p.status v)
 shut was p u v s e i = by (nat_eq v u)
   where
     by : (b : Bool) → (was && not b) ≡ is_open_status (if b then s else p.status v)
-    by true = and_false was ∙ sym e
-    by false = and_true was ∙ i
+    by true = and_false_is was ∙ sym e
+    by false = and_true_is was ∙ i
 
 pub opens : (was : Bool) (p : Progress) (u v worker : ℕ) (body : Json) → was ≡ is_open_now p v
     → (was || nat_eq v u) ≡ is_open_status (changed u (is_begun worker body) p.status v)
@@ -149,9 +134,6 @@ module _ (x : Planned) where
 
 -- ---- the acts of a plan that is given as tables are puts
 
-some_task : (a b : Task) → Some a ≡ Some b → a ≡ b
-some_task a b e = cc
-
 -- an answer to a put
 abbrev pub IsOfPut : Answer → Type 0
 IsOfPut (Stored j) = Unit {0}
@@ -163,12 +145,12 @@ module _ (g : GivenPlan) (u : ℕ) (t : Task) (i : slice_get (planned_of g).task
       → IsOfPut r → SuitsTask t r
   suits_by None e r f = let n : None ≡ Some t = sym e ∙ i in absurd (cc)
   suits_by (Some (given.Put k)) e (Stored j) f =
-      subst (λ (z : Task). SuitsTask z (Stored j)) (some_task _ t (sym e ∙ i)) tt
+      subst (λ (z : Task). SuitsTask z (Stored j)) (same_Some _ t (sym e ∙ i)) tt
   suits_by (Some (given.Put k)) e (Refused code) f =
-      subst (λ (z : Task). SuitsTask z (Refused code)) (some_task _ t (sym e ∙ i)) tt
+      subst (λ (z : Task). SuitsTask z (Refused code)) (same_Some _ t (sym e ∙ i)) tt
   suits_by (Some (given.Put k)) e Gone f = absurd f
-  suits_by (Some (given.Enter n)) e r f = absurd (subst IsAct (sym (some_task _ t (sym e ∙ i))) a)
-  suits_by (Some (given.Leave n)) e r f = absurd (subst IsAct (sym (some_task _ t (sym e ∙ i))) a)
+  suits_by (Some (given.Enter n)) e r f = absurd (subst IsAct (sym (same_Some _ t (sym e ∙ i))) a)
+  suits_by (Some (given.Leave n)) e r f = absurd (subst IsAct (sym (same_Some _ t (sym e ∙ i))) a)
 
   pub suits_put : (r : Answer) → IsOfPut r → SuitsTask t r
   suits_put r f = suits_by (slice_get g.tasks.items u) (slice_get-map task_of g.tasks.items u) r f

@@ -4,7 +4,7 @@ use Rattle.std.proofs.Common.{Some, None, length, refl, sym, ap, subst, ◌∙�
 use Rattle.std.specs.Prelude.{option_map, option_and_then, slice_get, Result, Ok, Err, IfOk}
 use Rattle.std.specs.declared.alloc.AllocError.{AllocError}
 use Rattle.std.proofs.lemmas.List.{length-map}
-use Rattle.std.proofs.lemmas.Option.{slice_get-map, slice_get_cases}
+use Rattle.std.proofs.lemmas.Option.{slice_get-map, slice_get_cases, same_Some}
 use Rattle.arm_value.specs.Json.{Json, object, no_pairs}
 use Rattle.arm_value.specs.View.{json}
 use Rattle.arm_value.specs.declared.value.Value.{Value}
@@ -41,12 +41,6 @@ use Rattle.given_plans.specs.declared.plan.GivenPlan.{GivenPlan}
 use Rattle.given_plans.specs.declared.plan.GivenTask.{GivenTask}
 use Rattle.given_plans.specs.declared.plan.GivenTask.TheVariants.{Enter, Put, Leave}
 
-some_task : (a b : Task) → Some a ≡ Some b → a ≡ b
-some_task a b e = cc
-
-some_tree : (a b : TemplateTree) → Some a ≡ Some b → a ≡ b
-some_tree a b e = cc
-
 -- ---- which tasks there are
 
 module _ (g : GivenPlan) where
@@ -81,9 +75,9 @@ module _ (g : GivenPlan) where
   aim_by u None e t i a = let f : None ≡ Some t = sym e ∙ i in absurd (cc)
   aim_by u (Some (Put i)) e t f a = ap (λ o. option_and_then (target (planned_of g)) o) e
   aim_by u (Some (Enter n)) e t f a =
-      absurd (subst IsAct (some_task t (enter (at_depth n)) (sym f ∙ e)) a)
+      absurd (subst IsAct (same_Some t (enter (at_depth n)) (sym f ∙ e)) a)
   aim_by u (Some (Leave n)) e t f a =
-      absurd (subst IsAct (some_task t (leave (at_depth n)) (sym f ∙ e)) a)
+      absurd (subst IsAct (same_Some t (leave (at_depth n)) (sym f ∙ e)) a)
 
   -- what a task that acts is for
   pub aim_is : (u : ℕ) (t : Task) → slice_get (planned_of g).tasks u ≡ Some t → IsAct t
@@ -121,7 +115,7 @@ module _ (g : GivenPlan) where
 
   pub no_outputs : (q : Position) (r : TemplateTree) → template_at (given_template g) q ≡ Some r → output_names r ≡ []
   unfolding template_at
-  no_outputs [] r e = ap output_names (sym (some_tree (given_template g) r e))
+  no_outputs [] r e = ap output_names (sym (same_Some (given_template g) r e))
   no_outputs (s ∷ p) r e = let f : None ≡ Some r = sym (no_template s p) ∙ e in absurd (cc)
 
   pub scope_seen : (t : Table) (u : ℕ) → IsScopeSeen (planned_of g) t u

@@ -5,6 +5,7 @@ use Rattle.std.proofs.Common.{length-set}
 use Rattle.std.proofs.lemmas.List.{length-map}
 use Rattle.std.proofs.lemmas.Option.{slice_get_within}
 use Rattle.std.specs.Prelude.{not, slice_get}
+use Rattle.foundation.proofs.TruthValues.{of_not, of_not_false}
 use Rattle.arm_value.specs.Json.{Json, null}
 use Rattle.plan_cells.specs.Known.{Table}
 use Rattle.plan_cells.specs.Tasks as task
@@ -50,14 +51,6 @@ leave_not u e = cc
 
 begin_not : (u w : ℕ) (b : Json) → begin u w b ≡ crash → ⊥
 begin_not u w b e = cc
-
-undone_false : (b : Bool) → not b ≡ true → b ≡ false
-undone_false true e = absurd (true≢false (sym e))
-undone_false false e = refl
-
-done_true : (b : Bool) → not b ≡ false → b ≡ true
-done_true true e = refl
-done_true false e = absurd (true≢false e)
 
 module _ (x : Planned) (p : Progress) (t : Table) (table : IsTableOf x p t) (none : NoneBegun p)
     (unrefused : p.refusal ≡ None) (nothing : NothingMay x p) where
@@ -196,13 +189,13 @@ module _ (x : Planned) (p : Progress) (t : Table) (table : IsTableOf x p t) (non
 
   by_first : (o : Option ℕ) → first_task undone_test x.tasks ≡ o → AnEnding
   by_first None e =
-      (succeeded, λ u k is. done_true (done_status (p.status u)) (none_is undone_test x.tasks e u k is))
+      (succeeded, λ u k is. of_not_false (done_status (p.status u)) (none_is undone_test x.tasks e u k is))
   by_first (Some u) e =
       let f = first_is undone_test x.tasks u e in
       from_task u (record {
         of = f.found;
         is_task = f.has;
-        is_undone = undone_false (done_status (p.status u)) f.passes;
+        is_undone = of_not (done_status (p.status u)) f.passes;
       })
 
   pub cause_of_nothing : AnEnding

@@ -5,10 +5,13 @@ use Rattle.std.specs.Prelude.{◌||◌, if◌then◌else◌}
 use Rattle.std.specs.List.{list_any}
 use Rattle.std.specs.List.Sorted.{IsStrictlySortedBy}
 use Rattle.std.proofs.lemmas.Slice.Eq.{bytes_eq-Decides}
+use Rattle.std.proofs.lemmas.Option.{none-some, same_Some}
+use Rattle.std.proofs.lemmas.Bool.{or_right}
+use Rattle.foundation.proofs.Words.{word_eq}
 use Rattle.arm_ids.specs.Id.{folded_text}
 use Rattle.arm_ids.specs.Held.{HeldResource, held_by, find, id_cmp, IsInOrder, AllAbove}
 use Rattle.arm_ids.specs.declared.id.ResourceId.{ResourceId}
-use Rattle.arm_ids.proofs.HeldLemmas.{id_exact, id_before, same_id, find_above, all_further}
+use Rattle.arm_ids.proofs.HeldLemmas.{id_exact, id_before, find_above, all_further}
 use Rattle.deploy_cells.specs.Cells.{state, World}
 use Rattle.deploy_cells.specs.Puts.{Kind, key_at}
 use Rattle.plan_cells.specs.Meaning.{Deployment}
@@ -24,22 +27,12 @@ use Rattle.history_holdings.proofs.Puts.{key_put}
 
 -- ---- lists in which the same is found are the same
 
-none_not : {A : Type 0} (a : A) → None ≡ Some a → ⊥
-none_not a e = cc
-
-same_of : {A : Type 0} (a b : A) → Some a ≡ Some b → a ≡ b
-same_of a b e = cc
-
-or_second : (c e : Bool) → e ≡ true → (c || e) ≡ true
-or_second true e f = refl
-or_second false e f = f
-
 first_found : (b : Bool) (r : HeldResource) (o : Option HeldResource) → b ≡ true → (if b then Some r else o) ≡ Some r
 first_found b r o e = ap (λ c. if c then Some r else o) e
 
 -- the first is found by its id
 head_found : (r : HeldResource) (rs : List HeldResource) (id : List ℕ) → id ≡ held_by r → find id (r ∷ rs) ≡ Some r
-head_found r rs id e = first_found (bytes_eq id (held_by r)) r (find id rs) (same_id id (held_by r) e)
+head_found r rs id e = first_found (bytes_eq id (held_by r)) r (find id rs) (word_eq id (held_by r) e)
 
 -- what is in order is above its first
 order_head : (s : HeldResource) (ss : List HeldResource) → IsInOrder (s ∷ ss) → AllAbove (held_by s) (map held_by ss)
@@ -81,8 +74,8 @@ rest_found r rs ss a b h id = by_id (bytes_eq id (held_by r)) refl
 pub same_lists : (rs ss : List HeldResource) → IsInOrder rs → IsInOrder ss
     → ((id : List ℕ) → find id rs ≡ find id ss) → rs ≡ ss
 same_lists [] [] a b h = refl
-same_lists [] (s ∷ ss) a b h = absurd (none_not s (h (held_by s) ∙ head_found s ss (held_by s) refl))
-same_lists (r ∷ rs) [] a b h = absurd (none_not r (sym (h (held_by r)) ∙ head_found r rs (held_by r) refl))
+same_lists [] (s ∷ ss) a b h = absurd (none-some s (h (held_by s) ∙ head_found s ss (held_by s) refl))
+same_lists (r ∷ rs) [] a b h = absurd (none-some r (sym (h (held_by r)) ∙ head_found r rs (held_by r) refl))
 same_lists (r ∷ rs) (s ∷ ss) a b h =
     by_order (id_cmp (held_by r) (held_by s)) refl (λ ts c g. same_lists rs ts (order_rest r rs a) c g)
   where
@@ -90,15 +83,15 @@ same_lists (r ∷ rs) (s ∷ ss) a b h =
         → ((ts : List HeldResource) → IsInOrder ts → ((id : List ℕ) → find id rs ≡ find id ts) → rs ≡ ts)
         → (r ∷ rs) ≡ (s ∷ ss)
     by_order Less e more =
-        absurd (none_not r (sym (below_none (held_by r) s ss e b)
+        absurd (none-some r (sym (below_none (held_by r) s ss e b)
         ∙ (sym (h (held_by r)) ∙ head_found r rs (held_by r) refl)))
     by_order Greater e more =
-        absurd (none_not s (sym (below_none (held_by s) r rs (id_before (held_by r) (held_by s) e) a)
+        absurd (none-some s (sym (below_none (held_by s) r rs (id_before (held_by r) (held_by s) e) a)
         ∙ (h (held_by s) ∙ head_found s ss (held_by s) refl)))
     by_order Equal e more =
         let i : held_by r ≡ held_by s = id_exact (held_by r) (held_by s) e in
         let one : r ≡ s
-        = same_of r s (sym (head_found r rs (held_by r) refl) ∙ (h (held_by r) ∙ head_found s ss (held_by r) i)) in
+        = same_Some r s (sym (head_found r rs (held_by r) refl) ∙ (h (held_by r) ∙ head_found s ss (held_by r) i)) in
         ap₂ (λ t ts. t ∷ ts) one
         (more ss (order_rest s ss b)
         (rest_found r rs ss a
@@ -135,7 +128,7 @@ module _ (x : Planned) (planned : IsPlanned x) (opening : IsOpening x) (w : Worl
   at_key id k [] h e = absurd h
   at_key id k (l ∷ ks) h e = elim h [
     | inl f ↦ ap (λ (c : Bool). c || list_any (is_at id) ks) (ap (is_at id) f ∙ e)
-    | inr m ↦ or_second (is_at id l) (list_any (is_at id) ks) (at_key id k ks m e)
+    | inr m ↦ or_right (is_at id l) (list_any (is_at id) ks) (at_key id k ks m e)
   ]
 
   of_put : (id : List ℕ) (k : ResourceId) → Has k x.keys → is_at id k ≡ true → find id a ≡ find id b

@@ -3,6 +3,7 @@ use Rattle.std.proofs.Common.{◌≡◌, inl, inr, ℕ, zero, suc, Bool, true, f
 use Rattle.std.proofs.Common.{refl, sym, ap, subst, ◌∙◌, bytes_eq}
 use Rattle.std.specs.Prelude.{slice_get, if◌then◌else◌}
 use Rattle.std.proofs.lemmas.Slice.Eq.{bytes_eq-Decides}
+use Rattle.std.proofs.lemmas.Option.{same_Some}
 use Rattle.arm_ids.specs.Id.{HasKey}
 use Rattle.arm_ids.specs.Held.{HeldResource, held_by, find, HaveKeys}
 use Rattle.arm_ids.specs.declared.id.Place.{Place}
@@ -14,12 +15,9 @@ use Rattle.plan_cells.proofs.ListLemmas.{has_joined, has_left, has_right}
 
 -- ---- what is found
 
-same_of : {A : Type 0} (a b : A) → Some a ≡ Some b → a ≡ b
-same_of a b e = cc
-
 found_if : (b : Bool) (id : List ℕ) (r h : HeldResource) (o : Option HeldResource) → bytes_eq id (held_by r) ≡ b
     → (if b then Some r else o) ≡ Some h → (o ≡ Some h → held_by h ≡ id) → held_by h ≡ id
-found_if true id r h o b e f = ap held_by (sym (same_of r h e)) ∙ sym ((bytes_eq-Decides id (held_by r)).0 b)
+found_if true id r h o b e f = ap held_by (sym (same_Some r h e)) ∙ sym ((bytes_eq-Decides id (held_by r)).0 b)
 found_if false id r h o b e f = f e
 
 -- what is found by an id is held by it
@@ -30,7 +28,7 @@ found_same id (r ∷ rs) h e =
 
 has_if : (b : Bool) (r h : HeldResource) (rs : List HeldResource) (o : Option HeldResource)
     → (if b then Some r else o) ≡ Some h → (o ≡ Some h → Has h rs) → Has h (r ∷ rs)
-has_if true r h rs o e f = inl (same_of r h e)
+has_if true r h rs o e f = inl (same_Some r h e)
 has_if false r h rs o e f = inr (f e)
 
 -- and is among what is held

@@ -3,11 +3,13 @@ use Rattle.std.proofs.Common.{◌≡◌, ◌⊎◌, inl, inr, ℕ, Bool, true, f
 use Rattle.std.proofs.Common.{refl, sym, ap, subst, ◌∙◌, bytes_eq}
 use Rattle.std.specs.Prelude.{if◌then◌else◌}
 use Rattle.std.proofs.lemmas.Slice.Eq.{bytes_eq-Decides}
+use Rattle.foundation.proofs.Words.{word_eq}
+use Rattle.foundation.proofs.Choices.{if_true}
 use Rattle.arm_value.specs.Json.{Json}
 use Rattle.arm_value.specs.Look.{fold}
 use Rattle.arm_ids.specs.Id.{HasKey}
 use Rattle.arm_ids.specs.Held.{HeldResource, find, IsInOrder, HaveKeys}
-use Rattle.arm_ids.proofs.HeldLemmas.{same_id, IsInOrder-put, IsInOrder-without, HaveKeys-put, HaveKeys-without}
+use Rattle.arm_ids.proofs.HeldLemmas.{IsInOrder-put, IsInOrder-without, HaveKeys-put, HaveKeys-without}
 use Rattle.arm_ids.proofs.HeldLemmas.{find-put, find-without}
 use Rattle.provider_trait.specs.declared.answer.Answer.{Answer}
 use Rattle.provider_trait.specs.declared.answer.Answer.TheVariants.{Stored, Gone, Refused}
@@ -110,14 +112,11 @@ found_still t v found None h e = e
 found_still t v found (Some f) h e =
     if_leaves (bytes_eq t f.id) f.now found v (λ b. h f refl (sym ((bytes_eq-Decides t f.id).0 b))) e
 
-if_reached : {A : Type 0} (b : Bool) (a f : A) → b ≡ true → (if b then a else f) ≡ a
-if_reached b a f e = ap (λ c. if c then a else f) e
-
 found_now : (t : List ℕ) (v found : Option HeldResource) (o : Option Effect) → Leaves t v o → Reaches t o
     → found_by t o found ≡ v
 found_now t v found o h r =
     ap (λ q. found_by t q found) r.1.0
-    ∙ (if_reached (bytes_eq t r.0.id) r.0.now found (same_id t r.0.id (sym r.1.1)) ∙ h r.0 r.1.0 r.1.1)
+    ∙ (if_true (bytes_eq t r.0.id) r.0.now found (word_eq t r.0.id (sym r.1.1)) ∙ h r.0 r.1.0 r.1.1)
 
 -- an answer with an effect at the id
 abbrev pub IsReached : Planned → List ℕ → List Noted → Type 0

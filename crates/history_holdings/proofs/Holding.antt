@@ -4,6 +4,7 @@ use Rattle.std.proofs.Common.{Some, None}
 use Rattle.std.proofs.Common.{refl, sym, ap, ap₂, subst, ◌∙◌}
 use Rattle.std.specs.Prelude.{not, option_and_then, slice_get, if◌then◌else◌}
 use Rattle.std.specs.List.{list_any}
+use Rattle.std.proofs.lemmas.Option.{none-some, same_Some}
 use Rattle.foundation.proofs.TruthValues.{both, and_true, of_not, unless}
 use Rattle.arm_value.specs.Json.{Json}
 use Rattle.arm_ids.specs.Id.{text_of, folded_text, HasKey, IsIdOf}
@@ -42,12 +43,6 @@ use Rattle.history_holdings.proofs.Deletes.{found_same, found_has, key_of_held, 
 use Rattle.history_holdings.proofs.Ended.{suited, gone_in}
 use Rattle.history_holdings.proofs.Puts.{put_id, one_resource, key_put, deletion_of, deletes_it}
 
-same_of : {A : Type 0} (a b : A) → Some a ≡ Some b → a ≡ b
-same_of a b e = cc
-
-none_not : {A : Type 0} (a : A) → None ≡ Some a → ⊥
-none_not a e = cc
-
 modes_differ : Incremental ≡ Complete → ⊥
 modes_differ e = cc
 
@@ -75,24 +70,24 @@ pub record IsGoneEffect (x : Planned) (e : Effect) : Type 0 where
   pub is : e ≡ gone_effect entry.id
 
 no_effect : (o : Option Target) (body : Json) (code : List ℕ) (e : Effect) → effect o body (Refused code) ≡ Some e → ⊥
-no_effect None body code e f = none_not e f
-no_effect (Some g) body code e f = none_not e f
+no_effect None body code e f = none-some e f
+no_effect (Some g) body code e f = none-some e f
 
 listed : (ts : List Task) (u : ℕ) (t : Task) → slice_get ts u ≡ Some t → Has t ts
-listed [] u t e = absurd (none_not t e)
-listed (s ∷ ts) zero t e = inl (same_of s t e)
+listed [] u t e = absurd (none-some t e)
+listed (s ∷ ts) zero t e = inl (same_Some s t e)
 listed (s ∷ ts) (suc u) t e = inr (listed ts u t e)
 
 by_entry : (x : Planned) (k : ResourceId) (body : Json) (e : Effect) → Has (task.delete k) x.tasks
     → (o : Option HeldResource) → find (folded_text k) x.held ≡ o → effect (delete_target o) body Gone ≡ Some e
     → IsGoneEffect x e
-by_entry x k body e h None f g = absurd (none_not e g)
+by_entry x k body e h None f g = absurd (none-some e g)
 by_entry x k body e h (Some r) f g = record {
   key = k;
   entry = r;
   is_task = h;
   is_found = f;
-  is = sym (same_of (gone_effect r.id) e g);
+  is = sym (same_Some (gone_effect r.id) e g);
 }
 
 by_task : (x : Planned) (t : Task) (body : Json) (e : Effect) → SuitsTask t Gone → Has t x.tasks
@@ -145,7 +140,7 @@ module _ (x : Planned) (planned : IsPlanned x) (opening : IsOpening x) (h : List
             is_put = q.is_put_as.is_put;
             has_body = q.is_put_as.has_body;
             has_state = q.is_put_as.has_state;
-            is = same_of e (put_effect (resource_put d.place q.is_put_as.kind q.is_put_as.title n.body q.stored))
+            is = same_Some e (put_effect (resource_put d.place q.is_put_as.kind q.is_put_as.title n.body q.stored))
                 (sym f ∙ stored_effect g.0 g.1.0 n q);
           })
       by_answer Gone a = inr (gone_effect_of n e i a f)
@@ -171,10 +166,10 @@ module _ (x : Planned) (planned : IsPlanned x) (opening : IsOpening x) (h : List
   puts_keys n i e r f g = elim (says n e i f) [
     | inl q ↦
         subst (λ (z : HeldResource). HasKey z.id)
-        (same_of (resource_put d.place q.kind q.title q.body q.stored) r
+        (same_Some (resource_put d.place q.kind q.title q.body q.stored) r
         (sym (ap (λ (c : Effect). c.now) q.is) ∙ g))
         (key_at d.place q.kind.type q.title, put_id x planned opening w sat q.at q.instance q.kind q.title q.is_put)
-    | inr c ↦ absurd (none_not r (sym (ap (λ (z : Effect). z.now) c.is) ∙ g))
+    | inr c ↦ absurd (none-some r (sym (ap (λ (z : Effect). z.now) c.is) ∙ g))
   ]
 
   not_deleted : (k : ResourceId) → list_any (same_id k) x.keys ≡ true → is_deleted d.place x.keys k ≡ true → ⊥

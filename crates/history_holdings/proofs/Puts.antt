@@ -2,6 +2,7 @@
 use Rattle.std.proofs.Common.{◌≡◌, inl, inr, ℕ, Bool, true, false, true≢false, List, [], ◌∷◌, Option, Some, None}
 use Rattle.std.proofs.Common.{refl, sym, ap, ap₂, subst, ◌∙◌}
 use Rattle.std.specs.Prelude.{is_some, option_map, if◌then◌else◌}
+use Rattle.std.proofs.lemmas.Option.{none-some, same_Some}
 use Rattle.arm_value.specs.Json.{Json, text}
 use Rattle.arm_ids.specs.Id.{is_whole, text_of, folded_text, IsIdOf}
 use Rattle.arm_ids.specs.Held.{HeldResource}
@@ -28,12 +29,6 @@ use Rattle.history_holdings.specs.Opening.{IsOpening}
 use Rattle.history_holdings.proofs.ReadingLemmas.{id_of_whole, one_key}
 use Rattle.history_holdings.proofs.Deletes.{IsDeletedOf, deleted_of, deletes_all}
 
-none_not : {A : Type 0} (a : A) → None ≡ Some a → ⊥
-none_not a e = cc
-
-same_of : {A : Type 0} (a b : A) → Some a ≡ Some b → a ≡ b
-same_of a b e = cc
-
 -- ---- names of which keys are formed
 
 module _ (d : Deployment) (held : List HeldResource) (w : World) (sat : Satisfies d held w) where
@@ -42,14 +37,14 @@ module _ (d : Deployment) (held : List HeldResource) (w : World) (sat : Satisfie
   met c j s e = by_admission (is_admitted w c) refl
     where
       by_raw : is_admitted w c ≡ true → (o : Option (Reads Json)) → raw d c ≡ o → rule d c j ≡ true
-      by_raw a None f = absurd (none_not j (sym (by_admitted d w sat.is_world c f s true a) ∙ e))
+      by_raw a None f = absurd (none-some j (sym (by_admitted d w sat.is_world c f s true a) ∙ e))
       by_raw a (Some r) f =
           let v = valued d w sat.is_world c s r f a in
-          subst (λ (i : Json). rule d c i ≡ true) (same_of v.value j (sym v.has ∙ e)) v.meets
+          subst (λ (i : Json). rule d c i ≡ true) (same_Some v.value j (sym v.has ∙ e)) v.meets
 
       by_admission : (b : Bool) → is_admitted w c ≡ b → rule d c j ≡ true
       by_admission true a = by_raw a (raw d c) refl
-      by_admission false a = absurd (none_not j (sym (not_admitted d w sat.is_world c a) ∙ e))
+      by_admission false a = absurd (none-some j (sym (not_admitted d w sat.is_world c a) ∙ e))
 
   formed : (b : Bool) (k : ResourceId) → is_some (if b then Some k else None) ≡ true → b ≡ true
   formed true k e = refl
@@ -59,7 +54,7 @@ module _ (d : Deployment) (held : List HeldResource) (w : World) (sat : Satisfie
       → is_whole (id_at d.place k.type n) ≡ true
   by_listed None k n e f = absurd (true≢false (sym e))
   by_listed (Some r) k n e f =
-      ap (λ (c : Kind). is_whole (id_at d.place c.type n)) (sym (same_of (kind_of r) k f))
+      ap (λ (c : Kind). is_whole (id_at d.place c.type n)) (sym (same_Some (kind_of r) k f))
       ∙ formed (is_whole (id_at d.place r.type n)) (key_at d.place r.type n) e
 
   -- the id of what is put is whole
@@ -96,9 +91,9 @@ module _ (x : Planned) (planned : IsPlanned x) (opening : IsOpening x) (w : Worl
       → resource_put d.place k m b u ≡ resource_put d.place l n c v
   one_instance p s k l m n b c u v i j f g e h =
       let o = one_kind x planned w sat.is_world p s k l m n i j in
-      let body : b ≡ c = same_of b c (sym f ∙ g) in
+      let body : b ≡ c = same_Some b c (sym f ∙ g) in
       let stored : u ≡ v
-      = same_of u v
+      = same_Some u v
       (sym e ∙ (ap₂ (λ (y : Kind) (t : List ℕ). w (state (key_at d.place y.type t))) o.0 o.1 ∙ h)) in
       λ z. resource_put d.place (o.0 z) (o.1 z) (body z) (stored z)
 
@@ -128,7 +123,7 @@ module _ (x : Planned) (planned : IsPlanned x) (opening : IsOpening x) (w : Worl
       (has_left (task.put g.at g.instance) ws.scopes (deletes_in x.mode d.place x.keys x.held) g.listed) in
       let q = put_is x planned w sat.is_world g.at g.instance among in
       let title : g.title ≡ text q.title
-      = same_of g.title (text q.title) (sym g.has_name ∙ q.is_put.is_included.has_name) in
+      = same_Some g.title (text q.title) (sym g.has_name ∙ q.is_put.is_included.has_name) in
       record {
         at = g.at;
         instance = g.instance;
@@ -136,7 +131,7 @@ module _ (x : Planned) (planned : IsPlanned x) (opening : IsOpening x) (w : Worl
         title = q.title;
         is_put = q.is_put;
         has_key =
-            same_of (key_at d.place q.kind.type q.title) k
+            same_Some (key_at d.place q.kind.type q.title) k
             (sym (ap (key_by d.place (kinds d g.at g.instance.resource)) title
             ∙ ap (λ (o : Option Kind). key_by d.place o (text q.title)) q.is_put.is_included.is_declared)
             ∙ g.is_key);

@@ -5,6 +5,7 @@ use Rattle.std.specs.Prelude.{codes, ◌==◌, nat_lt, option_map, if◌then◌e
 use Rattle.std.specs.List.{list_any}
 use Rattle.std.proofs.lemmas.Bool.{eqb-true}
 use Rattle.std.proofs.lemmas.List.{length-map, map-append}
+use Rattle.std.proofs.lemmas.Option.{same_Some}
 use Rattle.foundation.proofs.TruthValues.{both, of_not}
 use Rattle.arm_value.specs.Look.{fold, is_same_folded}
 use Rattle.arm_ids.specs.Segments.{segments, is_empty, firsts, seconds}
@@ -79,13 +80,10 @@ key_of_id t k h = sym (reading-fold t) ∙ reads_as_key t k h
 pub id_of_read : (t : List ℕ) (k : ResourceId) → id_key t ≡ Some k → IsIdOf t k
 id_of_read t k e = is_id_of t k (reading-fold t ∙ e)
 
-same_some : (k l : ResourceId) → Some k ≡ Some l → k ≡ l
-same_some k l e = cc
-
 -- keys whose texts are the same are the same
 pub one_key : (t s : List ℕ) (k l : ResourceId) → IsIdOf t k → IsIdOf s l → folded_text k ≡ folded_text l → k ≡ l
 one_key t s k l a b e =
-    same_some k l
+    same_Some k l
     (sym (reads_as_key t k a) ∙ (ap reading (a.spelled ∙ (e ∙ sym b.spelled)) ∙ reads_as_key s l b))
 
 -- ---- whole ids are ids of keys

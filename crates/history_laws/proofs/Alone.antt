@@ -4,15 +4,13 @@ use Rattle.arm_value.specs.Json.{Json}
 use Rattle.provider_trait.specs.declared.answer.Answer.{Answer}
 use Rattle.deploy_cells.specs.Cells.{Cell, World}
 use Rattle.deploy_cells.specs.Puts.{AreAllowed}
-use Rattle.plan_cells.specs.Meaning.{bodies}
-use Rattle.plan_cells.specs.Desired.{kinds, Satisfies}
+use Rattle.deploy_histories.specs.Meaning.{bodies}
+use Rattle.deploy_histories.specs.Desired.{kinds, Satisfies}
 use Rattle.deploy_histories.specs.Planned.{Planned, IsPlanned}
-use Rattle.deploy_histories.specs.Events.{Event, enter, begin, answer, back, leave, crash, Progress, after, at_opening}
-use Rattle.deploy_histories.specs.Events.{progress}
+use Rattle.deploy_histories.specs.Events.{Event, enter, begin, answer, back, leave, crash, Progress, after, at_opening, progress}
 use Rattle.deploy_histories.specs.Legal.{IsLegal, HasSucceeded}
 use Rattle.deploy_histories.specs.Answers.{answers_of}
-use Rattle.deploy_histories.specs.Outcome.{MayAnswer, Target, stores_by, target_of, IsGivenTo, IsGiven, AreGiven}
-use Rattle.deploy_histories.specs.Outcome.{BelongsTo}
+use Rattle.deploy_histories.specs.Outcome.{MayAnswer, Target, stores_by, target_of, IsGivenTo, IsGiven, AreGiven, BelongsTo}
 use Rattle.history_laws.specs.Past.{OneAnswer}
 use Rattle.history_laws.proofs.Keeping.{kept_always}
 use Rattle.history_laws.proofs.Way.{stored_so}

@@ -1,27 +1,27 @@
 -- A desired state that belongs to the answers of a history has the states that it has stored.
 use Rattle.std.proofs.Common.{◌≡◌, ◌⊎◌, inl, inr, ℕ, true, List, [], ◌∷◌, Some, None, refl, sym, ap, subst, ◌∙◌}
 use Rattle.std.specs.Prelude.{slice_get}
+use Rattle.std.proofs.lemmas.Option.{same_Some}
 use Rattle.arm_value.specs.Json.{Json}
 use Rattle.arm_ids.specs.declared.id.ResourceId.{ResourceId}
 use Rattle.provider_trait.specs.declared.answer.Answer.{Answer}
 use Rattle.provider_trait.specs.declared.answer.Answer.TheVariants.{Stored, Gone, Refused}
 use Rattle.deploy_cells.specs.Cells.{state, World}
 use Rattle.deploy_cells.specs.Puts.{key_at}
-use Rattle.plan_cells.specs.Desired.{Satisfies}
-use Rattle.plan_cells.specs.Start.{start_world}
-use Rattle.plan_cells.specs.Children.{Has}
-use Rattle.plan_cells.specs.Tasks as task
-use Rattle.plan_cells.specs.Tasks.{Task}
-use Rattle.plan_cells.specs.Reads.{key_in, is_state_at}
+use Rattle.deploy_histories.specs.Desired.{Satisfies}
+use Rattle.deploy_histories.specs.Start.{start_world}
+use Rattle.deploy_histories.specs.Children.{Has}
+use Rattle.deploy_histories.specs.Tasks as task
+use Rattle.deploy_histories.specs.Tasks.{Task}
+use Rattle.deploy_histories.specs.Reads.{key_in, is_state_at}
 use Rattle.deploy_histories.specs.Planned.{Planned, IsPlanned, puts_at}
-use Rattle.deploy_histories.specs.Events.{Event, enter, begin, answer, back, leave, crash, Status, is_waiting, is_begun}
-use Rattle.deploy_histories.specs.Events.{is_done, Progress, after, after_all, at_opening, progress}
+use Rattle.deploy_histories.specs.Events.{Event, enter, begin, answer, back, leave, crash, Status, is_waiting, is_begun, is_done, Progress, after, after_all, at_opening, progress}
 use Rattle.deploy_histories.specs.Answers.{Noted, noted, answers_from, answers_of}
 use Rattle.deploy_histories.specs.Outcome.{BelongsTo}
 use Rattle.history_laws.proofs.Steps.{IsChanged, at_changed}
 use Rattle.history_laws.proofs.Included.{start_so, key_at_start}
-use Rattle.history_laws.proofs.Way.{StoredIsSo, stored_by, key_of_state, some_key, stored_same}
-use Rattle.history_laws.proofs.Way.{change_less, not_none, not_waiting, not_begun, closed_less, done_same, some_task}
+use Rattle.history_laws.proofs.Way.{StoredIsSo, stored_by, key_of_state, stored_same}
+use Rattle.history_laws.proofs.Way.{change_less, not_none, not_waiting, not_begun, closed_less, done_same}
 
 -- an answer that stores the state for the task
 pub record IsStoredIn (answers : List Noted) (u : ℕ) (j : Json) : Type 0 where
@@ -110,13 +110,13 @@ module _ (x : Planned) (planned : IsPlanned x) (w : World) (sat : Satisfies x.de
       let a = i.1.1 in
       let q = a.is_put_as in
       let mine : s.task ≡ task.put i.0 i.1.0
-      = some_task s.task (task.put i.0 i.1.0)
+      = same_Some s.task (task.put i.0 i.1.0)
       (sym s.is_task ∙ (ap (slice_get x.tasks) (sym n.of) ∙ a.is_task)) in
       let at : is_state_at (key_in x.deployment (start_world x.known) i.0 i.1.0) (state k) ≡ true
       = subst (λ (t : Task). puts_at x k t ≡ true) mine s.puts in
       let l = key_of_state (key_in x.deployment (start_world x.known) i.0 i.1.0) k at in
       let here : key_at x.deployment.place q.kind.type q.title ≡ k
-      = some_key (key_at x.deployment.place q.kind.type q.title) l.0
+      = same_Some (key_at x.deployment.place q.kind.type q.title) l.0
       (sym (key_at_start x planned w (start_so x planned w sat.is_world) i.0 i.1.0 q.kind q.title q.is_put)
       ∙ l.1.0) ∙ l.1.1 in
       let same : a.stored ≡ j = stored_same a.stored j (sym a.is_stored ∙ n.stores) in

@@ -3,6 +3,8 @@ use Rattle.std.proofs.Common.{◌≡◌, inl, inr, ℕ, true, false, true≢fals
 use Rattle.std.proofs.Common.{Option, Some, None, refl, sym, ap, subst, ◌∙◌}
 use Rattle.std.specs.Prelude.{option_map, option_and_then, is_some}
 use Rattle.std.specs.List.{list_any}
+use Rattle.std.proofs.lemmas.Option.{same_Some}
+use Rattle.foundation.proofs.Options.{none_there}
 use Rattle.arm_value.specs.Json.{Json, null, bool, int, text, array, object}
 use Rattle.arm_ids.specs.Id.{text_of}
 use Rattle.arm_ids.specs.declared.id.Place.{Place}
@@ -17,22 +19,22 @@ use Rattle.deploy_cells.specs.Cells.{deployments, state, World}
 use Rattle.deploy_cells.specs.Guarded.{Reads, there_if, IsWorld}
 use Rattle.deploy_cells.specs.Puts.{Kind, IsPut, IsPutAt, body_in, id_at, key_at}
 use Rattle.deploy_cells.specs.Same.{same_id}
-use Rattle.plan_cells.specs.Resources.{Listed, nested_in}
-use Rattle.plan_cells.specs.Scopes.{resource_of}
-use Rattle.plan_cells.specs.Meaning.{Deployment, meaning}
-use Rattle.plan_cells.specs.Desired.{kind_of, kinds}
-use Rattle.plan_cells.specs.Known.{Access, by_others, entry_of, entry_by, entry_told}
-use Rattle.plan_cells.specs.Start as start
-use Rattle.plan_cells.specs.Start.{start_world, IsSo}
-use Rattle.plan_cells.specs.Children.{Has}
-use Rattle.plan_cells.specs.Reads.{key_in}
-use Rattle.plan_cells.specs.Tasks as task
-use Rattle.plan_cells.specs.Tasks.{Task, put, delete, template_tasks, key_by, put_keys, deletes_in, work_of, Work, work}
-use Rattle.plan_cells.specs.TaskOf.{IsResource, AreTasks}
-use Rattle.plan_cells.proofs.KnownLemmas.{completes, told_so}
-use Rattle.plan_cells.proofs.PlanLemmas.{true_at_start}
-use Rattle.plan_cells.proofs.TaskLemmas.{all_tasks}
-use Rattle.plan_cells.proofs.ListLemmas.{has_joined, has_left}
+use Rattle.deploy_histories.specs.Resources.{Listed, nested_in}
+use Rattle.deploy_histories.specs.Scopes.{resource_of}
+use Rattle.deploy_histories.specs.Meaning.{Deployment, meaning}
+use Rattle.deploy_histories.specs.Desired.{kind_of, kinds}
+use Rattle.deploy_histories.specs.Known.{Access, by_others, entry_of, entry_by, entry_told}
+use Rattle.deploy_histories.specs.Start as start
+use Rattle.deploy_histories.specs.Start.{start_world, IsSo}
+use Rattle.deploy_histories.specs.Children.{Has}
+use Rattle.deploy_histories.specs.Reads.{key_in}
+use Rattle.deploy_histories.specs.Tasks as task
+use Rattle.deploy_histories.specs.Tasks.{Task, put, delete, template_tasks, key_by, put_keys, deletes_in, work_of, Work, work}
+use Rattle.deploy_histories.specs.TaskOf.{IsResource, AreTasks}
+use Rattle.deploy_histories.proofs.KnownLemmas.{completes, told_so}
+use Rattle.deploy_histories.proofs.PlanLemmas.{true_at_start}
+use Rattle.deploy_histories.proofs.TaskLemmas.{all_tasks}
+use Rattle.deploy_histories.proofs.ListLemmas.{has_joined, has_left}
 use Rattle.deploy_histories.specs.Planned.{Planned, IsPlanned, is_asked_first}
 use Rattle.deploy_histories.specs.Outcome.{put_target, target}
 use Rattle.history_laws.proofs.Puts.{deletes_alone, HasKeyAt, key_listed, has_any}
@@ -43,9 +45,6 @@ pub record HasWork (x : Planned) (w : World) : Type 0 where
   pub are_tasks : AreTasks x.deployment w scopes
   pub has_keys : value_in w (put_keys x.deployment scopes) ≡ Some x.keys
   pub joined : x.tasks ≡ scopes ++ deletes_in x.mode x.deployment.place x.keys x.held
-
-same_work_is : (a b : Work) → Some a ≡ Some b → a ≡ b
-same_work_is a b e = cc
 
 module _ (x : Planned) (w : World) where
   abbrev d : Deployment
@@ -61,7 +60,7 @@ module _ (x : Planned) (w : World) where
   by_keys ts a None e f = let g : None ≡ Some the_work = f in absurd (cc)
   by_keys ts a (Some ks) e f =
       let g : work_of x.mode d.place x.held ts ks ≡ the_work
-      = same_work_is (work_of x.mode d.place x.held ts ks) the_work f in
+      = same_Some (work_of x.mode d.place x.held ts ks) the_work f in
       let k : ks ≡ x.keys = ap (λ (v : Work). v.keys) g in
       record {
         scopes = ts;
@@ -92,16 +91,6 @@ title_is place (Some q) (bool b) k e = let f : None ≡ Some k = e in absurd (cc
 title_is place (Some q) (int z) k e = let f : None ≡ Some k = e in absurd (cc)
 title_is place (Some q) (array js) k e = let f : None ≡ Some k = e in absurd (cc)
 title_is place (Some q) (object ms) k e = let f : None ≡ Some k = e in absurd (cc)
-
-same_key : (k l : ResourceId) → Some k ≡ Some l → k ≡ l
-same_key k l e = cc
-
-same_kind : (k l : Kind) → Some k ≡ Some l → k ≡ l
-same_kind k l e = cc
-
-none_nested : {A : Type 0} (o : Option A) → is_some o ≡ false → o ≡ None
-none_nested None e = refl
-none_nested (Some a) e = absurd (true≢false e)
 
 -- a put in a world: what is declared there, its name, and that its key is one of the plan's
 pub record IsPutOf (x : Planned) (w : World) (p : Position) (s : Step) : Type 0 where
@@ -143,7 +132,7 @@ module _ (x : Planned) (planned : IsPlanned x) (w : World) (world : IsWorld (mea
       let by_kind = ap (λ (o : Option Kind). key_by x.deployment.place o k.title) (sym declared) ∙ k.is_key in
       let t = title_is x.deployment.place (Some (kind_of r.listed)) k.title k.key by_kind in
       let is : key_at x.deployment.place (kind_of r.listed).type t.0 ≡ k.key
-      = same_key (key_at x.deployment.place (kind_of r.listed).type t.0) k.key
+      = same_Some (key_at x.deployment.place (kind_of r.listed).type t.0) k.key
       (ap (key_by x.deployment.place (Some (kind_of r.listed))) (sym t.1) ∙ by_kind) in
       record {
         kind = kind_of r.listed;
@@ -176,8 +165,8 @@ module _ (x : Planned) (planned : IsPlanned x) (w : World) (world : IsWorld (mea
     listed = r;
     is_listed = e;
     is_put =
-        none_nested (nested_in r.content)
-        (ap (λ (q : Kind). q.is_deployment) (same_kind (kind_of r) k f) ∙ i.is_resource);
+        none_there (nested_in r.content)
+        (ap (λ (q : Kind). q.is_deployment) (same_Some (kind_of r) k f) ∙ i.is_resource);
     is_included = i.is_included.has_condition;
   }
 
@@ -197,7 +186,7 @@ module _ (x : Planned) (planned : IsPlanned x) (w : World) (world : IsWorld (mea
   pub one_kind : (p : Position) (s : Step) (k l : Kind) (m n : List ℕ) → IsPut (kinds x.deployment) w p s k m
       → IsPut (kinds x.deployment) w p s l n → (k ≡ l) × (m ≡ n)
   one_kind p s k l m n a b = (
-    same_kind k l (sym a.is_included.is_declared ∙ b.is_included.is_declared),
+    same_Some k l (sym a.is_included.is_declared ∙ b.is_included.is_declared),
     same_title m n (sym a.is_included.has_name ∙ b.is_included.has_name),
   )
 

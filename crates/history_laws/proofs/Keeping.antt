@@ -1,25 +1,19 @@
 -- What each event keeps: tasks that are begun or done were ready.
 use Rattle.std.proofs.Common.{◌≡◌, inl, inr, ℕ, List, [], ◌∷◌, Option, Some, None, refl, sym, subst, ◌∙◌}
 use Rattle.std.specs.Prelude.{slice_get, option_and_then}
+use Rattle.std.proofs.lemmas.Option.{same_Some}
 use Rattle.arm_value.specs.Json.{Json, null}
 use Rattle.provider_trait.specs.declared.answer.Answer.{Answer}
 use Rattle.provider_trait.specs.declared.answer.Answer.TheVariants.{Stored, Gone, Refused}
-use Rattle.plan_cells.specs.Tasks as task
-use Rattle.plan_cells.specs.Tasks.{Task}
+use Rattle.deploy_histories.specs.Tasks as task
+use Rattle.deploy_histories.specs.Tasks.{Task}
 use Rattle.deploy_histories.specs.Planned.{Planned}
-use Rattle.deploy_histories.specs.Events.{Event, enter, begin, answer, back, leave, crash, Status, is_waiting}
-use Rattle.deploy_histories.specs.Events.{is_begun}
-use Rattle.deploy_histories.specs.Events.{is_done, Progress, changed, after_answer, closed, after, after_all}
-use Rattle.deploy_histories.specs.Events.{at_opening}
-use Rattle.deploy_histories.specs.Events.{progress}
+use Rattle.deploy_histories.specs.Events.{Event, enter, begin, answer, back, leave, crash, Status, is_waiting, is_begun, is_done, Progress, changed, after_answer, closed, after, after_all, at_opening, progress}
 use Rattle.deploy_histories.specs.Legal.{IsAct, SuitsTask, May, MayStart, MayEnd, IsLegalFrom, IsLegal}
 use Rattle.deploy_histories.specs.Outcome.{MayAnswer, IsGivenTo, target, target_of, IsGiven, AreGiven}
 use Rattle.deploy_histories.proofs.ReadinessLemmas.{ready_says}
 use Rattle.history_laws.specs.Past.{StaysDone, WasReady, IsLeft, IsBegunAs, IsDoneAs, IsKept}
 use Rattle.history_laws.proofs.Steps.{at_changed, change_stays, start_waits, waiting_not, begun_not, closed_done}
-
-some_task : (s t : Task) → Some s ≡ Some t → s ≡ t
-some_task s t e = cc
 
 some_left : (a b : Option Json) → is_done a ≡ is_done b → a ≡ b
 some_left a b e = cc
@@ -161,7 +155,7 @@ module _ (may : MayAnswer) (x : Planned) where
       → IsKept may x p.status → IsKept may x (after_answer u a p).status
   kept_answer p u (Stored j) m g k =
       let h = m.is_begun in let b = k.begun u h.0 h.1.0 h.1.1 in
-      let same = some_task m.ended b.task (sym m.is_task ∙ b.is_task) in
+      let same = same_Some m.ended b.task (sym m.is_task ∙ b.is_task) in
       kept_done u (Some j) p.status (begun_not p.status u h.0 h.1.0 h.1.1)
       (record {
         task = b.task;
@@ -174,7 +168,7 @@ module _ (may : MayAnswer) (x : Planned) where
       }) k
   kept_answer p u Gone m g k =
       let h = m.is_begun in let b = k.begun u h.0 h.1.0 h.1.1 in
-      let same = some_task m.ended b.task (sym m.is_task ∙ b.is_task) in
+      let same = same_Some m.ended b.task (sym m.is_task ∙ b.is_task) in
       kept_done u None p.status (begun_not p.status u h.0 h.1.0 h.1.1)
       (record {
         task = b.task;

@@ -7,3 +7,4 @@ pub mod ReadingOnly
 pub mod OneWorld
 pub mod Belonging
 pub mod Alone
+pub use Rattle.deploy_histories.proofs.ReadinessLemmas

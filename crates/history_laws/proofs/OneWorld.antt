@@ -3,6 +3,8 @@ use Rattle.std.proofs.Common.{◌≡◌, inl, inr, ℕ, zero, suc, Bool, true, f
 use Rattle.std.proofs.Common.{Option, Some, None, refl, sym, ap, subst, ◌∙◌}
 use Rattle.std.specs.Prelude.{slice_get, option_map, option_and_then, bytes_eq, if◌then◌else◌}
 use Rattle.std.specs.List.{list_any}
+use Rattle.std.proofs.lemmas.Option.{same_Some}
+use Rattle.deploy_histories.proofs.TaskLemmas.{some_true}
 use Rattle.arm_value.specs.Json.{Json, null, bool, int, text, array, object}
 use Rattle.arm_value.specs.Kinds.{is_true}
 use Rattle.arm_value.specs.Look.{fold}
@@ -23,28 +25,26 @@ use Rattle.deploy_cells.specs.Puts.{IsPutAt}
 use Rattle.deploy_cells.specs.Same.{same_id}
 use Rattle.deploy_cells.proofs.CellLemmas.{guarded_value}
 use Rattle.deploy_cells.proofs.SameLemmas.{id_same}
-use Rattle.plan_cells.specs.Resources.{Nested, nested_numbers, header_in}
-use Rattle.plan_cells.specs.Scopes.{template_at, nested_of}
-use Rattle.plan_cells.specs.Sites.{first_with, parameter_named, variable_named, output_named}
-use Rattle.plan_cells.specs.Meaning.{Deployment, raw, rule, ruled, plain, meaning, is_own, of_scope, parameter_value}
-use Rattle.plan_cells.specs.Meaning.{variable_value, offered_value, output_value, if_meets}
+use Rattle.deploy_histories.specs.Resources.{Nested, nested_numbers, header_in}
+use Rattle.deploy_histories.specs.Scopes.{template_at, nested_of}
+use Rattle.deploy_histories.specs.Sites.{first_with, parameter_named, variable_named, output_named}
+use Rattle.deploy_histories.specs.Meaning.{Deployment, raw, rule, ruled, plain, meaning, is_own, of_scope, parameter_value, variable_value, offered_value, output_value, if_meets}
 use Rattle.deploy_cells.specs.Listing.{listing_value}
-use Rattle.plan_cells.specs.Desired.{kinds, Satisfies, is_state}
-use Rattle.plan_cells.specs.Children.{Has, parameter_names, variable_names, output_names, own_cells}
-use Rattle.plan_cells.specs.Known.{Table}
-use Rattle.plan_cells.specs.Start.{start_world}
-use Rattle.plan_cells.specs.Tasks.{Task, enter, leave, put, key_by, deletes_in}
-use Rattle.plan_cells.specs.TaskOf.{IsScope, IsTask}
-use Rattle.plan_cells.specs.Reads.{of_template, entry_cells, key_in, is_state_at}
-use Rattle.plan_cells.proofs.DesiredLemmas.{by_admitted}
-use Rattle.plan_cells.proofs.KnownLemmas.{told_so}
-use Rattle.plan_cells.proofs.ListLemmas.{has_left, has_right, has_map}
+use Rattle.deploy_histories.specs.Desired.{kinds, Satisfies, is_state}
+use Rattle.deploy_histories.specs.Children.{Has, parameter_names, variable_names, output_names, own_cells}
+use Rattle.deploy_histories.specs.Known.{Table}
+use Rattle.deploy_histories.specs.Start.{start_world}
+use Rattle.deploy_histories.specs.Tasks.{Task, enter, leave, put, key_by, deletes_in}
+use Rattle.deploy_histories.specs.TaskOf.{IsScope, IsTask}
+use Rattle.deploy_histories.specs.Reads.{of_template, entry_cells, key_in, is_state_at}
+use Rattle.deploy_histories.proofs.DesiredLemmas.{by_admitted}
+use Rattle.deploy_histories.proofs.KnownLemmas.{told_so}
+use Rattle.deploy_histories.proofs.ListLemmas.{has_left, has_right, has_map}
 use Rattle.deploy_histories.specs.Planned.{Planned, IsPlanned, is_asked_first, puts_at, putter}
 use Rattle.deploy_histories.specs.Points.{point}
 use Rattle.deploy_histories.proofs.ReadinessLemmas.{first_is, none_is}
 use Rattle.deploy_histories.specs.Events.{Progress, is_done}
-use Rattle.deploy_histories.specs.Values.{demanded, where_offered, entry_value}
-use Rattle.deploy_histories.specs.Values.{leave_value, outputs_of}
+use Rattle.deploy_histories.specs.Values.{demanded, where_offered, entry_value, leave_value, outputs_of}
 use Rattle.deploy_histories.specs.Legal.{AllDone}
 use Rattle.deploy_histories.specs.Outcome.{MayAnswer}
 use Rattle.history_laws.specs.Past.{WasReady, IsLeft, IsKept}
@@ -55,9 +55,6 @@ use Rattle.history_laws.proofs.Way.{StoredIsSo, known_so, earlier_so, so_value, 
 use Rattle.history_laws.proofs.Way.{still_stored}
 use Rattle.history_laws.proofs.ReadingOnly.{AsksFirst, continued_first, same_first, listing_first}
 
-no_value_twice : {A : Type 0} (a b : A) → Some a ≡ Some b → a ≡ b
-no_value_twice a b e = cc
-
 -- ---- what is declared
 
 pub first_has : {A : Type 0} (test : A → Bool) (xs : List A) (a : A) → first_with test xs ≡ Some a
@@ -67,7 +64,7 @@ first_has test (x ∷ xs) a e = by_test (test x) refl e (λ f. first_has test xs
   where
     by_test : (b : Bool) → test x ≡ b → (if b then Some x else first_with test xs) ≡ Some a
         → (first_with test xs ≡ Some a → Has a xs × (test a ≡ true)) → Has a (x ∷ xs) × (test a ≡ true)
-    by_test true t f more = let g = no_value_twice x a f in (inl g, ap test (sym g) ∙ t)
+    by_test true t f more = let g = same_Some x a f in (inl g, ap test (sym g) ∙ t)
     by_test false t f more = let h = more f in (inr h.0, h.1)
 
 pub named_parameter : (t : TemplateTree) (x : List ℕ) (q : Parameter) → parameter_named x t ≡ Some q
@@ -138,10 +135,6 @@ true_is (text t) e = absurd (true≢false (sym e))
 true_is (array js) e = absurd (true≢false (sym e))
 true_is (object ms) e = absurd (true≢false (sym e))
 
-pub some_true : (o : Option Json) → is_true o ≡ true → o ≡ Some (bool true)
-some_true None e = absurd (true≢false (sym e))
-some_true (Some j) e = ap Some (true_is j e)
-
 -- ---- two worlds
 
 module _ (may : MayAnswer) (x : Planned) (planned : IsPlanned x) (p : Progress) (kept : IsKept may x p.status)
@@ -172,8 +165,8 @@ module _ (may : MayAnswer) (x : Planned) (planned : IsPlanned x) (p : Progress) 
 
   same_by : (c : Cell) (b : Bool) → is_admitted w c ≡ b → is_admitted v c ≡ b
       → (b ≡ true → value_in w (plain d c) ≡ value_in v (plain d c)) → w c ≡ v c
-  same_by c true e f h = no_value_twice (w c) (v c) (sym (world_is w sat c true e) ∙ (h refl ∙ world_is v vat c true f))
-  same_by c false e f h = no_value_twice (w c) (v c) (sym (world_is w sat c false e) ∙ world_is v vat c false f)
+  same_by c true e f h = same_Some (w c) (v c) (sym (world_is w sat c true e) ∙ (h refl ∙ world_is v vat c true f))
+  same_by c false e f h = same_Some (w c) (v c) (sym (world_is w sat c false e) ∙ world_is v vat c false f)
 
   same_value : (c : Cell) → ((e : Cell) → parent c ≡ Some e → w e ≡ v e)
       → (is_admitted w c ≡ true → value_in w (plain d c) ≡ value_in v (plain d c)) → w c ≡ v c
@@ -182,7 +175,7 @@ module _ (may : MayAnswer) (x : Planned) (planned : IsPlanned x) (p : Progress) 
   opener_first : (q : Position) (e : Cell) → opener q ≡ Some e → is_asked_first e ≡ true
   opener_first [] e f = let g : None ≡ Some e = f in absurd (cc)
   opener_first (s ∷ q) e f =
-      subst (λ (c : Cell). is_asked_first c ≡ true) (no_value_twice (included q s) e f) refl
+      subst (λ (c : Cell). is_asked_first c ≡ true) (same_Some (included q s) e f) refl
 
   opener_same : (q : Position) (e : Cell) → opener q ≡ Some e → w e ≡ v e
   opener_same q e f = first_same e (opener_first q e f)
@@ -226,7 +219,7 @@ module _ (may : MayAnswer) (x : Planned) (planned : IsPlanned x) (p : Progress) 
         body = k.body;
         was_ready =
             subst (λ (s : Task). WasReady x p.status n.0 s k.body)
-            (no_value_twice k.task t (sym k.is_task ∙ n.1)) k.was_ready;
+            (same_Some k.task t (sym k.is_task ∙ n.1)) k.was_ready;
       }
 
   scope_task : (t : Task) → IsTask d w t → Has t x.tasks
@@ -367,7 +360,7 @@ module _ (may : MayAnswer) (x : Planned) (planned : IsPlanned x) (p : Progress) 
       → told k.was_ready.known (plain d (offered q y)) ≡ value c → is_admitted w (offered q y) ≡ true
       → w (offered q y) ≡ c
   condition_is q y k c e a =
-      no_value_twice (w (offered q y)) c
+      same_Some (w (offered q y)) c
       (sym (world_is w sat (offered q y) true a) ∙ told_first (leave q) k (plain d (offered q y)) c e)
 
   not_admitted_false : (q : Position) (y : List ℕ) (b : Bool) → is_admitted w (offered q y) ≡ b
@@ -375,13 +368,13 @@ module _ (may : MayAnswer) (x : Planned) (planned : IsPlanned x) (p : Progress) 
   not_admitted_false q y true e t = e
   not_admitted_false q y false e t =
       absurd (true≢false (sym t
-      ∙ ap is_true (no_value_twice (w (offered q y)) None (sym (world_is w sat (offered q y) false e)))))
+      ∙ ap is_true (same_Some (w (offered q y)) None (sym (world_is w sat (offered q y) false e)))))
 
   output_listed : (q : Position) (t : TemplateTree) (y : List ℕ) → template_at d.template q ≡ Some t
       → Has y (output_names t) → w (output q y) ≡ v (output q y)
   output_listed q t y at listed =
       same_value (output q y)
-      (λ e f. subst (λ (c : Cell). w c ≡ v c) (no_value_twice (offered q y) e f) (offered_listed q t y at listed))
+      (λ e f. subst (λ (c : Cell). w c ≡ v c) (same_Some (offered q y) e f) (offered_listed q t y at listed))
       (λ a. by_condition a (not_admitted_false q y (is_admitted w (offered q y)) refl a))
     where
       by_condition : is_true (w (offered q y)) ≡ true → is_admitted w (offered q y) ≡ true
@@ -474,7 +467,7 @@ module _ (may : MayAnswer) (x : Planned) (planned : IsPlanned x) (p : Progress) 
       let o = done_of (p.status u) (all u f.found f.has) in
       let z = kept.done u o.0 o.1 in
       let q = put_with x k f.found f.passes in
-      let is : z.task ≡ put q.at q.instance = no_value_twice z.task f.found (sym z.is_task ∙ f.has) ∙ q.is in
+      let is : z.task ≡ put q.at q.instance = same_Some z.task f.found (sym z.is_task ∙ f.has) ∙ q.is in
       let left = subst (λ (t : Task). IsLeft may x t z.body o.0) is z.is_left in
       (left.0, still_stored x p.status k u left.0 e (o.1 ∙ ap is_done left.1.0))
 

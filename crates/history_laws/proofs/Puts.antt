@@ -3,6 +3,8 @@ use Rattle.std.proofs.Common.{◌≡◌, inl, inr, ℕ, zero, suc, Bool, true, f
 use Rattle.std.proofs.Common.{Option, Some, None, refl, sym, ap, subst, ◌∙◌}
 use Rattle.std.specs.Prelude.{◌||◌, slice_get, option_and_then, if◌then◌else◌}
 use Rattle.std.specs.List.{list_any}
+use Rattle.std.proofs.lemmas.Option.{same_Some}
+use Rattle.std.proofs.lemmas.Bool.{or_right}
 use Rattle.arm_value.specs.Json.{Json}
 use Rattle.arm_ids.specs.Held.{HeldResource}
 use Rattle.arm_ids.specs.declared.id.Place.{Place}
@@ -17,12 +19,11 @@ use Rattle.deploy_cells.specs.Cells.{Step, Position, Cell, name}
 use Rattle.deploy_cells.specs.Cells.{World}
 use Rattle.deploy_cells.specs.Same.{same_id}
 use Rattle.deploy_cells.proofs.SameLemmas.{id_is, id_same}
-use Rattle.plan_cells.specs.Desired.{kinds}
-use Rattle.plan_cells.specs.Meaning.{Deployment}
-use Rattle.plan_cells.specs.Children.{Has}
-use Rattle.plan_cells.specs.Tasks.{Task, enter, leave, put, delete, key_by, put_keys, is_deleted}
-use Rattle.plan_cells.specs.Tasks.{delete_by, deletes, deletes_in}
-use Rattle.plan_cells.proofs.ListLemmas.{has_joined}
+use Rattle.deploy_histories.specs.Desired.{kinds}
+use Rattle.deploy_histories.specs.Meaning.{Deployment}
+use Rattle.deploy_histories.specs.Children.{Has}
+use Rattle.deploy_histories.specs.Tasks.{Task, enter, leave, put, delete, key_by, put_keys, is_deleted, delete_by, deletes, deletes_in}
+use Rattle.deploy_histories.proofs.ListLemmas.{has_joined}
 
 pub listed_task : (ts : List Task) (u : ℕ) (t : Task) → slice_get ts u ≡ Some t → Has t ts
 listed_task [] u t e = let f : None ≡ Some t = e in absurd (cc)
@@ -77,9 +78,6 @@ key_further d w p s k ks h = record {
   listed = inr h.listed;
 }
 
-same_list : {A : Type 0} (a b : A) → Some a ≡ Some b → a ≡ b
-same_list a b e = cc
-
 module _ (d : Deployment) (w : World) where
   abbrev after_key : List Task → ResourceId → Reading Cell Json (List ResourceId)
   after_key ts k = continued (put_keys d ts) (λ ks. pure (k ∷ ks))
@@ -88,14 +86,14 @@ module _ (d : Deployment) (w : World) where
   after_name p s ts j = continued (done (key_by d.place (kinds d p s.resource) j)) (after_key ts)
 
   -- what the first put says, and what the others say
-  record FirstKey (p : Position) (s : Step) (ts : List Task) (ks : List ResourceId) : Type 0 where
-    title : Json
-    key : ResourceId
-    more : List ResourceId
-    has_name : w (name p s) ≡ Some title
-    is_key : key_by d.place (kinds d p s.resource) title ≡ Some key
-    is : ks ≡ key ∷ more
-    others : value_in w (put_keys d ts) ≡ Some more
+  pub record FirstKey (p : Position) (s : Step) (ts : List Task) (ks : List ResourceId) : Type 0 where
+    pub title : Json
+    pub key : ResourceId
+    pub more : List ResourceId
+    pub has_name : w (name p s) ≡ Some title
+    pub is_key : key_by d.place (kinds d p s.resource) title ≡ Some key
+    pub is : ks ≡ key ∷ more
+    pub others : value_in w (put_keys d ts) ≡ Some more
 
   by_more : (p : Position) (s : Step) (ts : List Task) (ks : List ResourceId) (j : Json) (k : ResourceId)
       → w (name p s) ≡ Some j → key_by d.place (kinds d p s.resource) j ≡ Some k → (o : Option (List ResourceId))
@@ -109,7 +107,7 @@ module _ (d : Deployment) (w : World) where
     more = xs;
     has_name = a;
     is_key = b;
-    is = sym (same_list (k ∷ xs) ks e);
+    is = sym (same_Some (k ∷ xs) ks e);
     others = c;
   }
 
@@ -130,7 +128,7 @@ module _ (d : Deployment) (w : World) where
   by_name p s ts ks (Some j) a e =
       by_key p s ts ks j a (key_by d.place (kinds d p s.resource) j) refl e
 
-  first_key : (p : Position) (s : Step) (ts : List Task) (ks : List ResourceId)
+  pub first_key : (p : Position) (s : Step) (ts : List Task) (ks : List ResourceId)
       → value_in w (put_keys d (put p s ∷ ts)) ≡ Some ks → FirstKey p s ts ks
   unfolding value_in continued
   first_key p s ts ks e = by_name p s ts ks (w (name p s)) refl e
@@ -181,10 +179,6 @@ has_any k (l ∷ ks) h = elim h [
       (subst (λ (i : ResourceId). same_id k i ≡ true) (sym e) (id_same k))
   | inr i ↦ or_right (same_id k l) (list_any (same_id k) ks) (has_any k ks i)
 ]
-  where
-    or_right : (a b : Bool) → b ≡ true → (a || b) ≡ true
-    or_right true b e = refl
-    or_right false b e = e
 
 -- a put that has the key
 pub record IsKeyOf (d : Deployment) (w : World) (k : ResourceId) (ts : List Task) : Type 0 where
@@ -209,7 +203,7 @@ module _ (d : Deployment) (w : World) (k : ResourceId) where
   pub key_has_put : (ts : List Task) (ks : List ResourceId) → value_in w (put_keys d ts) ≡ Some ks → Has k ks
       → IsKeyOf d w k ts
   unfolding value_in
-  key_has_put [] ks e h = absurd (subst (Has k) (sym (same_list [] ks e)) h)
+  key_has_put [] ks e h = absurd (subst (Has k) (sym (same_Some [] ks e)) h)
   key_has_put (enter q ∷ ts) ks e h = key_later (enter q) ts (key_has_put ts ks e h)
   key_has_put (leave q ∷ ts) ks e h = key_later (leave q) ts (key_has_put ts ks e h)
   key_has_put (delete l ∷ ts) ks e h = key_later (delete l) ts (key_has_put ts ks e h)

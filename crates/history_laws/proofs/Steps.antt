@@ -2,35 +2,28 @@
 use Rattle.std.proofs.Common.{◌≡◌, ◌⊎◌, inl, inr, ℕ, Bool, true, false, true≢false, List, [], ◌∷◌, Option, Some, None}
 use Rattle.std.proofs.Common.{refl, sym, ap, ◌∙◌, arith}
 use Rattle.std.specs.Prelude.{nat_eq, option_and_then, if◌then◌else◌}
+use Rattle.foundation.proofs.Comparisons.{eq_itself, eq_of_true}
 use Rattle.arm_value.specs.Json.{Json, null}
 use Rattle.provider_trait.specs.declared.answer.Answer.{Answer}
 use Rattle.provider_trait.specs.declared.answer.Answer.TheVariants.{Stored, Gone, Refused}
-use Rattle.plan_cells.specs.Start.{IsLater}
-use Rattle.plan_cells.specs.Tasks.{Task}
+use Rattle.deploy_histories.specs.Start.{IsLater}
+use Rattle.deploy_histories.specs.Tasks.{Task}
 use Rattle.deploy_histories.specs.Planned.{Planned, putter, leaver}
-use Rattle.deploy_histories.specs.Events.{Event, enter, begin, answer, back, leave, crash, Status, is_waiting, is_begun}
-use Rattle.deploy_histories.specs.Events.{is_done, Progress, changed, after_answer, closed, after}
-use Rattle.deploy_histories.specs.Events.{after_all, done_status, state_in}
+use Rattle.deploy_histories.specs.Events.{Event, enter, begin, answer, back, leave, crash, Status, is_waiting, is_begun, is_done, Progress, changed, after_answer, closed, after, after_all, done_status, state_in}
 use Rattle.deploy_histories.specs.Points.{point, is_done_at}
 use Rattle.deploy_histories.specs.Legal.{May, MayStart, IsLegalFrom}
 use Rattle.deploy_histories.proofs.ReadinessLemmas.{ready_says}
 use Rattle.history_laws.specs.Past.{StaysDone}
-
-number_is : (a b : ℕ) → nat_eq a b ≡ true → a ≡ b
-number_is a b e = grind (arith)
-
-number_same : (a : ℕ) → nat_eq a a ≡ true
-number_same a = grind (arith)
 
 -- the status of one task after a change of another's, or of its own
 abbrev pub IsChanged : ℕ → Status → (ℕ → Status) → ℕ → Type 0
 IsChanged u s f v = ((v ≡ u) × (changed u s f v ≡ s)) ⊎ (((v ≡ u) → ⊥) × (changed u s f v ≡ f v))
 
 changed_by : (u : ℕ) (s : Status) (f : ℕ → Status) (v : ℕ) (b : Bool) → nat_eq v u ≡ b → IsChanged u s f v
-changed_by u s f v true e = inl (number_is v u e, ap (λ (b : Bool). if b then s else f v) e)
+changed_by u s f v true e = inl (eq_of_true v u e, ap (λ (b : Bool). if b then s else f v) e)
 changed_by u s f v false e =
     inr (
-      (λ h. true≢false (sym (ap (λ (n : ℕ). nat_eq n u) h ∙ number_same u) ∙ e)),
+      (λ h. true≢false (sym (ap (λ (n : ℕ). nat_eq n u) h ∙ eq_itself u) ∙ e)),
       ap (λ (b : Bool). if b then s else f v) e,
     )
 
@@ -38,7 +31,7 @@ pub at_changed : (u : ℕ) (s : Status) (f : ℕ → Status) (v : ℕ) → IsCha
 at_changed u s f v = changed_by u s f v (nat_eq v u) refl
 
 pub at_itself : (u : ℕ) (s : Status) (f : ℕ → Status) → changed u s f u ≡ s
-at_itself u s f = ap (λ (b : Bool). if b then s else f u) (number_same u)
+at_itself u s f = ap (λ (b : Bool). if b then s else f u) (eq_itself u)
 
 pub at_other : (u : ℕ) (s : Status) (f : ℕ → Status) (v : ℕ) → (v ≡ u → ⊥) → changed u s f v ≡ f v
 at_other u s f v n = elim (at_changed u s f v) [ inl h ↦ absurd (n h.0) | inr h ↦ h.1 ]

@@ -2,6 +2,7 @@
 use Rattle.std.proofs.Common.{◌≡◌, inl, inr, ℕ, true, true≢false, List, [], ◌∷◌}
 use Rattle.std.proofs.Common.{Option, Some, None, refl, sym, ap, subst, ◌∙◌}
 use Rattle.std.specs.Prelude.{slice_get, option_and_then}
+use Rattle.std.proofs.lemmas.Option.{same_Some}
 use Rattle.arm_value.specs.Json.{Json}
 use Rattle.arm_ids.specs.Id.{text_of}
 use Rattle.arm_ids.specs.declared.id.ResourceId.{ResourceId}
@@ -14,26 +15,21 @@ use Rattle.deploy_cells.specs.Cells.{Step, Position, Cell, state, World}
 use Rattle.deploy_cells.specs.Guarded.{Reads}
 use Rattle.deploy_cells.specs.Puts.{key_at, id_at, body_in, AreAllowed}
 use Rattle.deploy_cells.proofs.SameLemmas.{id_is}
-use Rattle.plan_cells.specs.Known.{Table, entry_of}
-use Rattle.plan_cells.specs.Meaning.{meaning, bodies}
-use Rattle.plan_cells.specs.Desired.{kinds, Satisfies}
-use Rattle.plan_cells.specs.Start.{start_world, at_point, IsSo, IsOnTheWay}
-use Rattle.plan_cells.specs.Tasks as task
-use Rattle.plan_cells.specs.Tasks.{Task}
-use Rattle.plan_cells.specs.Reads.{key_in, is_state_at}
-use Rattle.plan_cells.proofs.KnownLemmas.{so_in_worlds, told_so}
-use Rattle.plan_cells.proofs.PointLemmas.{true_at_point}
+use Rattle.deploy_histories.specs.Known.{Table, entry_of}
+use Rattle.deploy_histories.specs.Meaning.{meaning, bodies}
+use Rattle.deploy_histories.specs.Desired.{kinds, Satisfies}
+use Rattle.deploy_histories.specs.Start.{start_world, at_point, IsSo, IsOnTheWay}
+use Rattle.deploy_histories.specs.Tasks as task
+use Rattle.deploy_histories.specs.Tasks.{Task}
+use Rattle.deploy_histories.specs.Reads.{key_in, is_state_at}
+use Rattle.deploy_histories.proofs.KnownLemmas.{so_in_worlds, told_so}
+use Rattle.deploy_histories.proofs.PointLemmas.{true_at_point}
 use Rattle.deploy_histories.specs.Planned.{Planned, IsPlanned, puts_at, putter, course}
-use Rattle.deploy_histories.specs.Events.{Event, enter, begin, answer, back, leave, crash, Status, is_waiting}
-use Rattle.deploy_histories.specs.Events.{is_begun}
-use Rattle.deploy_histories.specs.Events.{is_done, Progress, changed, after_answer, closed, after, after_all}
-use Rattle.deploy_histories.specs.Events.{at_opening}
-use Rattle.deploy_histories.specs.Events.{progress, state_in}
+use Rattle.deploy_histories.specs.Events.{Event, enter, begin, answer, back, leave, crash, Status, is_waiting, is_begun, is_done, Progress, changed, after_answer, closed, after, after_all, at_opening, progress, state_in}
 use Rattle.deploy_histories.specs.Points.{point, IsKnownThen}
 use Rattle.deploy_histories.specs.Values.{a_body, body_reading, value_or_null}
 use Rattle.deploy_histories.specs.Legal.{May, MayEnd, IsLegalFrom, IsLegal}
-use Rattle.deploy_histories.specs.Outcome.{MayAnswer, stores_by, Target, target, IsGivenTo, IsGiven}
-use Rattle.deploy_histories.specs.Outcome.{AreGiven}
+use Rattle.deploy_histories.specs.Outcome.{MayAnswer, stores_by, Target, target, IsGivenTo, IsGiven, AreGiven}
 use Rattle.deploy_histories.proofs.ReadinessLemmas.{first_is}
 use Rattle.history_laws.specs.Past.{StaysDone, WasReady, IsKept, OneAnswer}
 use Rattle.history_laws.proofs.Steps.{IsChanged, at_changed, points_later}
@@ -96,12 +92,6 @@ pub key_of_state : (o : Option ResourceId) (k : ResourceId) → is_state_at o (s
 key_of_state None k e = absurd (true≢false (sym e))
 key_of_state (Some l) k e = (l, (refl, id_is l k e))
 
-pub some_key : (k l : ResourceId) → Some k ≡ Some l → k ≡ l
-some_key k l e = cc
-
-some_same : (a b : Json) → Some a ≡ Some b → a ≡ b
-some_same a b e = cc
-
 pub stored_same : (i j : Json) → Stored i ≡ Stored j → i ≡ j
 stored_same i j e = cc
 
@@ -127,9 +117,6 @@ module _ (x : Planned) (planned : IsPlanned x) (w : World) (sat : Satisfies x.de
       → value_in w r ≡ Some o
   so_value r t o so e = subst (λ (z : Told Cell (Option Json)). IsSo w r z) e so
 
-  some_option : (a b : Option Json) → Some a ≡ Some b → a ≡ b
-  some_option a b e = cc
-
   -- a put that was ready with a body has this body in the world
   pub body_is : (f : ℕ → Status) → StoredIsSo x w f → (u : ℕ) (p : Position) (s : Step) (body : Json)
       → WasReady x f u (task.put p s) body → (b : Json) → body_in w (bodies x.deployment p s) ≡ Some b → b ≡ body
@@ -138,7 +125,7 @@ module _ (x : Planned) (planned : IsPlanned x) (w : World) (sat : Satisfies x.de
       let v = r.is_ready.has_values (record { part = a_body; reading = body_reading x.deployment p s }) (inl refl) in
       let here = so_value (body_reading x.deployment p s) (told r.known (body_reading x.deployment p s)) v.0
       (told_so (Option Json) w r.known all (body_reading x.deployment p s)) v.1 in
-      let same : v.0 ≡ Some b = some_option v.0 (Some b) (sym here ∙ body_there w (bodies x.deployment p s) b e) in
+      let same : v.0 ≡ Some b = same_Some v.0 (Some b) (sym here ∙ body_there w (bodies x.deployment p s) b e) in
       sym (ap value_or_null (v.1 ∙ ap value same)) ∙ r.is_ready.has_body
 
 -- nothing more is stored
@@ -171,10 +158,7 @@ closed_less (is_begun w b) j e = absurd (not_waiting j e)
 closed_less (is_done o) j e = e
 
 pub done_same : (i j : Json) → is_done (Some i) ≡ is_done (Some j) → i ≡ j
-done_same i j e = some_same i j (ap state_in e)
-
-pub some_task : (s t : Task) → Some s ≡ Some t → s ≡ t
-some_task s t e = cc
+done_same i j e = same_Some i j (ap state_in e)
 
 module _ (may : MayAnswer) (single : OneAnswer may) (x : Planned) (planned : IsPlanned x) (w : World)
     (sat : Satisfies x.deployment x.held w)
@@ -213,7 +197,7 @@ module _ (may : MayAnswer) (single : OneAnswer may) (x : Planned) (planned : IsP
       theirs g) in
       let l = key_of_state (key_in x.deployment (start_world x.known) p s) k at in
       let here : key_at x.deployment.place q.kind.type q.title ≡ k
-      = some_key (key_at x.deployment.place q.kind.type q.title) l.0
+      = same_Some (key_at x.deployment.place q.kind.type q.title) l.0
       (sym (key_at_start x planned w (start_so x planned w sat.is_world) p s q.kind q.title q.is_put)
       ∙ l.1.0) ∙ l.1.1 in
       subst (λ (i : ResourceId). w (state i) ≡ Some j) here (a.1.0 ∙ ap Some one)
@@ -230,7 +214,7 @@ module _ (may : MayAnswer) (single : OneAnswer may) (x : Planned) (planned : IsP
       by_task t is puts =
           let h = m.is_begun in let b = kept.begun u h.0 h.1.0 h.1.1 in
           let q = put_with x k t puts in
-          let mine : b.task ≡ task.put q.at q.instance = some_task b.task t (sym b.is_task ∙ is) ∙ q.is in
+          let mine : b.task ≡ task.put q.at q.instance = same_Some b.task t (sym b.is_task ∙ is) ∙ q.is in
           answered_so p.status so u q.at q.instance h.1.0 j (is ∙ ap Some q.is)
           (subst (λ (z : Task). WasReady x p.status u z h.1.0) mine b.was_ready)
           (given_target may x u (task.put q.at q.instance) h.1.0 (Stored j) (is ∙ ap Some q.is)

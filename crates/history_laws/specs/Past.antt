@@ -4,8 +4,8 @@ use Rattle.arm_value.specs.Json.{Json}
 use Rattle.provider_trait.specs.declared.act.Act.{Act}
 use Rattle.provider_trait.specs.declared.answer.Answer.{Answer}
 use Rattle.provider_trait.specs.declared.answer.Answer.TheVariants.{Stored}
-use Rattle.plan_cells.specs.Known.{Table}
-use Rattle.plan_cells.specs.Tasks.{Task, enter, leave, put, delete}
+use Rattle.deploy_histories.specs.Known.{Table}
+use Rattle.deploy_histories.specs.Tasks.{Task, enter, leave, put, delete}
 use Rattle.deploy_histories.specs.Planned.{Planned}
 use Rattle.deploy_histories.specs.Events.{Status, is_begun, is_done, Progress}
 use Rattle.deploy_histories.specs.Points.{IsKnownThen}

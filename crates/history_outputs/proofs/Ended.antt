@@ -1,5 +1,6 @@
 -- All that is known once a history has succeeded.
 use Rattle.std.proofs.Common.{◌≡◌, List, Option, Some, None, refl, sym, ap, subst, ◌∙◌, map}
+use Rattle.plan_cells.proofs.KnownLemmas.{same_entry}
 use Rattle.arm_value.specs.Json.{Json}
 use Rattle.reading.specs.Knowledge.{Known, known, absent, missing, Told, value, no_value, waits, told, Stays}
 use Rattle.reading.specs.Knowledge.{IsToldStill}
@@ -7,12 +8,12 @@ use Rattle.reading.proofs.Growth.{told_still}
 use Rattle.deploy_cells.specs.Cells.{Cell, World}
 use Rattle.deploy_cells.specs.Guarded.{Meaning}
 use Rattle.plan_cells.specs.Desired.{Satisfies}
-use Rattle.plan_cells.specs.Known.{by_others, Moment, Table, entry_of, entry_told, IsKnown, is_outright, is_told}
+use Rattle.plan_cells.specs.Known.{Moment, Table, entry_of, entry_told, IsKnown, is_outright, is_told}
 use Rattle.plan_cells.specs.Known.{entry_by, IsTable}
 use Rattle.plan_cells.specs.Meaning.{meaning}
 use Rattle.plan_cells.specs.Start.{at_point}
 use Rattle.deploy_histories.specs.Planned.{Planned, IsPlanned, course}
-use Rattle.deploy_histories.specs.Events.{Event, Progress, at_opening, progress}
+use Rattle.deploy_histories.specs.Events.{Event, at_opening, progress}
 use Rattle.deploy_histories.specs.Points.{point, IsTableOf}
 use Rattle.deploy_histories.specs.Legal.{IsLegal, HasSucceeded}
 use Rattle.deploy_histories.specs.Answers.{answers_of}
@@ -28,12 +29,6 @@ use Rattle.history_worlds.proofs.Values.{Valued, valued}
 use Rattle.task_standings.specs.Outputs.{AreAllOutputs, outputs_in, value_of}
 use Rattle.task_standings.specs.declared.standing.RootOutput.{RootOutput}
 use Rattle.task_standings.proofs.Final.{outputs_are_so}
-
-same_entry : (o u : Option Json) → entry_of o ≡ entry_of u → o ≡ u
-same_entry (Some x) (Some y) e = cc
-same_entry (Some x) None e = cc
-same_entry None (Some y) e = cc
-same_entry None None e = refl
 
 -- where each cell is known, what is known is a table
 module _ (m : Meaning) (n : Moment) (has : (c : Cell) → (o : Option Json) × IsKnown m n c o) where

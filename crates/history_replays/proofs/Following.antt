@@ -3,32 +3,23 @@ use Rattle.std.proofs.Common.{◌≡◌, ◌≢◌, inl, inr, ℕ, List, [], ◌
 use Rattle.std.proofs.Common.{subst}
 use Rattle.std.proofs.Common.{◌∙◌}
 use Rattle.std.specs.Prelude.{slice_get}
+use Rattle.std.proofs.lemmas.Option.{same_Some}
 use Rattle.arm_value.specs.Json.{Json, null}
 use Rattle.provider_trait.specs.declared.answer.Answer.{Answer}
 use Rattle.provider_trait.specs.declared.answer.Answer.TheVariants.{Stored, Gone, Refused}
 use Rattle.plan_cells.specs.Tasks as task
 use Rattle.plan_cells.specs.Tasks.{Task}
-use Rattle.deploy_histories.specs.Planned.{Planned}
-use Rattle.deploy_histories.specs.Events.{Event, enter, begin, answer, back, leave, crash, Status, is_waiting}
-use Rattle.deploy_histories.specs.Events.{is_begun}
-use Rattle.deploy_histories.specs.Events.{is_done, Refusal, Progress, changed, first_refusal, after_answer, closed}
-use Rattle.deploy_histories.specs.Events.{after}
-use Rattle.deploy_histories.specs.Events.{after_all, at_opening}
-use Rattle.deploy_histories.specs.Legal.{IsAct, SuitsTask, May, MayStart, MayEnd, IsLegalFrom, IsLegal}
-use Rattle.deploy_histories.specs.Answers.{Noted, noted, answers_from, answers_of, begin_of, answer_of, IsScopeEvent}
-use Rattle.deploy_histories.specs.Answers.{IsSettled, Settles, PlaysThen, last_play}
-use Rattle.deploy_histories.specs.Answers.{where_refused, IsReplay}
-use Rattle.deploy_histories.proofs.ReadinessLemmas.{says_ready}
+use Rattle.history_laws.specs.Planned.{Planned}
+use Rattle.history_laws.specs.Events.{Event, enter, begin, answer, back, leave, crash, Status, is_waiting, is_begun, is_done, Refusal, Progress, changed, first_refusal, after_answer, closed, after, after_all, at_opening}
+use Rattle.history_laws.specs.Legal.{IsAct, SuitsTask, May, MayStart, MayEnd, IsLegalFrom, IsLegal}
+use Rattle.history_laws.specs.Answers.{Noted, noted, answers_from, answers_of, begin_of, answer_of, IsScopeEvent, IsSettled, Settles, PlaysThen, last_play, where_refused, IsReplay}
+use Rattle.history_laws.proofs.ReadinessLemmas.{says_ready}
 use Rattle.history_laws.specs.Past.{StaysDone, WasReady, IsLeft, IsKept}
-use Rattle.history_laws.proofs.Steps.{IsChanged, at_changed, at_itself, at_other, start_waits, waiting_not, begun_not}
-use Rattle.history_laws.proofs.Steps.{still_done}
+use Rattle.history_laws.proofs.Steps.{IsChanged, at_changed, at_itself, at_other, start_waits, waiting_not, begun_not, still_done}
 use Rattle.history_laws.proofs.Keeping.{ready_still, started_ready, kept_step, kept_opening}
 use Rattle.history_replays.proofs.Later.{known_later}
 use Rattle.history_replays.proofs.Recording.{left_by, answer_leaves, legal_joined}
 use Rattle.history_laws.proofs.Alone.{anything, any_given}
-
-same_task : (s t : Task) → Some s ≡ Some t → s ≡ t
-same_task s t e = cc
 
 -- what was ready and still waits may start
 module _ (x : Planned) where
@@ -232,7 +223,7 @@ module _ (x : Planned) where
     of = i.of;
     is_task = i.is_task;
     is_act = i.is_act;
-    suits = subst (λ (t : Task). SuitsTask t a) (same_task m.ended i.of (sym m.is_task ∙ i.is_task)) m.suits;
+    suits = subst (λ (t : Task). SuitsTask t a) (same_Some m.ended i.of (sym m.is_task ∙ i.is_task)) m.suits;
     was_ready = i.was_ready;
     waits = i.waits;
   }
@@ -374,7 +365,7 @@ module _ (x : Planned) where
           → p.status u ≡ is_done o
       by_change u t is act o h (inl i) =
           absurd (s.no_act (subst IsAct
-          (same_task t s.of (sym is ∙ (ap (slice_get x.tasks) i.0 ∙ s.start.is_task))) act))
+          (same_Some t s.of (sym is ∙ (ap (slice_get x.tasks) i.0 ∙ s.start.is_task))) act))
       by_change u t is act o h (inr i) = a.acts u t is act o (sym i.1 ∙ h)
 
   -- the replay after scopes: still ahead, kept, and its events legal
@@ -405,7 +396,7 @@ module _ (x : Planned) where
   scope_done p q a k settled e n i s again (is_done o) h =
       let d = k.done s.number o h in
       ap is_done (by_task d.task d.body o d.is_left (λ act. s.no_act (subst IsAct
-      (same_task d.task s.of (sym d.is_task ∙ s.start.is_task)) act)))
+      (same_Some d.task s.of (sym d.is_task ∙ s.start.is_task)) act)))
     where
       by_task : (t : Task) (b : Json) (o : Option Json) → IsLeft anything x t b o → (IsAct t → ⊥) → o ≡ None
       by_task (task.put at st) b o l n = absurd (n tt)
@@ -425,7 +416,7 @@ module _ (x : Planned) where
         ];
         acts = λ u t is act o i.
             at_other s.number (is_done None) p.status u (λ j. s.no_act (subst IsAct
-            (same_task t s.of (sym is ∙ (ap (slice_get x.tasks) j ∙ s.start.is_task))) act))
+            (same_Some t s.of (sym is ∙ (ap (slice_get x.tasks) j ∙ s.start.is_task))) act))
             ∙ a.acts u t is act o i;
         idle = a.idle;
         unrefused = a.unrefused;

@@ -12,9 +12,9 @@ use Rattle.plan_cells.specs.Known.{Access, outright, by_others, hidden, Moment, 
 use Rattle.plan_cells.specs.Meaning.{meaning}
 use Rattle.plan_cells.specs.Desired.{held_state}
 use Rattle.plan_cells.specs.Start.{Point, Course, where_stored, is_there, if_seen, output_access, at_point, IsLater}
-use Rattle.deploy_histories.specs.Planned.{Planned, course}
-use Rattle.deploy_histories.specs.Events.{Progress}
-use Rattle.deploy_histories.specs.Points.{point, IsKnownThen}
+use Rattle.history_laws.specs.Planned.{Planned, course}
+use Rattle.history_laws.specs.Events.{Progress}
+use Rattle.history_laws.specs.Points.{point, IsKnownThen}
 use Rattle.history_laws.specs.Past.{StaysDone}
 use Rattle.history_laws.proofs.Steps.{points_later}
 

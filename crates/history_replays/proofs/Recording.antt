@@ -3,13 +3,9 @@ use Rattle.std.proofs.Common.{◌≡◌, inl, inr, ℕ, List, [], ◌∷◌, ◌
 use Rattle.arm_value.specs.Json.{Json}
 use Rattle.provider_trait.specs.declared.answer.Answer.{Answer}
 use Rattle.provider_trait.specs.declared.answer.Answer.TheVariants.{Stored, Gone, Refused}
-use Rattle.deploy_histories.specs.Planned.{Planned}
-use Rattle.deploy_histories.specs.Events.{Event, enter, begin, answer, back, leave, crash, Status, is_waiting}
-use Rattle.deploy_histories.specs.Events.{is_begun}
-use Rattle.deploy_histories.specs.Events.{is_done, Progress, changed, after_answer, closed, after, after_all}
-use Rattle.deploy_histories.specs.Events.{at_opening}
-use Rattle.deploy_histories.specs.Events.{IsBegun}
-use Rattle.deploy_histories.specs.Legal.{May, MayEnd, IsLegalFrom, IsLegal}
+use Rattle.history_laws.specs.Planned.{Planned}
+use Rattle.history_laws.specs.Events.{Event, enter, begin, answer, back, leave, crash, Status, is_waiting, is_begun, is_done, Progress, changed, after_answer, closed, after, after_all, at_opening, IsBegun}
+use Rattle.history_laws.specs.Legal.{May, MayEnd, IsLegalFrom, IsLegal}
 use Rattle.history_replays.specs.Recorded.{IsRecord}
 use Rattle.history_laws.proofs.Steps.{at_changed, at_other}
 

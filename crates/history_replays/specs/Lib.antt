@@ -1,1 +1,2 @@
 pub mod Recorded
+pub use Rattle.history_laws.specs.Past

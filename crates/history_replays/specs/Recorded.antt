@@ -2,9 +2,9 @@
 use Rattle.std.specs.Prelude.{◌≡◌, ◌⊎◌, ℕ, List, [], ◌∷◌, Some, slice_get}
 use Rattle.provider_trait.specs.declared.answer.Answer.{Answer}
 use Rattle.plan_cells.specs.Tasks.{Task}
-use Rattle.deploy_histories.specs.Planned.{Planned}
-use Rattle.deploy_histories.specs.Events.{Event, enter, begin, answer, back, leave, crash}
-use Rattle.deploy_histories.specs.Legal.{SuitsTask}
+use Rattle.history_laws.specs.Planned.{Planned}
+use Rattle.history_laws.specs.Events.{Event, enter, begin, answer, back, leave, crash}
+use Rattle.history_laws.specs.Legal.{SuitsTask}
 
 -- the event comes first, and then the rest
 abbrev pub ComesFirst : Event → (List Event → Type 0) → List Event → Type 0

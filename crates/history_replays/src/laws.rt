@@ -1,9 +1,9 @@
 // What holds of replays and records of histories. A law has no body: its contract is the law.
 ghost use Rattle.std.specs.Prelude.{◌++◌, List};
-ghost use Rattle.deploy_histories.specs.Planned.{Planned};
-ghost use Rattle.deploy_histories.specs.Events.{Event, at_opening};
-ghost use Rattle.deploy_histories.specs.Legal.{IsLegal};
-ghost use Rattle.deploy_histories.specs.Answers.{answers_of, IsReplay};
+ghost use Rattle.history_laws.specs.Planned.{Planned};
+ghost use Rattle.history_laws.specs.Events.{Event, at_opening};
+ghost use Rattle.history_laws.specs.Legal.{IsLegal};
+ghost use Rattle.history_laws.specs.Answers.{answers_of, IsReplay};
 ghost use Rattle.history_replays.specs.Recorded.{IsRecord};
 
 /// The answers of a legal history follow: a history that is replayed from them is legal.

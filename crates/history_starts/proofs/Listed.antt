@@ -3,6 +3,7 @@ use Rattle.std.proofs.Common.{◌≡◌, ◌⊎◌, inl, inr, ℕ, zero, suc, �
 use Rattle.std.proofs.Common.{[]}
 use Rattle.std.proofs.Common.{◌∷◌, ◌++◌, length, Option, Some, None, refl, sym, ap, subst, ◌∙◌, arith, length-append}
 use Rattle.std.specs.Prelude.{slice_get, option_map, option_and_then, if◌then◌else◌}
+use Rattle.std.proofs.lemmas.Option.{same_Some}
 use Rattle.arm_value.specs.Json.{Json, bool}
 use Rattle.reading.specs.Reading.{pure, read, continued}
 use Rattle.reading.specs.World.{value_in}
@@ -24,9 +25,6 @@ use Rattle.plan_cells.proofs.ListLemmas.{has_left, has_right}
 
 abbrev pub Among : List Task → List Task → Type 0
 Among us ts = (t : Task) → Has t us → Has t ts
-
-some_is : {A : Type 0} (a b : A) → Some a ≡ Some b → a ≡ b
-some_is a b e = cc
 
 -- ---- lists joined of two
 
@@ -85,7 +83,7 @@ module _ (w : World) where
     two = ys;
     one_read = e;
     two_read = f;
-    is = sym (some_is (xs ++ ys) ts g);
+    is = sym (same_Some (xs ++ ys) ts g);
   }
 
   by_one : (r s : Reads (List Task)) (ts : List Task) (o : Option (List Task)) → value_in w r ≡ o
@@ -202,7 +200,7 @@ module _ (w : World) where
     of_tree (resource dc b xs) p o r zero y j ts e x i g =
         let q = both_of (tasks.unless_existing dc (all_instances p r (λ s. body_tasks p s b)))
         (trees_tasks p (suc r) xs) ts g in
-        let here : listed_at o dc b ≡ y = some_is (listed_at o dc b) y e in
+        let here : listed_at o dc b ≡ y = same_Some (listed_at o dc b) y e in
         let z : r + 0 ≡ r = omega arith in
         among_more (body_tasks p (step (r + 0) j) y.content) q.one ts
         (moved p y j q.one r (r + 0) (sym z)
@@ -237,7 +235,7 @@ module _ (w : World) where
   by_inside p t ts (Some us) e f = record {
     inside = us;
     is_read = e;
-    is = sym (some_is (enter p ∷ (us ++ leave p ∷ [])) ts f);
+    is = sym (same_Some (enter p ∷ (us ++ leave p ∷ [])) ts f);
   }
 
   pub scope_list : (p : Position) (t : TemplateTree) (ts : List Task) → value_in w (template_tasks p t) ≡ Some ts
@@ -299,7 +297,7 @@ module _ (w : World) where
     by_body q s us n (body_members ms) e l = let f : None ≡ Some n = e in absurd (cc)
     by_body q s us n (deployment sc ps t) e l =
         subst (λ (z : Nested). Lists (template_tasks (s ∷ q) z.template) us)
-        (some_is (record { scope = sc; arguments = ps; template = t }) n e) l
+        (same_Some (record { scope = sc; arguments = ps; template = t }) n e) l
 
     scope_in : (q : Position) (ts : List Task) → IsThere q → value_in w (template_tasks [] top) ≡ Some ts
         → ScopeIn q ts

@@ -35,9 +35,6 @@ use Rattle.history_starts.proofs.Start.{value_entry, entry_told_of, opened}
 
 -- ---- what is told of a reading that goes on
 
-same_some : {A : Type 0} (a b : A) → Some a ≡ Some b → a ≡ b
-same_some a b e = cc
-
 same_value : {A : Type 0} (t : Told Cell A) (a b : A) → t ≡ value a → t ≡ value b → a ≡ b
 same_value t a b e f = cc
 

@@ -3,6 +3,7 @@ use Rattle.std.proofs.Common.{◌≡◌, inl, inr, ℕ, zero, suc, ◌+◌, ◌<
 use Rattle.std.proofs.Common.{◌∷◌, ◌++◌, length, Option, Some, None, refl, sym, ap, subst, ◌∙◌, arith, length-append}
 use Rattle.std.proofs.Common.{append_assoc}
 use Rattle.std.specs.Prelude.{slice_get, option_and_then, if◌then◌else◌}
+use Rattle.std.proofs.lemmas.Option.{same_Some}
 use Rattle.arm_value.specs.Json.{Json}
 use Rattle.arm_value.specs.Kinds.{is_true}
 use Rattle.reading.specs.Reading.{pure, read, continued}
@@ -19,9 +20,6 @@ use Rattle.plan_cells.specs.Tasks.{Task, enter, leave, put, where_included, inst
 use Rattle.plan_cells.specs.Tasks.{all_instances, template_tasks, trees_tasks, tree_tasks, body_tasks}
 use Rattle.plan_cells.proofs.ListLemmas.{has_joined}
 use Rattle.history_starts.proofs.Listed.{both_of, scope_list}
-
-some_of : {A : Type 0} (a b : A) → Some a ≡ Some b → a ≡ b
-some_of a b e = cc
 
 -- the first ends with the second
 abbrev Ends : Position → Position → Type 0
@@ -119,7 +117,7 @@ module _ (w : World) (k : Task) (z : Position) (placed : IsPlaced k z) where
 
   nothing_read : (ts : List Task) → value_in w (pure []) ≡ Some ts → [] ≡ ts
   unfolding value_in
-  nothing_read ts e = some_of [] ts e
+  nothing_read ts e = same_Some [] ts e
 
   -- ---- instances
 
@@ -190,7 +188,7 @@ module _ (w : World) (k : Task) (z : Position) (placed : IsPlaced k z) where
   read_one : (p : Position) (st : Step) (ts : List Task) → value_in w (pure (put p st ∷ [])) ≡ Some ts
       → put p st ∷ [] ≡ ts
   unfolding value_in
-  read_one p st ts e = some_of (put p st ∷ []) ts e
+  read_one p st ts e = same_Some (put p st ∷ []) ts e
 
   lone_put : (p : Position) (st : Step) → Lone (put p st ∷ []) (Ends z (st ∷ p))
   lone_put p st = record {
@@ -268,15 +266,15 @@ module _ (w : World) (k : Task) (z : Position) (placed : IsPlaced k z) where
 
   has_at : (ts : List Task) (u : ℕ) → slice_get ts u ≡ Some k → Mine ts
   has_at [] u e = let f : None ≡ Some k = e in absurd (cc)
-  has_at (t ∷ ts) zero e = inl (some_of t k e)
+  has_at (t ∷ ts) zero e = inl (same_Some t k e)
   has_at (t ∷ ts) (suc u) e = inr (has_at ts u e)
 
   pub one_number : (ts : List Task) → Once ts → (u v : ℕ) → slice_get ts u ≡ Some k
       → slice_get ts v ≡ Some k → u ≡ v
   one_number [] o u v e f = let g : None ≡ Some k = e in absurd (cc)
   one_number (t ∷ ts) o zero zero e f = refl
-  one_number (t ∷ ts) o zero (suc v) e f = absurd (o.0 (some_of t k e) (has_at ts v f))
-  one_number (t ∷ ts) o (suc u) zero e f = absurd (o.0 (some_of t k f) (has_at ts u e))
+  one_number (t ∷ ts) o zero (suc v) e f = absurd (o.0 (same_Some t k e) (has_at ts v f))
+  one_number (t ∷ ts) o (suc u) zero e f = absurd (o.0 (same_Some t k f) (has_at ts u e))
   one_number (t ∷ ts) o (suc u) (suc v) e f = ap suc (one_number ts o.1 u v e f)
 
   -- it is none of the deletes

@@ -1,7 +1,9 @@
 -- What is known at the start is known at the end, and which scopes are there.
 use Rattle.std.proofs.Common.{◌≡◌, ℕ, ◌<◌, Bool, true, false, true≢false, List, [], ◌∷◌, ◌++◌}
 use Rattle.std.proofs.Common.{Option, Some, None, refl, sym, ap, subst, ◌∙◌, arith}
-use Rattle.std.specs.Prelude.{◌||◌, nat_lt, option_map, option_and_then}
+use Rattle.std.specs.Prelude.{nat_lt, option_map, option_and_then}
+use Rattle.std.proofs.lemmas.Option.{same_Some}
+use Rattle.plan_cells.proofs.TaskLemmas.{some_true}
 use Rattle.arm_value.specs.Json.{Json, bool}
 use Rattle.arm_value.specs.Kinds.{is_true}
 use Rattle.arm_ids.specs.declared.id.ResourceId.{ResourceId}
@@ -20,78 +22,27 @@ use Rattle.deploy_cells.proofs.CellLemmas.{guarded_told}
 use Rattle.plan_cells.specs.Resources.{Nested, nested_at}
 use Rattle.plan_cells.specs.Scopes.{template_at, nested_of}
 use Rattle.plan_cells.specs.Meaning.{Deployment, meaning, plain}
-use Rattle.plan_cells.specs.Known.{Access, outright, by_others, hidden, entry_of, entry_by, entry_told, IsKnown}
-use Rattle.plan_cells.specs.Known.{is_outright}
+use Rattle.plan_cells.specs.Known.{Access, by_others, entry_of, entry_by, entry_told, IsKnown}
 use Rattle.plan_cells.specs.Known.{is_told}
 use Rattle.plan_cells.specs.Start as start
-use Rattle.plan_cells.specs.Start.{start_world, is_there, if_seen, output_access, at_point}
+use Rattle.plan_cells.specs.Start.{start_world, at_point}
 use Rattle.plan_cells.specs.Tasks.{Task, template_tasks, put_keys, deletes_in, work_of, Work, work}
-use Rattle.plan_cells.proofs.KnownLemmas.{has_known}
 use Rattle.deploy_histories.specs.Planned.{Planned, IsPlanned, is_asked_first, course}
 use Rattle.deploy_histories.specs.Events.{Status}
 use Rattle.deploy_histories.specs.Points.{point}
+use Rattle.deploy_histories.proofs.StartLemmas.{from_start}
 use Rattle.history_laws.proofs.Included.{first_entry}
-use Rattle.history_laws.proofs.OneWorld.{some_true}
 use Rattle.history_starts.proofs.Listed.{IsAt, IsThere}
-
-some_one : {A : Type 0} (a b : A) → Some a ≡ Some b → a ≡ b
-some_one a b e = cc
-
-entry_there : (o : Option Json) → is_there (entry_of o) ≡ true
-entry_there (Some v) = refl
-entry_there None = refl
 
 pub value_entry : (o : Option Json) → known_value (entry_of o) ≡ o
 value_entry (Some v) = refl
 value_entry None = refl
 
-hidden_not : hidden ≡ by_others → ⊥
-hidden_not e = cc
-
-nothing : (c : Cell) (o : Option Json) → start.start c ≡ outright o → ⊥
-nothing (parameter p x) o e = cc
-nothing (variable p x) o e = cc
-nothing (offered p x) o e = cc
-nothing (output p x) o e = cc
-nothing (count p r) o e = cc
-nothing (included p s) o e = cc
-nothing (name p s) o e = cc
-nothing (deployments p) o e = cc
-nothing (state k) o e = cc
-
 module _ (x : Planned) (planned : IsPlanned x) (f : ℕ → Status) where
-  output_seen : (q : Position) (c : Cell) (o : Option Json) → x.known c ≡ entry_of o
-      → output_access (course x) (point x f) q c ≡ by_others
-  output_seen [] c o e = refl
-  output_seen (s ∷ q) c o e =
-      ap (λ (b : Bool). if_seen (b || (point x f).is_left (s ∷ q))) (ap is_there e ∙ entry_there o)
-
-  -- what was told at the start can be told at the end
-  pub seen_now : (c : Cell) (o : Option Json) → start.start c ≡ by_others → x.known c ≡ entry_of o
-      → at_point (course x) (point x f) c ≡ by_others
-  seen_now (parameter q y) o b e = refl
-  seen_now (variable q y) o b e = refl
-  seen_now (offered q y) o b e = output_seen q (offered q y) o e
-  seen_now (output q y) o b e = output_seen q (output q y) o e
-  seen_now (count q r) o b e = refl
-  seen_now (included q s) o b e = refl
-  seen_now (name q s) o b e = refl
-  seen_now (deployments q) o b e = refl
-  seen_now (state k) o b e = absurd (hidden_not b)
-
-  from_start : (c : Cell) (o : Option Json) → IsKnown (meaning x.deployment) start.start c o
-      → IsKnown (meaning x.deployment) (at_point (course x) (point x f)) c o
-  from_start c o (is_outright _ _ e) = absurd (nothing c o e)
-  from_start c o (is_told _ _ t b h e) =
-      is_told c o t
-      (seen_now c o b
-      (has_known (meaning x.deployment) start.start x.known planned.is_start c o (is_told c o t b h e)))
-      (λ d u g. from_start d u (h d u g)) e
-
   -- what is known at the start is known at the end
   pub sound_start : (c : Cell) (o : Option Json) → x.known c ≡ entry_of o
       → IsKnown (meaning x.deployment) (at_point (course x) (point x f)) c o
-  sound_start c o e = from_start c o (planned.is_start.is_known c o e)
+  sound_start c o e = from_start x planned f c o (planned.is_start.is_known c o e)
 
 -- ---- the tasks by what is known at the start
 
@@ -101,9 +52,6 @@ pub record HasList (x : Planned) : Type 0 where
   pub is_read : value_in (start_world x.known) (template_tasks [] x.deployment.template) ≡ Some scopes
   pub has_keys : value_in (start_world x.known) (put_keys x.deployment scopes) ≡ Some x.keys
   pub joined : x.tasks ≡ scopes ++ deletes_in x.mode x.deployment.place x.keys x.held
-
-same_work_is : (a b : Work) → Some a ≡ Some b → a ≡ b
-same_work_is a b e = cc
 
 module _ (x : Planned) where
   abbrev sw : World
@@ -120,7 +68,7 @@ module _ (x : Planned) where
   by_keys ts a None e f = let g : None ≡ Some the_work = f in absurd (cc)
   by_keys ts a (Some ks) e f =
       let g : work_of x.mode x.deployment.place x.held ts ks ≡ the_work
-      = same_work_is (work_of x.mode x.deployment.place x.held ts ks) the_work f in
+      = same_Some (work_of x.mode x.deployment.place x.held ts ks) the_work f in
       let k : ks ≡ x.keys = ap (λ (v : Work). v.keys) g in
       record {
         scopes = ts;

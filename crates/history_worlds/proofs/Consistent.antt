@@ -1,5 +1,6 @@
 -- What is known at a moment is known in one way.
 use Rattle.std.proofs.Common.{◌≡◌, Option, Some, None, refl, sym, ap, ◌∙◌}
+use Rattle.plan_cells.proofs.KnownLemmas.{same_entry}
 use Rattle.arm_value.specs.Json.{Json}
 use Rattle.reading.specs.Reading.{done, ask}
 use Rattle.reading.specs.Knowledge.{Known, known, absent, missing, Told, value, no_value, waits, finished, by_entry}
@@ -12,9 +13,6 @@ use Rattle.plan_cells.specs.Known.{is_told}
 -- where both have an entry it is one
 abbrev Agree : Known Json → Known Json → Type 0
 Agree a b = (o u : Option Json) → a ≡ entry_of o → b ≡ entry_of u → o ≡ u
-
-some_same : {A : Type 0} (a b : A) → Some a ≡ Some b → a ≡ b
-some_same a b e = cc
 
 finished_same : {A : Type 0} (a b : Option A) → finished {C = Cell} a ≡ finished b → a ≡ b
 finished_same (Some x) (Some y) e = cc
@@ -51,12 +49,6 @@ module _ (A : Type 0) (p q : Table) (agree : (c : Cell) → Agree (p c) (q c)) w
 abbrev flat : Option (Option Json) → Option Json
 flat None = None
 flat (Some o) = o
-
-same_entry : (o u : Option Json) → entry_of o ≡ entry_of u → o ≡ u
-same_entry (Some x) (Some y) e = cc
-same_entry (Some x) None e = cc
-same_entry None (Some y) e = cc
-same_entry None None e = refl
 
 -- what an entry was told by
 record IsFinished (t : Told Cell (Option Json)) (o : Option Json) : Type 0 where

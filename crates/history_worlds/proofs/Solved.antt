@@ -3,6 +3,8 @@ use Rattle.std.proofs.Common.{◌≡◌, inl, inr, ℕ, Bool, true, false, true�
 use Rattle.std.proofs.Common.{refl, sym, ap, subst, ◌∙◌}
 use Rattle.std.specs.Prelude.{slice_get, option_map, option_and_then, is_some}
 use Rattle.std.specs.List.{list_any}
+use Rattle.std.proofs.lemmas.Option.{same_Some}
+use Rattle.foundation.proofs.Options.{none_there}
 use Rattle.arm_value.specs.Json.{Json, bool, text}
 use Rattle.arm_ids.specs.Id.{text_of}
 use Rattle.arm_ids.specs.declared.id.ResourceId.{ResourceId}
@@ -45,15 +47,12 @@ use Rattle.history_laws.proofs.Keeping.{ready_still, kept_step, kept_opening, ke
 use Rattle.history_laws.proofs.Puts.{listed_task, any_has}
 use Rattle.history_laws.proofs.Included.{start_so, put_is, keys_listed, start_is, key_at_start}
 use Rattle.history_laws.proofs.Included.{target_at_start}
-use Rattle.history_laws.proofs.Way.{stored_by, put_with, key_of_state, some_key}
+use Rattle.history_laws.proofs.Way.{stored_by, put_with, key_of_state}
 use Rattle.history_laws.proofs.Belonging.{stored_in}
 use Rattle.history_replays.proofs.Later.{known_later}
 use Rattle.history_starts.proofs.Lists.{lists_known}
 use Rattle.history_starts.proofs.Puts.{put_once}
 use Rattle.history_worlds.proofs.Values.{the_world, known_so, is_world, a_putter, stored_at, put_value, held_value}
-
-same_of : {A : Type 0} (a b : A) → Some a ≡ Some b → a ≡ b
-same_of a b e = cc
 
 holds_by : (a : Option Json) (k : Known Json) → ((u : Option Json) → k ≡ entry_of u → a ≡ u) → Holds a k
 holds_by a (known v) h = h (Some v) refl
@@ -81,7 +80,7 @@ module _ (may : MayAnswer) (x : Planned) where
   head_stored p u a es j kept m l e =
       let h = m.is_begun in
       let b = kept.begun u h.0 h.1.0 h.1.1 in
-      let same = same_of m.ended b.task (sym m.is_task ∙ b.is_task) in
+      let same = same_Some m.ended b.task (sym m.is_task ∙ b.is_task) in
       let suits : SuitsTask b.task (Stored j)
       = subst (λ (t : Task). SuitsTask t (Stored j)) same (subst (λ (c : Answer). SuitsTask m.ended c) e m.suits) in
       let stored : (after_answer u a p).status u ≡ is_done (Some j)
@@ -167,18 +166,14 @@ module _ (may : MayAnswer) (x : Planned) (planned : IsPlanned x) (h : List Event
   by_content q s y (deployment sc ps t) e n = absurd (true≢false (ap is_some n))
   by_content q s y (body_members ms) e n = some_mapped _ (members_in y.content) ms (ap members_in e)
 
-  none_nested : {A : Type 0} (o : Option A) → is_some o ≡ false → o ≡ None
-  none_nested None e = refl
-  none_nested (Some a) e = absurd (true≢false e)
-
   by_resource : (q : Position) (s : Step) (k : Kind) → k.is_deployment ≡ false → (o : Option Listed)
       → resource_of d.template q s.resource ≡ o → option_map kind_of o ≡ Some k
       → (r : Reads Json) × (bodies d q s ≡ Some r)
   by_resource q s k never None e f = let g : None ≡ Some k = f in absurd (cc)
   by_resource q s k never (Some y) e f =
       let plain : is_some (nested_in y.content) ≡ false
-      = ap (λ (z : Kind). z.is_deployment) (same_of (kind_of y) k f) ∙ never in
-      let r = by_content q s y y.content refl (none_nested (nested_in y.content) plain) in
+      = ap (λ (z : Kind). z.is_deployment) (same_Some (kind_of y) k f) ∙ never in
+      let r = by_content q s y y.content refl (none_there (nested_in y.content) plain) in
       (r.0, ap (option_and_then (body_value d q s)) e ∙ r.1)
 
   -- what is put has a body to read
@@ -195,7 +190,7 @@ module _ (may : MayAnswer) (x : Planned) (planned : IsPlanned x) (h : List Event
       → option_and_then (λ j. value_in w (pure (Some j))) v ≡ Some o → (b : Json) × ((v ≡ Some b) × (o ≡ Some b))
   unfolding value_in
   by_value r o None e f = let g : None ≡ Some o = f in absurd (cc)
-  by_value r o (Some b) e f = (b, (refl, sym (same_of (Some b) o f)))
+  by_value r o (Some b) e f = (b, (refl, sym (same_Some (Some b) o f)))
 
   -- a put that was ready with a body has this body
   body_so : (q : Position) (s : Step) (rd : Reads Json) → bodies d q s ≡ Some rd → (u : ℕ) (b : Json)
@@ -217,7 +212,7 @@ module _ (may : MayAnswer) (x : Planned) (planned : IsPlanned x) (h : List Event
       → p.status u ≡ is_done o → (b : Json) × (WasReady x p.status u (task.put q s) b × IsLeft may x (task.put q s) b o)
   was_ready u o q s is e =
       let k = kept.done u o e in
-      let same : k.task ≡ task.put q s = same_of k.task (task.put q s) (sym k.is_task ∙ is) in (
+      let same : k.task ≡ task.put q s = same_Some k.task (task.put q s) (sym k.is_task ∙ is) in (
         k.body,
         (
           subst (λ (t : Task). WasReady x p.status u t k.body) same k.was_ready,
@@ -283,7 +278,7 @@ module _ (may : MayAnswer) (x : Planned) (planned : IsPlanned x) (h : List Event
       (listed_task x.tasks z.number (task.put a.at a.instance) (z.is_task ∙ ap Some a.is)) in
       let l = key_of_state (key_in d (start_world x.known) a.at a.instance) key a.has_key in
       let one : key_at d.place b.kind.type b.title ≡ key
-      = some_key (key_at d.place b.kind.type b.title) l.0
+      = same_Some (key_at d.place b.kind.type b.title) l.0
       (sym (key_at_start x planned w start_is_so a.at a.instance b.kind b.title b.is_put) ∙ l.1.0) ∙ l.1.1 in
       let same : (a.instance ∷ a.at) ≡ (s ∷ q)
       = planned.resources_differ a.at q a.instance s b.kind k b.title n
@@ -315,7 +310,7 @@ module _ (may : MayAnswer) (x : Planned) (planned : IsPlanned x) (h : List Event
         title = b.title;
         is_put = b.is_put;
         has_key =
-            some_key (key_at d.place b.kind.type b.title) l.0
+            same_Some (key_at d.place b.kind.type b.title) l.0
             (sym (key_at_start x planned w start_is_so a.at a.instance b.kind b.title b.is_put) ∙ l.1.0) ∙ l.1.1;
       }))
 
@@ -339,15 +334,12 @@ module _ (may : MayAnswer) (x : Planned) (planned : IsPlanned x) (h : List Event
       → may g.act g.id g.api body a
   given_put t g body a i e = subst (λ (o : Option Target). IsGivenTo may o body a) e i
 
-  state_same : (i j : Json) → Some i ≡ Some j → i ≡ j
-  state_same i j e = cc
-
   is_allowed : AreAllowed (stores_by may) d.place (kinds d) (bodies d) w
   is_allowed q s k n b i e =
       let z = put_state q s k n i in
       let r = was_ready z.number (Some z.stored) q s z.is_task z.has in
       let rd = body_reads q s k n i in
-      let body : r.0 ≡ b = same_of r.0 b (sym (body_so q s rd.0 rd.1 z.number r.0 r.1.0) ∙ e) in
+      let body : r.0 ≡ b = same_Some r.0 b (sym (body_so q s rd.0 rd.1 z.number r.0 r.1.0) ∙ e) in
       let left = r.1.1 in
       let g = given_put (target x (task.put q s))
       (record { act = Put; id = text_of (id_at d.place k.type n); api = k.api }) r.0 (Stored left.0) left.1.1
@@ -377,7 +369,7 @@ module _ (may : MayAnswer) (x : Planned) (planned : IsPlanned x) (h : List Event
       let rd = body_reads q s k t i in
       let one : z.number ≡ n.task = put_once x planned q s z.number n.task z.is_task is in
       let same : z.stored ≡ j
-      = state_same z.stored j (state_of (sym z.has ∙ (ap p.status one ∙ c.is_stored))) in
+      = same_Some z.stored j (state_of (sym z.has ∙ (ap p.status one ∙ c.is_stored))) in
       record {
         is_task = is;
         stored = j;
@@ -389,7 +381,7 @@ module _ (may : MayAnswer) (x : Planned) (planned : IsPlanned x) (h : List Event
           has_body =
               body_so q s rd.0 rd.1 n.task n.body
               (subst (λ (y : Task). WasReady x p.status n.task y n.body)
-              (same_of c.of (task.put q s) (sym c.is_task ∙ is)) c.was_ready);
+              (same_Some c.of (task.put q s) (sym c.is_task ∙ is)) c.was_ready);
           has_state = z.state_is ∙ ap Some same;
         };
       }

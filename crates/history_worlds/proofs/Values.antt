@@ -1,8 +1,10 @@
 -- Each cell has a value, or is known not to be there, once every task is done.
 use Rattle.std.proofs.Common.{◌≡◌, ℕ, Bool, true, false, true≢false, List, [], ◌∷◌, map}
 use Rattle.std.proofs.Common.{Option, Some, None, refl, sym, ap, subst, ◌∙◌, arith}
-use Rattle.std.specs.Prelude.{◌||◌, nat_eq, option_map, option_and_then, if◌then◌else◌}
+use Rattle.std.specs.Prelude.{option_map, option_and_then, if◌then◌else◌}
 use Rattle.std.specs.List.{list_any}
+use Rattle.std.proofs.lemmas.Option.{same_Some}
+use Rattle.std.proofs.lemmas.Bool.{or_right}
 use Rattle.arm_value.specs.Json.{Json}
 use Rattle.arm_value.specs.Kinds.{is_true}
 use Rattle.arm_ids.specs.declared.id.ResourceId.{ResourceId}
@@ -19,10 +21,9 @@ use Rattle.deploy_cells.specs.Cells.{Step, Position, Cell, parameter, variable, 
 use Rattle.deploy_cells.specs.Cells.{name}
 use Rattle.deploy_cells.specs.Cells.{deployments, state, World, opener, parent, admits}
 use Rattle.deploy_cells.specs.Guarded.{Reads, there_if, told_where, told_by}
-use Rattle.deploy_cells.specs.Same.{same, same_id, same_step, same_position}
-use Rattle.foundation.proofs.TruthValues.{and_true}
+use Rattle.deploy_cells.specs.Same.{same, same_id}
 use Rattle.deploy_cells.proofs.CellLemmas.{guarded_told, guarded_value}
-use Rattle.deploy_cells.proofs.SameLemmas.{cell_is, cell_same, id_same}
+use Rattle.deploy_cells.proofs.SameLemmas.{cell_is, cell_same, id_same, position_same}
 use Rattle.plan_cells.specs.Scopes.{template_at}
 use Rattle.plan_cells.specs.Sites.{parameter_named, variable_named, output_named}
 use Rattle.plan_cells.specs.Meaning.{Deployment, meaning, plain, raw, rule, ruled, is_own, of_scope, parameter_value}
@@ -34,7 +35,7 @@ use Rattle.plan_cells.specs.Start as start
 use Rattle.plan_cells.specs.Start.{start_world, where_stored, is_there, if_seen, IsSo, at_point}
 use Rattle.plan_cells.specs.Tasks.{Task, enter, leave, put, key_by, deletes_in}
 use Rattle.plan_cells.specs.Reads.{of_template, entry_cells, key_in, is_state_at}
-use Rattle.plan_cells.proofs.KnownLemmas.{told_so}
+use Rattle.plan_cells.proofs.KnownLemmas.{told_so, same_entry}
 use Rattle.plan_cells.proofs.ListLemmas.{has_left, has_right, has_map}
 use Rattle.deploy_histories.specs.Planned.{Planned, IsPlanned, IsAnswered, is_asked_first, is_leave_of, puts_at}
 use Rattle.deploy_histories.specs.Planned.{putter}
@@ -56,7 +57,8 @@ use Rattle.history_laws.proofs.OneWorld.{has_number}
 use Rattle.history_replays.proofs.Later.{known_later}
 use Rattle.history_worlds.proofs.Consistent.{one_known}
 use Rattle.history_starts.proofs.Listed.{entered_listed, left_listed}
-use Rattle.history_starts.proofs.Start.{value_entry, seen_now, sound_start, the_list, entry_told_of, opened, there}
+use Rattle.deploy_histories.proofs.StartLemmas.{seen_now}
+use Rattle.history_starts.proofs.Start.{value_entry, sound_start, the_list, entry_told_of, opened, there}
 
 -- ---- tables joined of two
 
@@ -94,16 +96,10 @@ no_entry : (o : Option Json) → missing ≡ entry_of o → ⊥
 no_entry (Some v) e = cc
 no_entry None e = cc
 
-entry_same : (o u : Option Json) → entry_of o ≡ entry_of u → o ≡ u
-entry_same (Some x) (Some y) e = cc
-entry_same (Some x) None e = cc
-entry_same None (Some y) e = cc
-entry_same None None e = refl
-
 by_same : (K : Cell → Option Json → Type 0) (c e : Cell) (o u : Option Json) (b : Bool) → same c e ≡ b → K c o
     → (if b then entry_of o else missing) ≡ entry_of u → K e u
 by_same K c e o u true s h g =
-    subst (λ (z : Cell). K z u) (cell_is c e s) (subst (λ (z : Option Json). K c z) (entry_same o u g) h)
+    subst (λ (z : Cell). K z u) (cell_is c e s) (subst (λ (z : Option Json). K c z) (same_entry o u g) h)
 by_same K c e o u false s h g = absurd (no_entry u g)
 
 holds_by : (a : Option Json) (k : Known Json) → ((u : Option Json) → k ≡ entry_of u → a ≡ u) → Holds a k
@@ -115,24 +111,6 @@ entry_goes : (e : Cell) (k : Option Json → Told Cell (Option Json)) (o : Optio
     → by_entry e k (entry_of o) ≡ k o
 entry_goes e k (Some v) = refl
 entry_goes e k None = refl
-
-one_of : {A : Type 0} (a b : A) → Some a ≡ Some b → a ≡ b
-one_of a b e = cc
-
-number_itself : (a : ℕ) → nat_eq a a ≡ true
-number_itself a = grind (arith)
-
-step_itself : (s : Step) → same_step s s ≡ true
-step_itself s =
-    and_true (nat_eq s.resource s.resource) (nat_eq s.copy s.copy) (number_itself s.resource) (number_itself s.copy)
-
-position_itself : (q : Position) → same_position q q ≡ true
-position_itself [] = refl
-position_itself (s ∷ q) = and_true (same_step s s) (same_position q q) (step_itself s) (position_itself q)
-
-or_true : (a b : Bool) → b ≡ true → (a || b) ≡ true
-or_true true b e = refl
-or_true false b e = e
 
 module _ (may : MayAnswer) (x : Planned) (planned : IsPlanned x) (p : Progress) (kept : IsKept may x p.status)
     (all : AllDone x p) (lists : (q : Position) → IsAnswered x (deployments q)) where
@@ -265,7 +243,7 @@ module _ (may : MayAnswer) (x : Planned) (planned : IsPlanned x) (p : Progress) 
         number = n.0;
         body = k.body;
         was_ready =
-            subst (λ (s : Task). WasReady x p.status n.0 s k.body) (one_of k.task t (sym k.is_task ∙ n.1)) k.was_ready;
+            subst (λ (s : Task). WasReady x p.status n.0 s k.body) (same_Some k.task t (sym k.is_task ∙ n.1)) k.was_ready;
       }
 
   was_sound : (t : Task) (k : WasTask t) → Sound k.was_ready.known
@@ -453,7 +431,7 @@ module _ (may : MayAnswer) (x : Planned) (planned : IsPlanned x) (p : Progress) 
       → is_done_at p.status o ≡ true
   leaver_done q h None e =
       let n = has_number x.tasks (leave q) h in
-      absurd (true≢false (sym (position_itself q) ∙ none_is (λ i t. is_leave_of q t) x.tasks e n.0 (leave q) n.1))
+      absurd (true≢false (sym (position_same q) ∙ none_is (λ i t. is_leave_of q t) x.tasks e n.0 (leave q) n.1))
   leaver_done q h (Some u) e =
       let f = first_is (λ i t. is_leave_of q t) x.tasks u e in all u f.found f.has
 
@@ -462,7 +440,7 @@ module _ (may : MayAnswer) (x : Planned) (planned : IsPlanned x) (p : Progress) 
       → start.output_access (course x) (point x p.status) q c ≡ by_others
   seen_left [] c h = refl
   seen_left (s ∷ q) c h =
-      ap if_seen (or_true (is_there (x.known c)) (is_done_at p.status (leaver x (s ∷ q)))
+      ap if_seen (or_right (is_there (x.known c)) (is_done_at p.status (leaver x (s ∷ q)))
       (leaver_done (s ∷ q) h (leaver x (s ∷ q)) refl))
 
   left_outputs : (q : Position) (t : TemplateTree) (y : List ℕ) → template_at d.template q ≡ Some t
@@ -561,7 +539,7 @@ module _ (may : MayAnswer) (x : Planned) (planned : IsPlanned x) (p : Progress) 
       let o = done_of (p.status u) (all u f.found f.has) in
       let z = kept.done u o.0 o.1 in
       let q = put_with x k f.found f.passes in
-      let is : z.task ≡ put q.at q.instance = one_of z.task f.found (sym z.is_task ∙ f.has) ∙ q.is in
+      let is : z.task ≡ put q.at q.instance = same_Some z.task f.found (sym z.is_task ∙ f.has) ∙ q.is in
       let left = subst (λ (t : Task). IsLeft may x t z.body o.0) is z.is_left in
       (left.0, still_stored x p.status k u left.0 e (o.1 ∙ ap is_done left.1.0))
 

@@ -6,7 +6,7 @@ use Rattle.arm_ids.specs.Segments.{is_empty}
 use Rattle.arm_expr.specs.Tree.{Trees, call, trees}
 use Rattle.arm_expr.specs.View.{tree_of}
 use Rattle.arm_expr.specs.declared.expr.Expr.{Expr}
-use Rattle.bicep_emission.specs.Emitted.{Frame}
+use Rattle.emitted_parts.specs.Emitted.{Frame}
 use Rattle.measured_holes.specs.Holes.{fill, fill_all, in_hole}
 
 pub hole_filled : (f : Frame) (name : List ℕ) (es : Trees) → is_empty name ≡ true

@@ -1,9 +1,8 @@
 //! Expressions with what is put into their holes. The functions recurse as deep as the expression nests.
-ghost use Rattle.std.specs.Prelude.{◌≡◌, ◌∷◌, [], map, option_map};
-ghost use Rattle.arm_ids.specs.Segments.{is_empty};
+ghost use Rattle.std.specs.Prelude.{◌∷◌, [], map, option_map};
 ghost use Rattle.arm_expr.specs.Tree.{Tree, call as call_tree, trees};
 ghost use Rattle.arm_expr.specs.View.{tree_of};
-ghost use Rattle.bicep_emission.specs.Emitted.{Frame};
+ghost use Rattle.emitted_parts.specs.Emitted.{Frame};
 ghost use Rattle.measured_holes.specs.Holes.{fill, fill_all, in_hole, holes};
 ghost use Rattle.emitted_expressions.specs.Sight.{framed, IsFrame, AreFrames};
 ghost use Rattle.emitted_parts.specs.Built.{Is, Are};
@@ -49,13 +48,6 @@ fn hole(
     }
 }
 
-// Whether the name is empty.
-fn is_blank(name: &Text) -> bool
-    ensures { result ≡ is_empty name.now }
-{
-    name.as_str().is_empty()
-}
-
 /// The expression with an item and an index in its holes. One that is not given is beyond the limits.
 ///
 /// # Errors
@@ -98,7 +90,7 @@ fn called(
         → IsPut f.index (option_map (λ e. e.now) index.entry)
         → Is (fill f (call_tree name.now (trees (map tree_of arguments.now)))) result }
 {
-    if is_blank(name) {
+    if name.is_empty() {
         hole(alloc, arguments, item, index)
     } else {
         named(name.copy(alloc), all_filled(alloc, arguments, item, index))

@@ -2,7 +2,7 @@
 ghost use Rattle.std.specs.Prelude.{◌≡◌, ◌∷◌, [], IfOk};
 ghost use Rattle.arm_expr.specs.Tree.{Tree};
 ghost use Rattle.bicep_resolved.specs.View.{source_of, value_of};
-ghost use Rattle.bicep_emission.specs.Emitted.{Frame};
+ghost use Rattle.emitted_parts.specs.Emitted.{Frame};
 ghost use Rattle.measured_holes.specs.Holes.{fill, holes};
 ghost use Rattle.emitted_expressions.specs.Values as spec;
 ghost use Rattle.kept_expressions.specs.Kept.{IsKept, IsKeptHoles};

@@ -2,7 +2,7 @@
 use Rattle.std.proofs.Common.{◌≡◌, ◌∷◌, [], refl, ap}
 use Rattle.arm_expr.specs.Tree.{Tree, Trees, text, int, call, member, index, more}
 use Rattle.arm_expr.specs.Tree as tree
-use Rattle.bicep_emission.specs.Emitted.{Frame}
+use Rattle.emitted_parts.specs.Emitted.{Frame}
 use Rattle.emission_laws.specs.Holes.{fill, fill_all, in_hole}
 use Rattle.kept_parts.specs.Frames.{fill_frame}
 

@@ -1,5 +1,5 @@
 -- Runs of loops that are kept.
-use Rattle.bicep_emission.specs.Emitted.{Frame}
+use Rattle.emitted_parts.specs.Emitted.{Frame}
 use Rattle.emission_laws.specs.Holes.{fill}
 use Rattle.kept_expressions.specs.Kept.{IsKeptHoles}
 use Rattle.kept_parts.specs.declared.frames.KeptFrame.{KeptFrame}

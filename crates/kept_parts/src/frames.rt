@@ -1,7 +1,7 @@
 //! Runs of loops in the holes of expressions.
 ghost use Rattle.std.specs.Prelude.{◌≡◌, [], List, map, IfOk};
 ghost use Rattle.arm_expr.specs.Tree.{Tree, index as index_tree};
-ghost use Rattle.bicep_emission.specs.Emitted.{Frame, element, no_value as no_value_tree};
+ghost use Rattle.emitted_parts.specs.Emitted.{Frame, element, no_value as no_value_tree};
 ghost use Rattle.emission_laws.specs.Holes.{fill, nearest};
 ghost use Rattle.emitted_sizes.specs.Extent.{IsOf};
 ghost use Rattle.kept_expressions.specs.Growth.{Grows};

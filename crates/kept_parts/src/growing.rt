@@ -1,7 +1,7 @@
 //! How expressions grow that have no holes.
 ghost use Rattle.std.specs.Prelude.{◌≡◌, IfOk};
 ghost use Rattle.arm_expr.specs.Tree.{Tree};
-ghost use Rattle.bicep_emission.specs.Emitted.{Frame};
+ghost use Rattle.emitted_parts.specs.Emitted.{Frame};
 ghost use Rattle.emission_laws.specs.Holes.{fill};
 ghost use Rattle.emitted_sizes.specs.Extent.{IsOf};
 ghost use Rattle.kept_expressions.specs.Growth.{Grows};

@@ -1,7 +1,7 @@
 //! Ids of a type and their parts.
 ghost use Rattle.std.specs.Prelude.{ℕ, List, map, option_map};
 ghost use Rattle.arm_expr.specs.Tree.{Tree, text as text_tree, trees, more};
-ghost use Rattle.bicep_emission.specs.Emitted.{Frame};
+ghost use Rattle.emitted_parts.specs.Emitted.{Frame};
 ghost use Rattle.emission_laws.specs.Holes.{fill};
 ghost use Rattle.emitted_declarations.specs.Declared.{id_of_parts};
 ghost use Rattle.emitted_parts.specs.Built.{Is, Are};

@@ -1,4 +1,5 @@
 mod NameLemmas
 mod VariableLemmas
 mod MemberLemmas
+mod OrderLemmas
 pub mod KeptLemmas

@@ -1,14 +1,16 @@
 -- Templates of files that keep the rules of templates (`Keeps` of `template_written`).
 use Rattle.std.specs.Prelude.{◌≡◌, ℕ, List, Option, Some}
+use Rattle.template_parts.specs.declared.mode.Form.{Form}
 use Rattle.template_parts.specs.declared.parameter.Parameter.{Parameter}
 use Rattle.template_tree.specs.Tree.{TemplateTree}
 use Rattle.template_tree.specs.View.{template_tree}
 use Rattle.template_tree.specs.declared.resource.Template.{Template}
 use Rattle.template_written.specs.Keeps.{Keeps, KeepsBatches}
 use Rattle.bicep_meaning.specs.Files.{SourceFile}
-use Rattle.declaration_laws.specs.Sound.{IsSound}
 use Rattle.placed_files.specs.Placed.{IsPlaced}
 use Rattle.emitted_templates.specs.Built.{Templates, template_of}
+use Rattle.emitted_templates.specs.Fits.{IsReady}
+use Rattle.emitted_templates.specs.Lists.{SymbolsDiffer}
 use Rattle.emitted_templates.specs.Seen.{Shape, file_in}
 use Rattle.emitted_templates.specs.Templates.{IsTemplateOf}
 
@@ -23,5 +25,6 @@ AllKept us = (n : ℕ) (t : TemplateTree) → template_of us n ≡ Some t → Ke
 -- and so does the template of the file
 abbrev pub TemplatesKeepTheRules : Type 0
 TemplatesKeepTheRules =
-    (s : Shape) (rs : List (Option Parameter)) (us : Templates) (u : Template) → IsTemplateOf s rs us u
-    → IsSound (file_in s) → IsPlaced (file_in s) → AreBatchesSmall (file_in s) → AllKept us → Keeps (template_tree u)
+    (z : Form) (s : Shape) (rs : List (Option Parameter)) (us : Templates) (u : Template) → IsTemplateOf z s rs us u
+    → IsReady s → SymbolsDiffer s → IsPlaced (file_in s) → AreBatchesSmall (file_in s) → AllKept us
+    → Keeps (template_tree u)

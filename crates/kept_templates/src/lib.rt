@@ -6,3 +6,5 @@
 #![tactic(auto)]
 
 pub mod laws;
+
+pub use placed_files::laws::checked_files_are_placed;

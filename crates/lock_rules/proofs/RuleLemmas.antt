@@ -31,9 +31,6 @@ pub none_all : (P : Lock → Type 0) (locks : List Lock) (i : ℕ) → length lo
     → NoneOf P locks
 none_all P locks i h none = subst (NoneOf P) (take_all i locks h) none
 
-pub not_true : (b : Bool) → b ≡ false → b ≡ true → ⊥
-not_true b f t = cc
-
 -- the lock at a place is the first, where none is before it
 pub first_here : (P : Lock → Type 0) (locks : List Lock) (i : ℕ) (lock : Lock) → i < length locks
     → lock ≡ get_or locks i lock → NoneOf P (take i locks) → P lock → IsFirst P locks lock

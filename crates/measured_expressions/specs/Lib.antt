@@ -1,2 +1,4 @@
 pub mod Spans
 pub use Rattle.emitted_expressions.specs.Values
+pub use Rattle.emitted_expressions.specs.Sight
+pub use Rattle.bicep_emission.specs.Emitted

@@ -2,7 +2,7 @@
 ghost use Rattle.std.specs.Prelude.{◌≡◌, List, length, option_to_list};
 ghost use Rattle.arm_expr.specs.Tree.{text as text_tree};
 ghost use Rattle.bicep_resolved.specs.View.{property_of, row_name};
-ghost use Rattle.bicep_meaning.specs.Files.{symbol_name};
+ghost use Rattle.bicep_emission.specs.Files.{symbol_name};
 ghost use Rattle.bicep_emission.specs.Emitted.{Frame, parameter_of};
 ghost use Rattle.bicep_emission.specs.Spelled.{spelled};
 ghost use Rattle.emitted_sizes.specs.Extent.{IsOf};

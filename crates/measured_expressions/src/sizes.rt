@@ -1,7 +1,7 @@
 //! The extents of what the declarations of a file become, by the numbers of their symbols.
 ghost use Rattle.std.specs.Prelude.{◌≡◌, List, option_map, option_to_list};
 ghost use Rattle.arm_expr.specs.Tree.{text};
-ghost use Rattle.bicep_meaning.specs.Files.{symbol_name, type_of};
+ghost use Rattle.bicep_emission.specs.Files.{symbol_name, type_of};
 ghost use Rattle.bicep_emission.specs.Emitted.{Frame, output_named};
 ghost use Rattle.emitted_sizes.specs.Extent.{IsOf};
 ghost use Rattle.emitted_expressions.specs.Sight.{Sight};

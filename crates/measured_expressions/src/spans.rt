@@ -1,8 +1,7 @@
 //! The extents of the runs of the loops around an expression.
 ghost use Rattle.std.specs.Prelude.{List, slice_get};
 ghost use Rattle.arm_expr.specs.Tree.{Tree};
-ghost use Rattle.bicep_emission.specs.Emitted.{Frame, item_of as item_tree, index_of as index_tree};
-ghost use Rattle.bicep_emission.specs.Emitted.{element as frame_at};
+ghost use Rattle.bicep_emission.specs.Emitted.{Frame, item_of as item_tree, index_of as index_tree, element as frame_at};
 ghost use Rattle.emitted_sizes.specs.Extent.{IsOf};
 ghost use Rattle.measured_expressions.specs.Spans.{IsSpan, AreSpans};
 

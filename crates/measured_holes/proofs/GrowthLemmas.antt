@@ -5,7 +5,7 @@ use Rattle.std.specs.Fmt.{decimal, digits, digits_onto, digit_glyph, signed_deci
 use Rattle.std.specs.Prelude.{◌==◌, if◌then◌else◌}
 use Rattle.arm_expr.specs.Print.{size, arguments_size}
 use Rattle.arm_expr.specs.Tree.{Tree, Trees, text, int, call, member, index, none, more, nesting, deepest}
-use Rattle.bicep_emission.specs.Emitted.{Frame}
+use Rattle.measured_expressions.specs.Emitted.{Frame}
 use Rattle.emission_laws.specs.Holes.{fill, fill_all}
 use Rattle.measured_holes.specs.Growth.{size_with, arguments_with, all_holes_with, items_in, indices_in}
 use Rattle.measured_holes.specs.Growth.{nesting_with, deepest_with, one_deeper, greater, depth_of_all}

@@ -2,7 +2,7 @@
 use Rattle.std.proofs.Common.{◌≡◌, ◌<◌, ◌≤◌, ◌+◌, ◌-◌, ◌*◌, ◌^◌, ℕ, min, max, Option, Some, None, ap, ◌∙◌, sym, arith}
 use Rattle.arm_expr.specs.Print.{size}
 use Rattle.arm_expr.specs.Tree.{Tree, nesting}
-use Rattle.bicep_emission.specs.Emitted.{Frame}
+use Rattle.measured_expressions.specs.Emitted.{Frame}
 use Rattle.emission_laws.specs.Holes.{fill}
 use Rattle.emitted_sizes.specs.Extent.{bounded}
 use Rattle.measured_holes.specs.Growth.{size_with, items_in, indices_in, nesting_with, item_depth, index_depth, under}

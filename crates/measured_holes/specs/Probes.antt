@@ -1,7 +1,7 @@
 -- What is put into holes to see how an extent grows.
 use Rattle.std.specs.Prelude.{ℕ, zero, suc, pos, []}
 use Rattle.arm_expr.specs.Tree.{Tree, text, int, member}
-use Rattle.bicep_emission.specs.Emitted.{Frame}
+use Rattle.measured_expressions.specs.Emitted.{Frame}
 use Rattle.emission_laws.specs.Holes.{fill}
 use Rattle.emitted_sizes.specs.Extent.{IsOf}
 use Rattle.measured_holes.specs.declared.probes.Probed.{Probed}

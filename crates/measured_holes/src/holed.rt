@@ -1,7 +1,7 @@
 //! Extents that grow with what is put into holes.
 ghost use Rattle.std.specs.Prelude.{◌≡◌, ◌+◌, ◌-◌, ◌*◌, max};
 ghost use Rattle.arm_expr.specs.Tree.{Tree};
-ghost use Rattle.bicep_emission.specs.Emitted.{Frame};
+ghost use Rattle.measured_expressions.specs.Emitted.{Frame};
 ghost use Rattle.emission_laws.specs.Holes.{fill};
 ghost use Rattle.emitted_sizes.specs.Extent.{IsOf, bounded};
 ghost use Rattle.measured_expressions.specs.Spans.{IsSpan};

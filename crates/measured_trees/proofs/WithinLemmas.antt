@@ -2,11 +2,10 @@
 use Rattle.std.proofs.Common.{◌≤◌, ℕ, max, arith}
 use Rattle.arm_expr.specs.Tree.{Tree, nesting}
 use Rattle.foundation.specs.declared.limits.TheConstants.{MAX_EXPRESSION_CHARACTERS, MAX_EXPRESSION_NESTING}
-use Rattle.emitted_trees.specs.Templates.{TemplateTree, TemplateItems, TemplateMembers, TemplateValue}
-use Rattle.emitted_trees.specs.Templates as t
-use Rattle.emitted_trees.specs.Written.{IsWritable, IsWithin, AreWithin, MembersAreWithin, ValueIsWithin}
-use Rattle.tree_building.specs.Each.{Each, EachOfItems, EachOfMembers, EachOfValue, IsSmall}
-use Rattle.tree_building.specs.Each.{AreSmall, ValueIsSmall}
+use Rattle.tree_building.specs.Templates.{TemplateTree, TemplateItems, TemplateMembers, TemplateValue}
+use Rattle.tree_building.specs.Templates as t
+use Rattle.tree_building.specs.Written.{IsWritable, IsWithin, AreWithin, MembersAreWithin, ValueIsWithin}
+use Rattle.tree_building.specs.Each.{Each, EachOfItems, EachOfMembers, EachOfValue, IsSmall, AreSmall, ValueIsSmall}
 use Rattle.measured_trees.specs.Extremes.{greatest, items_greatest, members_greatest, value_greatest, text_length}
 use Rattle.measured_trees.specs.Limits.{IsPrintable}
 

@@ -3,8 +3,8 @@
 use Rattle.std.specs.Prelude.{ℕ, suc, max, length}
 use Rattle.arm_expr.specs.Print.{printed}
 use Rattle.arm_expr.specs.Tree.{Tree, nesting}
-use Rattle.emitted_trees.specs.Templates.{TemplateTree, TemplateItems, TemplateMembers, TemplateValue}
-use Rattle.emitted_trees.specs.Templates as t
+use Rattle.tree_building.specs.Templates.{TemplateTree, TemplateItems, TemplateMembers, TemplateValue}
+use Rattle.tree_building.specs.Templates as t
 use Rattle.tree_building.specs.Depth as d
 
 -- the greatest number that f has for an expression in a tree; 0 where there is none

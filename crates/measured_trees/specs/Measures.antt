@@ -1,7 +1,7 @@
 -- What is measured of a tree of a template before it is built.
 use Rattle.std.specs.Prelude.{◌≡◌, max, List, Result, IfOk}
 use Rattle.std.specs.declared.alloc.AllocError.{AllocError}
-use Rattle.bicep_emission.specs.Emitted.{Frame}
+use Rattle.tree_building.specs.Emitted.{Frame}
 use Rattle.emitted_sizes.specs.Extent.{bounded}
 use Rattle.measured_expressions.specs.Spans.{AreSpans}
 use Rattle.measured_expressions.specs.declared.spans.Span.{Span}

@@ -1,6 +1,6 @@
 //! The extents of the expressions in a value.
 ghost use Rattle.bicep_resolved.specs.View.{source_of};
-ghost use Rattle.emitted_expressions.specs.Sight.{Sight};
+ghost use Rattle.measured_expressions.specs.Sight.{Sight};
 ghost use Rattle.measured_expressions.specs.Spans.{Measures};
 ghost use Rattle.tree_building.specs.Sight as spec;
 

@@ -1,7 +1,7 @@
 //! What is beyond no limit can be built. A law has no body: its contract is the law.
 ghost use Rattle.std.specs.Prelude.{◌↔◌};
-ghost use Rattle.emitted_trees.specs.Templates.{TemplateTree, TemplateValue};
-ghost use Rattle.emitted_trees.specs.Written.{IsWithin, ValueIsWithin};
+ghost use Rattle.tree_building.specs.Templates.{TemplateTree, TemplateValue};
+ghost use Rattle.tree_building.specs.Written.{IsWithin, ValueIsWithin};
 ghost use Rattle.measured_trees.specs.Extremes.{tree_extremes, value_extremes};
 ghost use Rattle.measured_trees.specs.Limits.{AreShort, AreFlat, IsPrintable};
 ghost use Rattle.tree_building.specs.Each.{Each, EachOfValue, AreSmall, ValueIsSmall};

@@ -1,9 +1,9 @@
 //! The extents of the runs of loops around the body of a loop.
 ghost use Rattle.std.specs.Prelude.{◌≡◌, ◌∷◌, ◌++◌, List, IfOk, option_map};
 ghost use Rattle.arm_expr.specs.Tree.{Tree};
-ghost use Rattle.bicep_emission.specs.Emitted.{Frame, element as frame_at};
+ghost use Rattle.tree_building.specs.Emitted.{Frame, element as frame_at};
 ghost use Rattle.emitted_sizes.specs.Extent.{IsOf};
-ghost use Rattle.emitted_trees.specs.EmittedTrees.{copy_index as index_tree, count_of as count_tree};
+ghost use Rattle.tree_building.specs.EmittedTrees.{copy_index as index_tree, count_of as count_tree};
 ghost use Rattle.measured_expressions.specs.Spans.{AreSpans, IsSpan};
 
 use arm_value::{OutOfMemory, Text};

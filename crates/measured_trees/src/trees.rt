@@ -1,7 +1,7 @@
 //! The measures of what values become outside of expressions. The functions call each other, as deep as a value nests.
 ghost use Rattle.std.specs.Prelude.{map, Some, option_map};
 ghost use Rattle.bicep_resolved.specs.View.{source_of, property_of, value_of, sources, properties};
-ghost use Rattle.emitted_trees.specs.Templates as t;
+ghost use Rattle.tree_building.specs.Templates as t;
 ghost use Rattle.measured_trees.specs.Extremes.{tree_extremes, items_extremes, members_extremes, value_extremes};
 ghost use Rattle.measured_trees.specs.Measures.{Takes};
 ghost use Rattle.tree_building.specs.Sight as spec;

@@ -3,13 +3,14 @@ use Rattle.std.proofs.Common.{◌≡◌, ℕ, zero, suc, ◌+◌, ◌<◌, List,
 use Rattle.std.proofs.Common.{ap, subst, arith, take, get_or, append_assoc, add-one}
 use Rattle.std.specs.Prelude.{slice_get, bytes_eq, Contains}
 use Rattle.std.specs.List.{AllByRecursion, IsDistinct}
+use Rattle.std.proofs.lemmas.List.{map-append}
 use Rattle.module_links.specs.Paths.{file_at}
 use Rattle.module_links.specs.Links.{entry_names, IsNew, AreLinked, IsNamedBy, Adds, IsUnlinked}
 use Rattle.module_links.specs.Linking.{LinksTo}
 use Rattle.module_links.specs.declared.entry.Entry.{Entry}
 use Rattle.module_links.specs.declared.links.LinkFault.{LinkFault}
 use Rattle.module_links.specs.declared.links.LinkFault.TheVariants as fault
-use Rattle.module_links.proofs.LinkLemmas.{map-append, all_append, linked_grown, linked_more, distinct_more}
+use Rattle.module_links.proofs.LinkLemmas.{all_append, linked_grown, linked_more, distinct_more}
 
 -- the name of an entry
 pub entry_name : (es : List Entry) (k : ℕ) (e : Entry) → k < length es → e ≡ get_or es k e

@@ -2,7 +2,7 @@
 ghost use Rattle.std.specs.Prelude.{◌≡◌, ◌++◌, ◌∷◌, chars, string_bytes, Some, None, IfOk, OnOk, IsTrue, bytes_eq};
 ghost use Rattle.std.specs.Prelude.{nat_lt, if◌then◌else◌};
 ghost use Rattle.std.specs.List.{list_all};
-ghost use Rattle.arm_ids.specs.Segments.{joined, slashed, is_empty};
+ghost use Rattle.arm_ids.specs.Segments.{joined, slashed};
 ghost use Rattle.module_links.specs.Paths.{folder_of, parent, entered, walked, is_name, named_in, file_at};
 
 use arm_ids::segments;
@@ -15,13 +15,6 @@ fn is_word(text: &Text, word: &str) -> bool
     ensures { result ≡ bytes_eq word.now text.now }
 {
     text.equals(word)
-}
-
-// Whether the text is empty.
-fn is_blank(text: &Text) -> bool
-    ensures { result ≡ is_empty text.now }
-{
-    text.as_str().is_empty()
 }
 
 // Adds a slash and the segment.
@@ -76,7 +69,7 @@ fn enter(alloc: Global, folder: &mut Vec<Text>, step: &Text) -> Result<bool, Out
     if is_word(step, "..") {
         return Ok(leave(folder));
     }
-    if is_blank(step) {
+    if step.is_empty() {
         return Ok(false);
     }
     folder.push(step.copy(alloc)?)?;
@@ -109,7 +102,7 @@ fn is_name(name: &Text) -> bool
     if is_word(name, "..") {
         return false;
     }
-    !is_blank(name)
+    !name.is_empty()
 }
 
 // The name of the file of that name in the folder that these segments lead to, where there is one.

@@ -1,2 +1,3 @@
 pub mod TextLemmas
 pub mod LoopLemmas
+pub use Rattle.plan_codes.proofs.TaskLemmas

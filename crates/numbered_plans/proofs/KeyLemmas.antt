@@ -2,6 +2,7 @@
 use Rattle.std.proofs.Common.{◌≡◌, ℕ, zero, suc, ◌≤◌, List, [], ◌∷◌, map, length, Option, Some, None, refl, sym, ap}
 use Rattle.std.proofs.Common.{subst, ◌∙◌, arith}
 use Rattle.std.specs.Prelude.{slice_get, option_map, is_some}
+use Rattle.std.proofs.lemmas.Option.{same_Some}
 use Rattle.arm_ids.specs.Held.{HeldResource}
 use Rattle.arm_ids.specs.declared.id.ResourceId.{ResourceId}
 use Rattle.reading.specs.Knowledge.{known_value}
@@ -57,9 +58,6 @@ enough (Put f r c ∷ us) (k ∷ ks) h = let l = enough us ks (λ i g s d e. h (
 abbrev put_in : Position → cells.Task
 put_in [] = enter []
 put_in (s ∷ p) = put p s
-
-same_tag : (s t : Tag) → Some s ≡ Some t → s ≡ t
-same_tag s t e = cc
 
 module _ (p : Plan) (held : List HeldResource) (planned : IsPlanned p held)
     (history : histories.IsPlanned (planned_by p held)) where
@@ -150,7 +148,7 @@ module _ (p : Plan) (held : List HeldResource) (planned : IsPlanned p held)
   key_of : (i : ℕ) (s : Tag) (a : TaggedPut i s) (q : PutOf (deployment_of p) a.frame a.resource a.copy)
       → key_code (key_at (deployment_of p).place q.kind.type q.name) ≡ s
   key_of i s a q =
-      same_tag (key_code (key_at (deployment_of p).place q.kind.type q.name)) s
+      same_Some (key_code (key_at (deployment_of p).place q.kind.type q.name)) s
       (ap (λ (o : Option ResourceId). option_map (λ k. key_code k) o) (sym q.has_key) ∙ a.has_tag)
 
   pub apart : AreApart (put_tags us ks)

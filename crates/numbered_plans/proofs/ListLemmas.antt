@@ -8,14 +8,12 @@ use Rattle.key_tags.specs.KeyCodes.{key_code}
 use Rattle.key_tags.proofs.CodeLemmas.{key_eq}
 use Rattle.deploy_cells.proofs.SameLemmas.{id_is, id_same}
 use Rattle.std.proofs.lemmas.Slice.Eq.{bytes_eq-Decides}
+use Rattle.std.proofs.lemmas.Option.{same_Some}
 
 module _ {A B : Type 0} (g : A → B) where
-  some_is : (a b : A) → Some a ≡ Some b → a ≡ b
-  some_is a b e = cc
-
   pub mapped : (xs : List A) (i : ℕ) (a : A) → slice_get xs i ≡ Some a → slice_get (map g xs) i ≡ Some (g a)
   mapped [] i a e = let f : None ≡ Some a = e in absurd (cc)
-  mapped (x ∷ xs) zero a e = ap (λ y. Some (g y)) (some_is x a e)
+  mapped (x ∷ xs) zero a e = ap (λ y. Some (g y)) (same_Some x a e)
   mapped (x ∷ xs) (suc i) a e = mapped xs i a e
 
   -- what is found in a list that was mapped is of what is found in the list
@@ -24,12 +22,9 @@ module _ {A B : Type 0} (g : A → B) where
     pub has : slice_get xs i ≡ Some one
     pub is : g one ≡ b
 
-  same_of : (a b : B) → Some a ≡ Some b → a ≡ b
-  same_of a b e = cc
-
   pub of_mapped : (xs : List A) (i : ℕ) (b : B) → slice_get (map g xs) i ≡ Some b → IsOf xs i b
   of_mapped [] i b e = let f : None ≡ Some b = e in absurd (cc)
-  of_mapped (x ∷ xs) zero b e = record { one = x; has = refl; is = same_of (g x) b e }
+  of_mapped (x ∷ xs) zero b e = record { one = x; has = refl; is = same_Some (g x) b e }
   of_mapped (x ∷ xs) (suc i) b e =
       let h = of_mapped xs i b e in record { one = h.one; has = h.has; is = h.is }
 

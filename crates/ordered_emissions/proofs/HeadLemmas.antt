@@ -3,14 +3,13 @@ use Rattle.std.proofs.Common.{◌≡◌, ℕ, zero, suc, List, [], ◌∷◌, Op
 use Rattle.arm_expr.specs.Tree.{call}
 use Rattle.bicep_resolved.specs.Source.{SourceTree}
 use Rattle.bicep_resolved.specs.Target.{number_of, target_of}
-use Rattle.bicep_declared.specs.Declarations.{BodyTree}
-use Rattle.bicep_meaning.specs.Declared.{body_at}
-use Rattle.bicep_meaning.specs.Files.{SourceFile, Parent, no_parent, inside, below, parent}
+use Rattle.bicep_circles.specs.Declarations.{BodyTree}
+use Rattle.bicep_emission.specs.Declared.{body_at}
+use Rattle.bicep_emission.specs.Files.{SourceFile, Parent, no_parent, inside, below, parent}
 use Rattle.bicep_emission.specs.Emittable.{IsEmittable}
 use Rattle.bicep_emission.specs.Emitted.{Frame, two, emitted, frames_of}
-use Rattle.declaration_laws.specs.Sound.{IsSound}
-use Rattle.emitted_declarations.specs.Declared.{Emission, with_slash, name_of, full_name_by, condition_by, condition_of}
-use Rattle.emitted_declarations.specs.Declared.{through, next}
+use Rattle.emission_laws.specs.Sound.{IsSound}
+use Rattle.emission_laws.specs.Declared.{Emission, with_slash, name_of, full_name_by, condition_by, condition_of, through, next}
 use Rattle.emission_laws.specs.Holes.{fill, holes, nearest}
 use Rattle.emission_laws.proofs.FillLemmas.{Becomes, none_becomes, holes_become, filled, frames_filled}
 use Rattle.emission_laws.proofs.FilledLemmas.{fills}

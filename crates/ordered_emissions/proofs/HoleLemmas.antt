@@ -3,11 +3,11 @@ use Rattle.std.proofs.Common.{◌≡◌, ℕ, List, [], ◌∷◌, Bool, true, f
 use Rattle.std.specs.Prelude.{if◌then◌else◌}
 use Rattle.arm_expr.specs.Tree.{Tree}
 use Rattle.bicep_resolved.specs.Source.{SourceTree, ValueTree}
-use Rattle.bicep_meaning.specs.Files.{SourceFile}
+use Rattle.bicep_emission.specs.Files.{SourceFile}
 use Rattle.bicep_emission.specs.Emittable.{IsEmittable, IsValue}
 use Rattle.bicep_emission.specs.Emitted.{Frame, no_value, emitted, emitted_value}
-use Rattle.declaration_laws.specs.Sound.{IsSound}
-use Rattle.emitted_declarations.specs.Declared.{through}
+use Rattle.emission_laws.specs.Sound.{IsSound}
+use Rattle.emission_laws.specs.Declared.{through}
 use Rattle.emission_laws.specs.Holes.{fill, holes, nearest}
 use Rattle.emission_laws.proofs.FillLemmas.{Becomes, one_becomes, holes_become, ScopeFills, filled, value_filled}
 use Rattle.emission_laws.proofs.FilledLemmas.{fills}

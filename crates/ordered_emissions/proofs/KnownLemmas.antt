@@ -2,12 +2,13 @@
 use Rattle.std.proofs.Common.{◌≡◌, ◌⊎◌, inl, inr, ℕ, List, [], ◌∷◌, length, Bool, true, false, refl, ap}
 use Rattle.std.proofs.Common.{sym, ◌∙◌, map}
 use Rattle.std.specs.Prelude.{if◌then◌else◌}
+use Rattle.foundation.proofs.Choices.{if_true}
 use Rattle.reading.specs.World.{Each}
-use Rattle.bicep_meaning.specs.Files.{SourceFile}
-use Rattle.bicep_meaning_laws.specs.Ranked.{mentions_at}
+use Rattle.bicep_emission.specs.Files.{SourceFile}
+use Rattle.emission_laws.specs.Ranked.{mentions_at}
 use Rattle.bicep_emission.specs.Emitted.{no_value}
-use Rattle.declaration_laws.specs.Sound.{IsSound}
-use Rattle.emitted_declarations.specs.Declared.{Emission, next, blank, through, whole}
+use Rattle.emission_laws.specs.Sound.{IsSound}
+use Rattle.emission_laws.specs.Declared.{Emission, next, blank, through, whole}
 use Rattle.emission_laws.specs.Holes.{fill, holes, nearest, refilled}
 use Rattle.emission_laws.specs.Same.{SameEmission}
 use Rattle.emission_laws.proofs.FillLemmas.{holes_become}
@@ -17,10 +18,6 @@ use Rattle.ordered_emissions.specs.Known.{known, known_scope}
 use Rattle.ordered_emissions.specs.Orders.{IsPaired, IsOrderOf, IsNoSymbol}
 use Rattle.ordered_emissions.proofs.NothingLemmas.{nothing, same_then, same_turned}
 use Rattle.ordered_emissions.proofs.OrderLemmas.{settled}
-
--- where the condition holds, the first
-chosen : {A : Type 0} (b : Bool) (x y : A) → b ≡ true → (if b then x else y) ≡ x
-chosen b x y e = ap (λ c. if c then x else y) e
 
 -- and where it does not, the second
 other : {A : Type 0} (b : Bool) (x y : A) → b ≡ false → y ≡ (if b then x else y)
@@ -33,16 +30,16 @@ module _ (file : SourceFile) (files : List SourceFile) where
       let b = through file files k in
       record {
         scope = record {
-          variable = chosen (p n) (b.scope.variable n) no_value e;
-          items = chosen (p n) (b.scope.items n) no_value e;
-          name = λ fs r. chosen (p n) (fill (nearest fs) (b.scope.name n (holes ∷ []))) no_value e
+          variable = if_true (p n) (b.scope.variable n) no_value e;
+          items = if_true (p n) (b.scope.items n) no_value e;
+          name = λ fs r. if_true (p n) (fill (nearest fs) (b.scope.name n (holes ∷ []))) no_value e
               ∙ (fills file files sound (nearest fs) k).scope.name n (holes ∷ []) fs (holes_become fs r);
-          id = λ fs r. chosen (p n) (fill (nearest fs) (b.scope.id n (holes ∷ []))) no_value e
+          id = λ fs r. if_true (p n) (fill (nearest fs) (b.scope.id n (holes ∷ []))) no_value e
               ∙ (fills file files sound (nearest fs) k).scope.id n (holes ∷ []) fs (holes_become fs r);
         };
-        full_name = λ fs r. chosen (p n) (b.full_name n fs) no_value e;
-        condition = λ fs r. chosen (p n) (b.condition n fs) no_value e;
-        parts = λ fs r. chosen (p n) (map (fill (nearest fs)) (b.parts n (holes ∷ []))) [] e
+        full_name = λ fs r. if_true (p n) (b.full_name n fs) no_value e;
+        condition = λ fs r. if_true (p n) (b.condition n fs) no_value e;
+        parts = λ fs r. if_true (p n) (map (fill (nearest fs)) (b.parts n (holes ∷ []))) [] e
             ∙ (fills file files sound (nearest fs) k).parts n (holes ∷ []) fs (holes_become fs r);
       }
 
@@ -92,7 +89,7 @@ module _ (file : SourceFile) (files : List SourceFile) where
   -- what is no symbol's has no value, known or not
   known_part : {A : Type 0} (p : ℕ → Bool) (n : ℕ) (x y : A) → (p n ≡ true) ⊎ IsNoSymbol file n
       → (IsNoSymbol file n → y ≡ x) → (if p n then x else y) ≡ x
-  known_part p n x y (inl e) f = chosen (p n) x y e
+  known_part p n x y (inl e) f = if_true (p n) x y e
   known_part p n x y (inr none) f = by (p n)
     where
       by : (b : Bool) → (if b then x else y) ≡ x

@@ -1,12 +1,10 @@
 -- Numbers that are no symbol's become nothing; and declarations that become the same.
 use Rattle.std.proofs.Common.{◌≡◌, ℕ, zero, suc, List, refl, sym, ap, ◌∙◌}
 use Rattle.std.specs.Prelude.{option_and_then}
-use Rattle.bicep_meaning.specs.Files.{SourceFile, declaration, no_parent, parent, inside_or}
-use Rattle.bicep_meaning.specs.Files.{around_kind, fields_parent}
-use Rattle.bicep_meaning.specs.Declared.{body_of}
+use Rattle.bicep_emission.specs.Files.{SourceFile, declaration, no_parent, parent, inside_or, around_kind, fields_parent}
+use Rattle.bicep_emission.specs.Declared.{body_of}
 use Rattle.bicep_emission.specs.Emitted.{Frame, no_value}
-use Rattle.emitted_declarations.specs.Declared.{Emission, variable_of, over, name_by, full_name_by, condition_of}
-use Rattle.emitted_declarations.specs.Declared.{parts_at, id_at, next, blank, through}
+use Rattle.emission_laws.specs.Declared.{Emission, variable_of, over, name_by, full_name_by, condition_of, parts_at, id_at, next, blank, through}
 use Rattle.emission_laws.specs.Same.{SameEmission}
 use Rattle.ordered_emissions.specs.Orders.{IsNoSymbol}
 

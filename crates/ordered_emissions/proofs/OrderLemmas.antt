@@ -3,28 +3,23 @@ use Rattle.std.proofs.Common.{◌≡◌, ◌<◌, ◌≤◌, ◌⊎◌, inl, inr
 use Rattle.std.proofs.Common.{None}
 use Rattle.std.proofs.Common.{refl, sym, ap, subst, ◌∙◌, arith, get_or, map}
 use Rattle.std.specs.Prelude.{slice_get, option_map, Contains}
+use Rattle.std.proofs.lemmas.Option.{slice_get_past}
+use Rattle.std.proofs.lemmas.Bool.{cases_lt}
 use Rattle.reading.specs.World.{Each}
-use Rattle.bicep_names.specs.declared.kind.Kind.{Kind}
-use Rattle.bicep_program.specs.Circles.{Links}
-use Rattle.bicep_declared.specs.Declarations.{DeclaredTree}
+use Rattle.bicep_circles.specs.Kind.{Kind}
+use Rattle.bicep_circles.specs.Circles.{Links}
+use Rattle.bicep_circles.specs.Declarations.{DeclaredTree}
 use Rattle.bicep_circles.specs.Links.{mentioned, links}
-use Rattle.bicep_circles.proofs.FillLemmas.{by_order}
 use Rattle.bicep_circles.proofs.PlaceLemmas.{place, link_falls, place_within}
-use Rattle.bicep_meaning.specs.Files.{SourceFile, declaration, symbol_kind}
-use Rattle.bicep_meaning_laws.specs.Ranked.{mentioned_in, mentioned_around, mentions_at}
-use Rattle.emitted_declarations.specs.Declared.{next, through, whole}
+use Rattle.bicep_emission.specs.Files.{SourceFile, declaration, symbol_kind}
+use Rattle.emission_laws.specs.Ranked.{mentioned_in, mentioned_around, mentions_at}
+use Rattle.emission_laws.specs.Declared.{next, through, whole}
 use Rattle.emission_laws.specs.Same.{SameEmission}
 use Rattle.emission_laws.proofs.SettledLemmas.{same_next}
 use Rattle.ordered_emissions.specs.Orders.{IsPaired, kinds, IsOrderOf, IsNoSymbol}
 use Rattle.ordered_emissions.proofs.NothingLemmas.{nothing_stays}
 
 -- ---- symbols and declarations by their numbers
-
-none_there : {A : Type 0} (xs : List A) (n : ℕ) → length xs ≤ n → slice_get xs n ≡ None
-none_there [] zero h = refl
-none_there [] (suc n) h = refl
-none_there (x ∷ xs) zero h = absurd (omega (arith, h))
-none_there (x ∷ xs) (suc n) h = none_there xs n (omega (arith, h))
 
 some_there : {A : Type 0} (xs : List A) (n : ℕ) → n < length xs → (x : A) × (slice_get xs n ≡ Some x)
 some_there [] n h = absurd (omega (arith, h))
@@ -87,8 +82,8 @@ module _ (file : SourceFile) (paired : IsPaired file) where
   beyond n h =
       let all = count in
       record {
-        no_declaration = none_there file.declared.declarations n (omega (arith, h, all, paired));
-        no_kind = ap (option_map (λ x. x.2)) (none_there file.symbols n (omega (arith, h, all)));
+        no_declaration = slice_get_past file.declared.declarations n (omega (arith, h, all, paired));
+        no_kind = ap (option_map (λ x. x.2)) (slice_get_past file.symbols n (omega (arith, h, all)));
       }
 
   -- what a declaration mentions is what its symbol is linked to
@@ -110,7 +105,7 @@ module _ (file : SourceFile) (paired : IsPaired file) where
 
   -- this holds of all that a declaration mentions, where it holds of what its symbol is linked to
   pub all_mentioned : (P : ℕ → Type 0) (n : ℕ) → ((m : ℕ) → Links lists n m → P m) → Each P (mentions_at file n)
-  all_mentioned P n f = by (by_order n (length lists))
+  all_mentioned P n f = by (cases_lt n (length lists))
     where
       by : (n < length lists) ⊎ (length lists ≤ n) → Each P (mentions_at file n)
       by (inl here) = subst (Each P) (linked n here) (all_of_list P (get_or lists n []) f)
@@ -122,7 +117,7 @@ module _ (file : SourceFile) (paired : IsPaired file) where
         → ((m : ℕ) → m < length lists → place order m < k
         → SameEmission (through file files k) (through file files (suc k)) m)
         → (m : ℕ) → Links lists n m → SameEmission (through file files k) (through file files (suc k)) m
-    mentioned_stays k n h before m c = by (by_order m (length lists))
+    mentioned_stays k n h before m c = by (cases_lt m (length lists))
       where
         by : (m < length lists) ⊎ (length lists ≤ m)
             → SameEmission (through file files k) (through file files (suc k)) m
@@ -141,7 +136,7 @@ module _ (file : SourceFile) (paired : IsPaired file) where
 
     pub settled : (n : ℕ) → SameEmission (whole file files) (next file files (whole file files)) n
     unfolding through
-    settled n = by (by_order n (length lists))
+    settled n = by (cases_lt n (length lists))
       where
         by : (n < length lists) ⊎ (length lists ≤ n)
             → SameEmission (whole file files) (next file files (whole file files)) n

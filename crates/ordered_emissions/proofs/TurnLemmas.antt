@@ -1,16 +1,15 @@
 -- Symbols that are taken in an order.
 use Rattle.std.proofs.Common.{◌≡◌, ◌<◌, ◌≤◌, ◌⊎◌, inl, inr, ℕ, Bool, true, false, List, [], ◌∷◌, length, refl}
 use Rattle.std.proofs.Common.{sym, ◌∙◌}
-use Rattle.std.proofs.lemmas.Bool.{false≢true}
+use Rattle.std.proofs.lemmas.Bool.{false≢true, cases_lt}
 use Rattle.std.specs.Prelude.{slice_index_or, if◌then◌else◌}
 use Rattle.arm_expr.specs.Tree.{Tree}
 use Rattle.depend_graph.specs.Orders.{IsAmong}
-use Rattle.bicep_program.specs.Circles.{Links}
-use Rattle.bicep_circles.proofs.FillLemmas.{by_order}
-use Rattle.bicep_meaning.specs.Files.{SourceFile}
+use Rattle.bicep_circles.specs.Circles.{Links}
+use Rattle.bicep_emission.specs.Files.{SourceFile}
 use Rattle.bicep_emission.specs.Emitted.{Frame, no_value}
-use Rattle.declaration_laws.specs.Sound.{IsSound}
-use Rattle.emitted_declarations.specs.Declared.{next, whole}
+use Rattle.emission_laws.specs.Sound.{IsSound}
+use Rattle.emission_laws.specs.Declared.{next, whole}
 use Rattle.emission_laws.specs.Holes.{fill, holes, nearest, IsRun, refilled}
 use Rattle.emission_laws.specs.Same.{SameEmission}
 use Rattle.ordered_emissions.specs.Known.{known, known_scope, known_full_name, known_condition}
@@ -25,7 +24,7 @@ module _ (file : SourceFile) (files : List SourceFile) (order : List ℕ) (paire
   -- what the symbol at a place of the order mentions is known, where what is before that place is
   mentioned : (i : ℕ) → i < length order → ((m : ℕ) → IsAmong order i m → p m ≡ true) → (m : ℕ)
       → Links (lists file paired) (slice_index_or order i 0) m → (p m ≡ true) ⊎ IsNoSymbol file m
-  mentioned i h before m c = by (by_order m (length (lists file paired)))
+  mentioned i h before m c = by (cases_lt m (length (lists file paired)))
     where
       by : (m < length (lists file paired)) ⊎ (length (lists file paired) ≤ m) → (p m ≡ true) ⊎ IsNoSymbol file m
       by (inl here) = inl (before m (o.in_turn i m h c here))
@@ -40,7 +39,7 @@ module _ (file : SourceFile) (files : List SourceFile) (order : List ℕ) (paire
       (mentioned i h before))
 
   every : ((m : ℕ) → IsAmong order (length order) m → p m ≡ true) → (n : ℕ) → (p n ≡ true) ⊎ IsNoSymbol file n
-  every all n = by (by_order n (length (lists file paired)))
+  every all n = by (cases_lt n (length (lists file paired)))
     where
       by : (n < length (lists file paired)) ⊎ (length (lists file paired) ≤ n) → (p n ≡ true) ⊎ IsNoSymbol file n
       by (inl here) = inl (all n (o.all n here))

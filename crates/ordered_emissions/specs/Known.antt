@@ -2,7 +2,7 @@
 use Rattle.std.specs.Prelude.{◌≡◌, ℕ, Bool, List, [], ◌∷◌, map, if◌then◌else◌}
 use Rattle.arm_expr.specs.Tree.{Tree}
 use Rattle.bicep_emission.specs.Emitted.{Frame, Scope, no_value}
-use Rattle.emitted_declarations.specs.Declared.{Emission}
+use Rattle.emission_laws.specs.Declared.{Emission}
 use Rattle.emission_laws.specs.Holes.{fill, holes, nearest, IsRun}
 
 -- of a symbol that is known what it becomes, made of that with holes; of another nothing

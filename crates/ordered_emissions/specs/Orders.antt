@@ -1,9 +1,9 @@
 -- Orders of the declarations of a file.
 use Rattle.std.specs.Prelude.{◌≡◌, ℕ, length, List, None, map}
-use Rattle.bicep_names.specs.declared.kind.Kind.{Kind}
+use Rattle.bicep_circles.specs.Kind.{Kind}
 use Rattle.bicep_circles.specs.Links.{links}
 use Rattle.bicep_circles.specs.Orders.{IsLinkOrder}
-use Rattle.bicep_meaning.specs.Files.{SourceFile, symbol_kind, declaration}
+use Rattle.bicep_emission.specs.Files.{SourceFile, symbol_kind, declaration}
 
 -- each symbol has a declaration
 abbrev pub IsPaired : SourceFile → Type 0

@@ -3,12 +3,12 @@ ghost use Rattle.std.specs.Prelude.{◌≡◌, ◌⊎◌, ◌<◌, ◌∷◌, []
 ghost use Rattle.reading.specs.World.{Each};
 ghost use Rattle.depend_graph.specs.Orders.{IsAmong};
 ghost use Rattle.bicep_resolved.specs.Source.{SourceTree, ValueTree};
-ghost use Rattle.bicep_meaning.specs.Files.{SourceFile};
-ghost use Rattle.bicep_meaning_laws.specs.Ranked.{mentions_at};
+ghost use Rattle.bicep_emission.specs.Files.{SourceFile};
+ghost use Rattle.emission_laws.specs.Ranked.{mentions_at};
 ghost use Rattle.bicep_emission.specs.Emittable.{IsEmittable, IsValue};
 ghost use Rattle.bicep_emission.specs.Emitted.{Frame, emitted, emitted_value};
-ghost use Rattle.declaration_laws.specs.Sound.{IsSound};
-ghost use Rattle.emitted_declarations.specs.Declared.{next, whole};
+ghost use Rattle.emission_laws.specs.Sound.{IsSound};
+ghost use Rattle.emission_laws.specs.Declared.{next, whole};
 ghost use Rattle.emission_laws.specs.Holes.{fill, holes, refilled, IsRun};
 ghost use Rattle.emission_laws.specs.Same.{SameEmission};
 ghost use Rattle.ordered_emissions.specs.Orders.{IsPaired, IsOrderOf, IsNoSymbol};

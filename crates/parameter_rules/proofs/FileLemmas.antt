@@ -6,6 +6,8 @@ use Rattle.std.specs.Prelude.{slice_get, slice_index_or, option_map, Result, IfO
 use Rattle.std.specs.declared.alloc.AllocError.{AllocError}
 use Rattle.std.specs.declared.alloc.Global.{Global}
 use Rattle.std.specs.declared.vec.Vec.{Vec}
+use Rattle.std.proofs.lemmas.Bool.{cases_lt}
+use Rattle.foundation.proofs.Comparisons.{lt_or_is}
 use Rattle.template_parts.specs.declared.parameter.Parameter.{Parameter}
 use Rattle.bicep_tree.specs.Tree.{DecoratorTrees, FileTree}
 use Rattle.bicep_symbols.specs.Entries.{Symbol}
@@ -30,16 +32,6 @@ past_read d [] k h = refl
 past_read d (y ∷ ys) zero h = absurd (omega (arith, h))
 past_read d (y ∷ ys) (suc k) h = past_read d ys k (omega (arith, h))
 
-below : (n k : ℕ) → n < k + 1 → (n < k) ⊎ (n ≡ k)
-below zero zero h = inr refl
-below zero (suc k) h = inl (omega arith)
-below (suc n) zero h = absurd (omega (arith, h))
-below (suc n) (suc k) h = by (below n k (omega (arith, h)))
-  where
-    by : (n < k) ⊎ (n ≡ k) → (suc n < suc k) ⊎ (suc n ≡ suc k)
-    by (inl less) = inl (omega (arith, less))
-    by (inr same) = inr (ap suc same)
-
 module _ (ss : List Symbol) (ds : List DeclaredTree) (xs : List DecoratorTrees) where
   -- the symbols before a number have their parameters
   pub record Goes (number : ℕ) (done : List (Option Parameter)) : Type 0 where
@@ -53,7 +45,7 @@ module _ (ss : List Symbol) (ds : List DeclaredTree) (xs : List DecoratorTrees) 
       → IsParameter ss ds xs number o → more ≡ done ++ o ∷ [] → Goes number done → Goes (number + 1) more
   goes_on number done more o h e g = record {
     each = λ n less.
-        subst (λ l. IsParameter ss ds xs n (slice_index_or l n None)) (sym e) (by n (below n number less));
+        subst (λ l. IsParameter ss ds xs n (slice_index_or l n None)) (sym e) (by n (lt_or_is n number less));
     count = let c = g.count in let l = ap length e in let k = longer done in omega (arith, c, l, k);
   }
     where
@@ -78,17 +70,8 @@ module _ (ss : List Symbol) (ds : List DeclaredTree) (xs : List DecoratorTrees) 
 
   pub ends : (number : ℕ) (done : List (Option Parameter)) → length ds ≤ number → Goes number done → (n : ℕ)
       → IsParameter ss ds xs n (slice_index_or done n None)
-  ends number done h g n = by (split n number)
+  ends number done h g n = by (cases_lt n number)
     where
-      split : (n k : ℕ) → (n < k) ⊎ (k ≤ n)
-      split n zero = inr (omega arith)
-      split zero (suc k) = inl (omega arith)
-      split (suc n) (suc k) = of (split n k)
-        where
-          of : (n < k) ⊎ (k ≤ n) → (suc n < suc k) ⊎ (suc k ≤ suc n)
-          of (inl p) = inl (omega (arith, p))
-          of (inr p) = inr (omega (arith, p))
-
       by : (n < number) ⊎ (number ≤ n) → IsParameter ss ds xs n (slice_index_or done n None)
       by (inl less) = g.each n less
       by (inr more) =

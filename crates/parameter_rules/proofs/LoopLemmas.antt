@@ -2,8 +2,9 @@
 use Rattle.std.proofs.Common.{◌≡◌, ◌<◌, ◌≤◌, ◌+◌, ℕ, List, [], ◌∷◌, ◌++◌, length, get_or, drop, map, refl, sym, ap, ◌∙◌}
 use Rattle.std.proofs.Common.{append_assoc, append-nil, subst, arith}
 use Rattle.std.proofs.lemmas.List.{drop_all}
+use Rattle.arm_value.proofs.MemberLemmas.{put_each-append}
 use Rattle.foundation.proofs.Lists.{next_item}
-use Rattle.arm_value.specs.Json.{Json, Member, put, put_each, row, item}
+use Rattle.arm_value.specs.Json.{Json, Member, put_each, row, item}
 use Rattle.bicep_tree.specs.Nesting.{nesting, deepest, deepest_member, member_nesting}
 use Rattle.bicep_tree.specs.Tree.{trees, members}
 use Rattle.bicep_tree.specs.View as view
@@ -58,10 +59,6 @@ module _ (xs : List Expr) where
 
 -- ---- members
 
-put_both : (ms ns os : List Member) → put_each ms (ns ++ os) ≡ put_each (put_each ms ns) os
-put_both ms [] os = refl
-put_both ms (n ∷ ns) os = put_both (put n.0 n.1 ms) ns os
-
 -- the members so far with those of what is left are all; what is left nests no deeper than all
 pub record Fills (xs : List Written) (i : ℕ) (done : List Member) : Type 0 where
   pub all : put_each [] (each_of (members (map view.member_of xs)))
@@ -94,7 +91,7 @@ module _ (xs : List Written) where
         all = g.all
             ∙ ap (λ (l : List Written). put_each done (each_of (members (map view.member_of l))))
             (next_item xs i x h e)
-            ∙ put_both done (member_of (view.member_of x)) rest ∙ ap (λ ms. put_each ms rest) (sym n);
+            ∙ put_each-append done (member_of (view.member_of x)) rest ∙ ap (λ ms. put_each ms rest) (sym n);
         fits = omega (arith, f);
       }
 

@@ -13,6 +13,7 @@ use Rattle.bicep_tree.specs.declared.leaf.TypeName.TheVariants as name
 use Rattle.bicep_tree.specs.Tree as tree
 use Rattle.bicep_tree.specs.Tree.{Tree, Trees, DecoratorTrees}
 use Rattle.std.specs.declared.alloc.AllocError.{AllocError}
+use Rattle.arm_value.proofs.SameLemmas.{items-row}
 use Rattle.bicep_meaning.specs.Instances as source
 use Rattle.parameter_rules.specs.Rules.{plain_kind, secret_kind, kind_by, is_secret, bounds_of, allowed_of, accepts}
 use Rattle.parameter_rules.specs.Files.{IsTyped}
@@ -102,13 +103,9 @@ rule_is t ds q kind bounds allowed j =
 
 -- ---- what is made of the parts
 
-items_row : (js : List Json) → items (row js) ≡ js
-items_row [] = refl
-items_row (j ∷ js) = ap (λ l. j ∷ l) (items_row js)
-
 pub values_are : (e : Tree) (at : ℕ) (es : Trees) → e ≡ tree.array at es → (r : Result (List Json) AllocError)
     → IfOk r (λ js. row js ≡ row_of es) → IfOk r (λ js. js ≡ values_in e)
-values_are e at es is (Ok js) h = sym (items_row js) ∙ ap items h ∙ ap values_in (sym is)
+values_are e at es is (Ok js) h = sym (items-row js) ∙ ap items h ∙ ap values_in (sym is)
 values_are e at es is (Err x) h = tt
 
 -- a parameter of this type and with these bounds

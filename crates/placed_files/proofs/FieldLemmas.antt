@@ -3,7 +3,6 @@ use Rattle.std.proofs.Common.{◌≡◌, ◌||◌, ℕ, Bool, true, false, List,
 use Rattle.std.proofs.Common.{refl, ap, ◌∙◌}
 use Rattle.std.specs.Prelude.{if◌then◌else◌}
 use Rattle.foundation.proofs.TruthValues.{neither}
-use Rattle.template_meaning.specs.Resources.{is_outside}
 use Rattle.bicep_found.specs.Found.{Found, both, mapped}
 use Rattle.bicep_tree.specs.declared.leaf.Access.{Access}
 use Rattle.bicep_tree.specs.declared.leaf.Access.TheVariants as access
@@ -38,7 +37,7 @@ use Rattle.bicep_misplaced.specs.Expressions.{inner, bad_label, bad_in, bad_in_m
 use Rattle.bicep_misplaced.specs.Resources.{bad_field, bad_in_field_value, bad_in_all_fields, bad_in_field}
 use Rattle.bicep_meaning.specs.Instances.{is_own, argument_named, argument_in}
 use Rattle.sound_values.proofs.FoundLemmas.{first_none, second_none}
-use Rattle.placed_files.specs.Placed.{IsPlain, AreFieldsPlaced}
+use Rattle.placed_files.specs.Placed.{IsPlain, IsBodyName, AreFieldsPlaced}
 use Rattle.placed_files.proofs.FoundLemmas.{Always, weaker, always_mapped, always_made, always_then}
 use Rattle.placed_files.proofs.FoundLemmas.{always_second, always_both}
 use Rattle.placed_files.proofs.NameLemmas.{not_found, IsInside, copy_is_bad, field_is_inside}
@@ -192,7 +191,7 @@ ValueIsPlaced (s.each l e) = ⊥
 abbrev pub AreAllPlaced : PropertyTrees → Type 0
 AreAllPlaced s.no_property = Unit {0}
 AreAllPlaced (s.property at x v ps) =
-    ((is_own x ≡ false → is_outside None x ≡ false) × ValueIsPlaced v) × AreAllPlaced ps
+    ((is_own x ≡ false → IsBodyName x) × ValueIsPlaced v) × AreAllPlaced ps
 
 module _ (sc : Scope) where
   of_value : (v : tree.ValueTree) (ls : List LoopNames) → bad_in_field_value v ≡ None
@@ -202,7 +201,7 @@ module _ (sc : Scope) where
   of_value (tree.each (tree.loop at ns xs) e) ls b = absurd cc
 
   of_label : (o : Owner) (l : Label) → bad_field o l ≡ None → is_own (label_text l) ≡ false
-      → is_outside None (label_text l) ≡ false
+      → IsBodyName (label_text l)
   of_label o l e m =
       let x = label_text l in
       let p = neither (is_bad_field o x) (is_bad_name spot.Field x)
@@ -216,10 +215,10 @@ module _ (sc : Scope) where
   one_field o l v ls rest e b h =
       always_mapped AreAllPlaced (λ p. s.property (label_offset l) (label_text l) p.0 p.1)
       (both (resolved_value sc v ls) rest)
-      (always_both (λ v. (is_own (label_text l) ≡ false → is_outside None (label_text l) ≡ false) × ValueIsPlaced v)
+      (always_both (λ v. (is_own (label_text l) ≡ false → IsBodyName (label_text l)) × ValueIsPlaced v)
       AreAllPlaced (resolved_value sc v ls) rest
       (weaker ValueIsPlaced
-      (λ v. (is_own (label_text l) ≡ false → is_outside None (label_text l) ≡ false) × ValueIsPlaced v)
+      (λ v. (is_own (label_text l) ≡ false → IsBodyName (label_text l)) × ValueIsPlaced v)
       (λ v h. (of_label o l e, h)) (resolved_value sc v ls) (of_value v ls b)) h)
 
   pub of_fields : (o : Owner) (t : Repeated) (ms : MemberTrees) (ls : List LoopNames)

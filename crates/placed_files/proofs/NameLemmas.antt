@@ -1,5 +1,6 @@
 -- Names of fields that are not misplaced.
-use Rattle.std.proofs.Common.{◌≡◌, ◌||◌, ◌&&◌, ℕ, Bool, true, false, true≢false, nat_lt, List, [], ◌∷◌, None, not}
+use Rattle.std.proofs.Common.{◌≡◌, ◌||◌, ◌&&◌, ℕ, Bool, true, false, true≢false, nat_lt, List, [], ◌∷◌, not}
+use Rattle.std.proofs.Common.{Option, Some, None}
 use Rattle.std.proofs.Common.{codes, chars, refl, sym, ap, ◌∙◌, subst, bytes_eq}
 use Rattle.std.proofs.lemmas.Slice.Eq.{bytes_eq-Decides}
 use Rattle.std.specs.List.{AllByRecursion, list_all, list_any}
@@ -8,13 +9,14 @@ use Rattle.foundation.proofs.AsciiWords.{word}
 use Rattle.foundation.proofs.TruthValues.{neither, nor}
 use Rattle.arm_value.specs.Look.{fold, is_same_folded, is_among}
 use Rattle.arm_expr.specs.Brackets.{is_bracketed}
-use Rattle.template_meaning.specs.Resources.{is_named, is_outside}
+use Rattle.template_meaning.specs.Resources.{is_named, is_declaring, is_beside, is_outside}
 use Rattle.bicep_misplaced.specs.declared.spot.Owner.{Owner}
 use Rattle.bicep_misplaced.specs.declared.spot.Owner.TheVariants as owner
 use Rattle.bicep_misplaced.specs.declared.spot.Spot.{Spot}
 use Rattle.bicep_misplaced.specs.declared.spot.Spot.TheVariants as spot
 use Rattle.bicep_misplaced.specs.Words.{copying, is_copy, is_bad_name, taken, own, is_own, is_bad_field}
 use Rattle.bicep_meaning.specs.Instances as source
+use Rattle.placed_files.specs.Placed.{IsBodyName}
 
 -- ---- `copy`
 
@@ -60,6 +62,7 @@ record IsApart (x : List ℕ) : Type 0 where
   scope : is_same_folded x (codes "scope") ≡ false
   subscription : is_same_folded x (codes "subscriptionId") ≡ false
   group : is_same_folded x (codes "resourceGroup") ≡ false
+  existing : is_same_folded x (codes "existing") ≡ false
 
 not_named : (w x : List ℕ) → list_all (λ b. nat_lt b 128) w ≡ true → is_same_folded x w ≡ false
     → is_named w x ≡ false
@@ -72,8 +75,8 @@ not_named w x a e = by_test (is_named w x) refl
         absurd (true≢false (sym same ∙ e))
     by_test false h = refl
 
-not_outside : (x : List ℕ) → IsApart x → is_outside None x ≡ false
-not_outside x h =
+not_outside : (x : List ℕ) → IsApart x → IsBodyName x
+not_outside x h symbol =
     let type = not_named (codes "type") x refl h.type in
     let api = not_named (codes "apiVersion") x refl h.api in
     let name = not_named (codes "name") x refl h.name in
@@ -86,8 +89,14 @@ not_outside x h =
     let scope = not_named (codes "scope") x refl h.scope in
     let subscription = not_named (codes "subscriptionId") x refl h.subscription in
     let group = not_named (codes "resourceGroup") x refl h.group in
-    λ i. (type i || api i || name i || condition i || depends i || copy i)
-    || (resources i || comments i || metadata i || scope i || subscription i || group i) || false
+    let existing = not_named (codes "existing") x refl h.existing in
+    by_symbol symbol (λ i. (type i || api i || name i || condition i || depends i || copy i)
+    || (resources i || comments i || metadata i || scope i || subscription i || group i)) existing
+  where
+    by_symbol : (o : Option (List ℕ)) → (is_declaring x || is_beside x) ≡ false → is_named (codes "existing") x ≡ false
+        → is_outside o x ≡ false
+    by_symbol None d e = λ i. d i || false
+    by_symbol (Some y) d e = λ i. d i || e i
 
 -- ---- names of fields
 
@@ -132,6 +141,7 @@ apart_by x t o c = record {
   scope = t.0;
   subscription = t.1.1.1.1.1.1.1.0;
   group = t.1.1.1.1.1.1.1.1.0;
+  existing = t.1.1.1.1.1.1.1.1.1.0;
 }
 
 -- a field of a resource that is not its own, with what its own are by the owner
@@ -156,6 +166,7 @@ params_apart = record {
   scope = refl;
   subscription = refl;
   group = refl;
+  existing = refl;
 }
 
 only_params : (a b c : Bool) → not (a || (b || c)) ≡ false → a ≡ false → c ≡ false → b ≡ true
@@ -184,7 +195,7 @@ apart owner.Module x e c o = module_apart x e o
 
 -- a member of the name of such a field is one of the body
 pub field_is_inside : (o : Owner) (x : List ℕ) → is_bad_field o x ≡ false → is_copy x ≡ false
-    → source.is_own x ≡ false → is_outside None x ≡ false
+    → source.is_own x ≡ false → IsBodyName x
 field_is_inside o x e c m =
     not_outside x
     (apart o x e c

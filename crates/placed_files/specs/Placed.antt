@@ -1,6 +1,6 @@
 -- What the names in a file of a program without faults are not, so that a template reads them as names: none makes a
 -- loop, and none declares a resource beside its body.
-use Rattle.std.specs.Prelude.{◌≡◌, ℕ, Bool, false, Some, None, codes}
+use Rattle.std.specs.Prelude.{◌≡◌, ℕ, Bool, false, List, Option, Some, None, codes}
 use Rattle.template_meaning.specs.Resources.{is_outside}
 use Rattle.bicep_tree.specs.declared.leaf.Quoted.{Quoted}
 use Rattle.bicep_resolved.specs.Source.{PropertyTrees, ValueTree}
@@ -15,11 +15,15 @@ abbrev pub IsPlain : ValueTree → Type 0
 IsPlain (s.plain e) = Unit {0}
 IsPlain (s.each l e) = ⊥
 
+-- a member of the name is one of the body of a resource in a template, whether or not it has a symbolic name
+abbrev pub IsBodyName : List ℕ → Type 0
+IsBodyName x = (symbol : Option (List ℕ)) → is_outside symbol x ≡ false
+
 -- each field of the body of a resource is plain, and a member of its name is one of the body in a template
 abbrev pub AreFieldsPlaced : PropertyTrees → Type 0
 AreFieldsPlaced s.no_property = Unit {0}
 AreFieldsPlaced (s.property at x v ps) =
-    (is_own x ≡ false → IsPlain v × (is_outside None x ≡ false)) × AreFieldsPlaced ps
+    (is_own x ≡ false → IsPlain v × IsBodyName x) × AreFieldsPlaced ps
 
 -- no variable and no argument of a module is named `copy`, but for the case of ASCII letters
 pub record IsPlaced (f : SourceFile) : Type 0 where

@@ -12,8 +12,8 @@ use Rattle.plan_tasks.specs.declared.task.ScopeTask.{ScopeTask}
 use Rattle.plan_tasks.specs.declared.task.ScopeTask.TheVariants.{Enter, Put, Leave}
 use Rattle.plan_tasks.specs.Start.{start_of, IsStartTable, IsTaskOf, task_of}
 use Rattle.plan_tasks.proofs.KeyLemmas.{KeysLeft, keys_begin, put_at, enter_at, leave_at, keys_end}
-use Rattle.plan_needs.proofs.InstanceLemmas.{title, key_there}
-use Rattle.plan_needs.proofs.ScopeLemmas.{each_at}
+use Rattle.plan_elements.proofs.InstanceLemmas.{title, key_there}
+use Rattle.plan_elements.proofs.ScopeLemmas.{each_at}
 
 module _ (t : Table) (all : List ScopeTask) (start : IsStartTable t) (tasks : Each (IsTaskOf t) all) where
   one_more : (i : ℕ) → i < length all → (ks : List ResourceId) → KeysLeft t all i ks → (x : ScopeTask)

@@ -1,24 +1,11 @@
 -- A list that grows by one, for each of another list.
 use Rattle.std.proofs.Common.{◌≡◌, ℕ, zero, suc, ◌+◌, ◌<◌, ◌≤◌, List, [], ◌∷◌, ◌++◌, map, length, drop, get_or}
 use Rattle.std.proofs.Common.{refl, sym, ap, subst, ◌∙◌, arith, append_assoc}
-use Rattle.std.proofs.lemmas.List.{map-append}
+use Rattle.std.proofs.lemmas.List.{map-append, append-nil}
+use Rattle.std.proofs.Math.Seq.{drop-cons}
+use Rattle.foundation.proofs.Lists.{nothing_left}
 use Rattle.reading.specs.World.{Each}
 use Rattle.plan_table.proofs.SpotLemmas.{each_joined}
-
-drop_here : {B : Type 0} (bs : List B) (i : ℕ) (d : B) → i < length bs → drop i bs ≡ get_or bs i d ∷ drop (suc i) bs
-drop_here [] i d h = absurd (omega (arith, h))
-drop_here (b ∷ bs) zero d h = refl
-drop_here (b ∷ bs) (suc i) d h = drop_here bs i d (omega (arith, h))
-
-nothing_left : {B : Type 0} (bs : List B) (i : ℕ) → length bs ≤ i → drop i bs ≡ []
-nothing_left [] zero h = refl
-nothing_left [] (suc i) h = refl
-nothing_left (b ∷ bs) zero h = absurd (omega (arith, h))
-nothing_left (b ∷ bs) (suc i) h = nothing_left bs i (omega (arith, h))
-
-nil_right : {B : Type 0} (bs : List B) → bs ++ [] ≡ bs
-nil_right [] = refl
-nil_right (b ∷ bs) = ap (λ xs. b ∷ xs) (nil_right bs)
 
 module _ {A B C : Type 0} (f : A → C) (g : B → C) where
   pub more : (olds news : List A) (a : A) (bs : List B) (i : ℕ) (d : B) (all : List C) → i < length bs
@@ -30,13 +17,13 @@ module _ {A B C : Type 0} (f : A → C) (g : B → C) where
       ∙ ap (λ xs. xs ++ map g (drop (suc i) bs)) (ap (map f) n ∙ map-append f olds (a ∷ []))
       ∙ append_assoc (map f olds) (f a ∷ []) (map g (drop (suc i) bs))
       ∙ ap (λ x. map f olds ++ x ∷ map g (drop (suc i) bs)) e
-      ∙ ap (λ xs. map f olds ++ map g xs) (sym (drop_here bs i d h))
+      ∙ ap (λ xs. map f olds ++ map g xs) (sym (drop-cons bs i d h))
       ∙ left
 
   pub done : (news : List A) (bs : List B) (i : ℕ) (all : List C) → length bs ≤ i
       → map f news ++ map g (drop i bs) ≡ all → map f news ≡ all
   done news bs i all h left =
-      sym (nil_right (map f news))
+      sym (append-nil (map f news))
       ∙ ap (λ xs. map f news ++ map g xs) (sym (nothing_left bs i h))
       ∙ left
 

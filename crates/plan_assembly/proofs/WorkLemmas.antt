@@ -23,7 +23,7 @@ use Rattle.plan_table.specs.declared.table.Table.{Table}
 use Rattle.plan_table.specs.Whole.{whole_of, scopes_of, rows_in}
 use Rattle.plan_tasks.specs.declared.task.ScopeTask.{ScopeTask}
 use Rattle.plan_tasks.specs.Start.{start_of, IsStartTable, task_of}
-use Rattle.plan_needs.specs.Needs.{all_tasks, AreInOrder, AreWithin}
+use Rattle.plan_elements.specs.Needs.{all_tasks, AreInOrder, AreWithin}
 use Rattle.plan_assembly.specs.declared.plan.Plan.{Plan}
 use Rattle.plan_assembly.specs.declared.plan.Task.{Task}
 use Rattle.plan_assembly.specs.Plans.{task_in, IsTaskIn, ArePlanned, deployment_of, work_in, known_in}

@@ -18,7 +18,7 @@ use Rattle.plan_table.specs.declared.table.Table.{Table}
 use Rattle.plan_table.specs.Opened.{Opened, opened_at}
 use Rattle.plan_table.specs.Whole.{whole_of, scopes_of}
 use Rattle.plan_tasks.specs.Start.{start_of, IsStartTable, IsInstance, IsPutAt}
-use Rattle.plan_needs.specs.Needs.{AreInOrder, AreWithin}
+use Rattle.plan_elements.specs.Needs.{AreInOrder, AreWithin}
 use Rattle.plan_start.specs.Sheets.{IsSheet}
 use Rattle.plan_assembly.specs.declared.plan.Plan.{Plan}
 use Rattle.plan_assembly.specs.declared.plan.Task.{Task}

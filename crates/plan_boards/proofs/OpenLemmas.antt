@@ -1,8 +1,8 @@
 -- The board of a plan.
 use Rattle.std.proofs.Common.{◌≡◌, List, sym, ap, subst, ◌∙◌}
 use Rattle.arm_ids.specs.Held.{HeldResource}
-use Rattle.task_aims.specs.Plan.{Plan}
-use Rattle.task_aims.specs.Planned.{planned_by}
+use Rattle.plan_standings.specs.Plan.{Plan}
+use Rattle.plan_standings.specs.Planned.{planned_by}
 use Rattle.deploy_histories.specs.Planned.{Planned}
 use Rattle.deploy_core.specs.Opens.{AreStartNeeds}
 use Rattle.plan_standings.specs.declared.standings.PlanStandings.{PlanStandings}

@@ -1,6 +1,6 @@
 // The board of a plan.
 ghost use Rattle.std.specs.Prelude.{◌≡◌, [], map, IfErr, IfOk};
-ghost use Rattle.task_aims.specs.Planned.{planned_by};
+ghost use Rattle.plan_standings.specs.Planned.{planned_by};
 ghost use Rattle.arm_plan.specs.Accepted.{IsAccepted};
 ghost use Rattle.plan_standings.specs.Kept.{planned_of, IsNew};
 ghost use Rattle.board_replays.specs.Replays.{noted_of, IsBoardFault, IsOut, IsReopened};

@@ -3,12 +3,10 @@ use Rattle.std.proofs.Common.{◌≡◌, inl, inr, ℕ, zero, suc, ◌+◌, ◌<
 use Rattle.std.proofs.Common.{◌++◌}
 use Rattle.std.proofs.Common.{Option, Some, None, refl, sym, ap, subst, ◌∙◌, arith}
 use Rattle.std.specs.Prelude.{slice_get, option_map, option_and_then, if◌then◌else◌}
-use Rattle.arm_value.specs.Json.{Json}
-use Rattle.template_tree.specs.Tree.{TemplateTree, template, ResourceTree, resource, BodyTree, body_members}
-use Rattle.template_tree.specs.Tree.{deployment}
-use Rattle.template_tree.specs.Tree.{Trees, no_resources, a_resource}
-use Rattle.deploy_cells.specs.Cells.{Step, Position, Cell, parameter, variable, offered, output, count, included, name}
-use Rattle.deploy_cells.specs.Cells.{deployments, state, copies}
+use Rattle.std.proofs.lemmas.Option.{same_Some}
+use Rattle.template_parameters.specs.Json.{Json}
+use Rattle.template_parameters.specs.Tree.{TemplateTree, template, ResourceTree, resource, BodyTree, body_members, deployment, Trees, no_resources, a_resource}
+use Rattle.deploy_cells.specs.Cells.{Step, Position, Cell, parameter, variable, offered, output, count, included, name, deployments, state, copies}
 use Rattle.plan_cells.specs.Resources.{Above, Listed, Nested, header_in, tree_count, above_by, listed_tree}
 use Rattle.plan_cells.specs.Resources.{listed_trees, resources_in, unless_existing, resource_at, nested_in, nested_at}
 use Rattle.plan_cells.specs.Scopes.{template_at}
@@ -17,7 +15,7 @@ use Rattle.plan_cells.specs.Children.{Has, AreApart, parameter_names, variable_n
 use Rattle.plan_cells.specs.Children.{NamesDiffer, TreesNamesDiffer, TreeNamesDiffer, BodyNamesDiffer, numbers_in}
 use Rattle.plan_cells.specs.Children.{own_cells, scope_cells, opened_cells, steps, instance_cells, roots, children}
 use Rattle.plan_cells.proofs.ListLemmas.{has_joined, has_mapped, apart_joined, apart_map, numbers_apart, steps_apart}
-use Rattle.arm_value.specs.Kinds.{is_true}
+use Rattle.template_parameters.specs.Kinds.{is_true}
 
 -- which sort of cell it is
 abbrev tag : Cell → ℕ
@@ -140,13 +138,10 @@ mutual
 all_names : (t : TemplateTree) → NamesDiffer t → EachNames (resources_in t)
 all_names (template h rs) n = trees_names None 0 rs n.1
 
-some_listed : (x y : Listed) → Some x ≡ Some y → x ≡ y
-some_listed x y e = cc
-
 names_of_listed : (xs : List Listed) (i : ℕ) (x : Listed) → EachNames xs → slice_get xs i ≡ Some x
     → BodyNamesDiffer x.content
 names_of_listed [] i x n e = let f : None ≡ Some x = e in absurd (cc)
-names_of_listed (y ∷ xs) zero x n e = subst (λ (z : Listed). BodyNamesDiffer z.content) (some_listed y x e) n.0
+names_of_listed (y ∷ xs) zero x n e = subst (λ (z : Listed). BodyNamesDiffer z.content) (same_Some y x e) n.0
 names_of_listed (y ∷ xs) (suc i) x n e = names_of_listed xs i x n.1 e
 
 template_is : (m n : Nested) → Some m ≡ Some n → m.template ≡ n.template

@@ -2,11 +2,10 @@
 use Rattle.std.proofs.Common.{◌≡◌, inl, inr, ℕ, ◌+◌, ◌<◌, Bool, true, false, List, [], ◌∷◌, ◌++◌}
 use Rattle.std.proofs.Common.{map, Option, Some, None, refl, ap, subst, ◌∙◌, arith}
 use Rattle.std.specs.Prelude.{if◌then◌else◌}
-use Rattle.arm_value.specs.Json.{Json}
+use Rattle.template_parameters.specs.Json.{Json}
 use Rattle.foundation.proofs.Comparisons.{lt_true}
-use Rattle.template_tree.specs.Tree.{TemplateTree}
-use Rattle.deploy_cells.specs.Cells.{Step, Position, Cell, parameter, variable, offered, output, count, included, name}
-use Rattle.deploy_cells.specs.Cells.{deployments, state, opener, parent, copies, admits}
+use Rattle.template_parameters.specs.Tree.{TemplateTree}
+use Rattle.deploy_cells.specs.Cells.{Step, Position, Cell, parameter, variable, offered, output, count, included, name, deployments, state, opener, parent, copies, admits}
 use Rattle.plan_cells.specs.Scopes.{template_at}
 use Rattle.plan_cells.specs.Meaning.{Deployment, is_own}
 use Rattle.plan_cells.specs.Desired.{is_state}
@@ -14,7 +13,7 @@ use Rattle.plan_cells.specs.Children.{Has, parameter_names, variable_names, outp
 use Rattle.plan_cells.specs.Children.{own_cells, scope_cells, opened_cells, steps, instance_cells, roots, children}
 use Rattle.plan_cells.proofs.ListLemmas.{has_joined, has_mapped}
 use Rattle.plan_cells.proofs.ListLemmas.{of_steps}
-use Rattle.arm_value.specs.Kinds.{is_true}
+use Rattle.template_parameters.specs.Kinds.{is_true}
 
 -- a cell of a scope
 pub record IsOfScope (p : Position) (c : Cell) : Type 0 where

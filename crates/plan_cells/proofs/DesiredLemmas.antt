@@ -1,13 +1,12 @@
 -- A desired state of a template is one part by part.
 use Rattle.std.proofs.Common.{◌≡◌, Bool, true, false, true≢false, List, ◌∷◌, Option, Some, None, refl, sym, ap, ◌∙◌}
 use Rattle.std.specs.Prelude.{option_map, option_and_then, if◌then◌else◌}
-use Rattle.arm_value.specs.Json.{Json}
-use Rattle.arm_ids.specs.Held.{HeldResource}
+use Rattle.template_parameters.specs.Json.{Json}
+use Rattle.deploy_cells.specs.Held.{HeldResource}
 use Rattle.reading.specs.Reading.{done, pure}
 use Rattle.reading.specs.World.{value_in}
 use Rattle.reading.proofs.Parts.{value_in-continued}
-use Rattle.deploy_cells.specs.Cells.{Step, Position, Cell, parameter, variable, offered, output, count, included, name}
-use Rattle.deploy_cells.specs.Cells.{deployments, state, World, is_admitted}
+use Rattle.deploy_cells.specs.Cells.{Step, Position, Cell, parameter, variable, offered, output, count, included, name, deployments, state, World, is_admitted}
 use Rattle.deploy_cells.specs.Guarded.{Reads, there, there_if, IsWorld}
 use Rattle.deploy_cells.proofs.CellLemmas.{guarded_value}
 use Rattle.plan_cells.specs.Resources.{Nested, nested_numbers}
@@ -15,7 +14,7 @@ use Rattle.deploy_cells.specs.Listing.{listing_value}
 use Rattle.plan_cells.specs.Scopes.{template_at, nested_of}
 use Rattle.plan_cells.specs.Meaning.{Deployment, raw, rule, if_meets, ruled, plain, meaning}
 use Rattle.plan_cells.specs.Desired.{Satisfies, HasValue, IsValued, is_state, HasScope, HasParts}
-use Rattle.arm_value.specs.Kinds.{is_true}
+use Rattle.template_parameters.specs.Kinds.{is_true}
 
 module _ (d : Deployment) (w : World) where
   plain_is : (c : Cell) → is_state c ≡ false → plain d c ≡ there_if (option_map (ruled d (rule d c)) (raw d c))

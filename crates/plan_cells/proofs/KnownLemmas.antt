@@ -1,6 +1,6 @@
 -- What is known at a moment is so in worlds, and in the one table of it.
 use Rattle.std.proofs.Common.{◌≡◌, Option, Some, None, refl, sym, ap, ◌∙◌}
-use Rattle.arm_value.specs.Json.{Json}
+use Rattle.template_parameters.specs.Json.{Json}
 use Rattle.reading.specs.Knowledge.{Known, known, absent, missing, Told, value, no_value, waits, told, Holds}
 use Rattle.reading.specs.Knowledge.{Completes}
 use Rattle.reading.specs.Knowledge.{Means, Stays, IsToldStill}
@@ -12,7 +12,7 @@ use Rattle.plan_cells.specs.Known.{by_others, Moment, Table, entry_of, entry_tol
 use Rattle.plan_cells.specs.Known.{is_outright, is_told, entry_by, IsTable, IsTrueIn}
 use Rattle.plan_cells.specs.Start.{IsSo}
 
-same_entry : (o u : Option Json) → entry_of o ≡ entry_of u → o ≡ u
+pub same_entry : (o u : Option Json) → entry_of o ≡ entry_of u → o ≡ u
 same_entry (Some x) (Some y) e = cc
 same_entry (Some x) None e = cc
 same_entry None (Some y) e = cc

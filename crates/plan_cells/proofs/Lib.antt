@@ -8,3 +8,5 @@ pub mod PlanLemmas
 pub mod PointLemmas
 pub mod TaskLemmas
 pub mod SiteLemmas
+pub use Rattle.deploy_cells.proofs.CellLemmas
+pub use Rattle.deploy_cells.proofs.SameLemmas

@@ -3,7 +3,7 @@ use Rattle.std.proofs.Common.{◌≡◌, ◌⊎◌, inl, inr, ℕ, zero, suc, �
 use Rattle.std.proofs.Common.{map}
 use Rattle.std.proofs.Common.{Some, None, refl, sym, ap, subst, arith}
 use Rattle.std.specs.Prelude.{bytes_eq, slice_get, option_and_then, if◌then◌else◌}
-use Rattle.arm_value.specs.Look.{fold}
+use Rattle.template_parameters.specs.Look.{fold}
 use Rattle.foundation.proofs.Words.{eq_word}
 use Rattle.deploy_cells.specs.Cells.{Step, step}
 use Rattle.plan_cells.specs.Resources.{Listed, unless_existing}

@@ -1,12 +1,11 @@
 -- What is told at the start is so in each desired state.
 use Rattle.std.proofs.Common.{◌≡◌, List, Option, Some, subst}
-use Rattle.arm_value.specs.Json.{Json}
-use Rattle.arm_ids.specs.Held.{HeldResource}
+use Rattle.template_parameters.specs.Json.{Json}
+use Rattle.deploy_cells.specs.Held.{HeldResource}
 use Rattle.reading.specs.World.{value_in}
 use Rattle.reading.specs.Knowledge.{told, value, Completes}
-use Rattle.template_parts.specs.declared.mode.Mode.{Mode}
-use Rattle.deploy_cells.specs.Cells.{Cell, parameter, variable, offered, output, count, included, name, deployments}
-use Rattle.deploy_cells.specs.Cells.{state, World}
+use Rattle.template_parameters.specs.Mode.{Mode}
+use Rattle.deploy_cells.specs.Cells.{Cell, parameter, variable, offered, output, count, included, name, deployments, state, World}
 use Rattle.plan_cells.specs.Known.{outright, Table, IsTrueIn}
 use Rattle.plan_cells.specs.Meaning.{Deployment, meaning}
 use Rattle.plan_cells.specs.Desired.{Satisfies}

@@ -3,11 +3,10 @@ use Rattle.std.proofs.Common.{◌≡◌, Bool, true, false, true≢false, [], �
 use Rattle.std.proofs.Common.{ap, subst, ◌∙◌}
 use Rattle.std.specs.Prelude.{◌||◌, if◌then◌else◌}
 use Rattle.std.specs.List.{list_any}
-use Rattle.arm_value.specs.Json.{Json}
-use Rattle.arm_ids.specs.declared.id.ResourceId.{ResourceId}
+use Rattle.template_parameters.specs.Json.{Json}
+use Rattle.deploy_cells.specs.ResourceId.{ResourceId}
 use Rattle.reading.specs.Knowledge.{Known, known, absent, missing, Stays, Grows}
-use Rattle.deploy_cells.specs.Cells.{Position, Cell, parameter, variable, offered, output, count, included, name}
-use Rattle.deploy_cells.specs.Cells.{deployments, state, World}
+use Rattle.deploy_cells.specs.Cells.{Position, Cell, parameter, variable, offered, output, count, included, name, deployments, state, World}
 use Rattle.deploy_cells.specs.Guarded.{Meaning}
 use Rattle.deploy_cells.specs.Puts.{IsPutAt}
 use Rattle.deploy_cells.specs.Same.{same_id}

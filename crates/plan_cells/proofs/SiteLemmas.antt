@@ -1,11 +1,11 @@
 -- What reads at a site reads through one reading for each cell that it looks at.
 use Rattle.std.proofs.Common.{◌≡◌, Option, Some, None, refl, sym, ◌∙◌}
-use Rattle.arm_ids.specs.declared.id.Place.{Place}
-use Rattle.arm_env.specs.Look.{Look, Fact, Looking, Surroundings}
+use Rattle.deploy_cells.specs.Place.{Place}
+use Rattle.arm_eval.specs.Look.{Look, Fact, Looking, Surroundings}
 use Rattle.arm_eval.specs.Titles.{titled}
 use Rattle.reading.specs.Reading.{Reading, done, ask, onward, continued, through}
-use Rattle.template_tree.specs.Tree.{TemplateTree}
-use Rattle.arm_value.specs.Json.{Json}
+use Rattle.template_parameters.specs.Tree.{TemplateTree}
+use Rattle.template_parameters.specs.Json.{Json}
 use Rattle.deploy_cells.specs.Cells.{Cell}
 use Rattle.deploy_cells.specs.Followed.{followed}
 use Rattle.plan_cells.specs.Sites.{Texts, ids_alone, names, symbols, Site, looked_up, titles_at, by_texts, reading_in}

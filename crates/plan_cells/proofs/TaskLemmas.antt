@@ -3,14 +3,13 @@ use Rattle.std.proofs.Common.{◌≡◌, ◌⊎◌, inl, inr, ℕ, zero, suc, �
 use Rattle.std.proofs.Common.{◌∷◌}
 use Rattle.std.proofs.Common.{◌++◌, length, Option, Some, None, refl, sym, ap, subst, ◌∙◌, arith}
 use Rattle.std.specs.Prelude.{nat_lt, slice_get, option_map, option_and_then, if◌then◌else◌}
-use Rattle.arm_value.specs.Json.{Json, null, bool, int, text, array, object}
-use Rattle.foundation.proofs.Comparisons.{lt_of_true}
+use Rattle.std.proofs.lemmas.Option.{same_Some}
+use Rattle.template_parameters.specs.Json.{Json, null, bool, int, text, array, object}
+use Rattle.foundation.proofs.Comparisons.{lt_of_true, lt_true}
 use Rattle.reading.specs.Reading.{pure, read, continued}
 use Rattle.reading.specs.World.{value_in}
 use Rattle.reading.proofs.Parts.{value_in-continued}
-use Rattle.template_tree.specs.Tree.{TemplateTree, template, ResourceTree, resource, BodyTree, body_members}
-use Rattle.template_tree.specs.Tree.{deployment}
-use Rattle.template_tree.specs.Tree.{Trees, no_resources, a_resource}
+use Rattle.template_parameters.specs.Tree.{TemplateTree, template, ResourceTree, resource, BodyTree, body_members, deployment, Trees, no_resources, a_resource}
 use Rattle.deploy_cells.specs.Cells.{Step, step, Position, Cell, count, included, World, copies, is_admitted}
 use Rattle.deploy_cells.specs.Guarded.{Reads, IsWorld}
 use Rattle.plan_cells.specs.Resources.{Above, Listed, Nested, tree_count, trees_count, above_by, listed_at}
@@ -27,7 +26,7 @@ use Rattle.plan_cells.specs.Tasks.{body_tasks}
 use Rattle.plan_cells.specs.TaskOf.{IsInside, IsScope, IsTask, AreTasks}
 use Rattle.plan_cells.proofs.DesiredLemmas.{valued, not_admitted, by_admitted}
 use Rattle.plan_cells.proofs.ListLemmas.{has_joined, has_left, has_right}
-use Rattle.arm_value.specs.Kinds.{is_true}
+use Rattle.template_parameters.specs.Kinds.{is_true}
 
 -- look-ups in lists joined of two
 pub get_left : (xs ys : List Listed) (k : ℕ) (y : Listed) → slice_get xs k ≡ Some y → slice_get (xs ++ ys) k ≡ Some y
@@ -115,15 +114,9 @@ true_is (text t) e = absurd (true≢false (sym e))
 true_is (array js) e = absurd (true≢false (sym e))
 true_is (object ms) e = absurd (true≢false (sym e))
 
-some_true : (o : Option Json) → is_true o ≡ true → o ≡ Some (bool true)
+pub some_true : (o : Option Json) → is_true o ≡ true → o ≡ Some (bool true)
 some_true None e = absurd (true≢false (sym e))
 some_true (Some v) e = ap (λ x. Some x) (true_is v e)
-
-some_json : (u v : Json) → Some u ≡ Some v → u ≡ v
-some_json u v e = cc
-
-some_listed : (x y : Listed) → Some x ≡ Some y → x ≡ y
-some_listed x y e = cc
 
 module _ (d : Deployment) (w : World) (world : IsWorld (meaning d) w) where
   -- the reading lists the tasks of which this is true
@@ -265,9 +258,6 @@ module _ (d : Deployment) (w : World) (world : IsWorld (meaning d) w) where
   count_admitted [] r h = refl
   count_admitted (s ∷ p) r h = ap is_true h.0.is_included
 
-  lt_is_true : (i n : ℕ) → i < n → nat_lt i n ≡ true
-  lt_is_true i n l = grind (arith, l)
-
   has_count : (p : Position) (r : ℕ) (y : Listed) → IsThere p → resource_of d.template p r ≡ Some y
       → (v : Json) × (w (count p r) ≡ Some v)
   unfolding raw
@@ -280,7 +270,7 @@ module _ (d : Deployment) (w : World) (world : IsWorld (meaning d) w) where
   unfolding raw
   has_condition p r j y e l =
       let v = valued d w world (included p (step r j)) refl (included_value d p (step r j) y)
-      (ap (option_map (included_value d p (step r j))) e) (lt_is_true j (copies (w (count p r))) l) in
+      (ap (option_map (included_value d p (step r j))) e) (lt_true j (copies (w (count p r))) l) in
       (v.value, v.has)
 
   -- the resources of a scope
@@ -362,7 +352,7 @@ module _ (d : Deployment) (w : World) (world : IsWorld (meaning d) w) where
       → slice_get (y ∷ ys) k ≡ Some z → OfResource p (r + k) z x → OfResource p r y x ⊎ OfTrees p (suc r) ys x
   first_tree p r y ys x zero z e q =
       inl (subst (λ (k : ℕ). OfResource p k y x) (let f : r + 0 ≡ r = omega arith in f)
-      (subst (λ (u : Listed). OfResource p (r + 0) u x) (sym (some_listed y z e)) q))
+      (subst (λ (u : Listed). OfResource p (r + 0) u x) (sym (same_Some y z e)) q))
   first_tree p r y ys x (suc k) z e q =
       inr (k, (z, (e, subst (λ (m : ℕ). OfResource p m z x) (let f : r + suc k ≡ suc r + k = omega arith in f) q)))
 
@@ -498,7 +488,7 @@ module _ (d : Deployment) (w : World) (world : IsWorld (meaning d) w) where
       → x.declaration.existing ≡ b → (if b then None else Some x) ≡ Some y → IsAt [] t r y
   by_existing t r x y true g e h = let f : None ≡ Some y = h in absurd (cc)
   by_existing t r x y false g e h =
-      subst (λ (z : Listed). IsAt [] t r z) (some_listed x y h) (record { is_get = g; is_new = e })
+      subst (λ (z : Listed). IsAt [] t r z) (same_Some x y h) (record { is_get = g; is_new = e })
 
   by_get : (t : TemplateTree) (r : ℕ) (y : Listed) (o : Option Listed) → slice_get (resources_in t) r ≡ o
       → option_and_then unless_existing o ≡ Some y → IsAt [] t r y

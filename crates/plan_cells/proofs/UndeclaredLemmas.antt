@@ -2,12 +2,11 @@
 use Rattle.std.proofs.Common.{◌≡◌, inl, ℕ, ◌+◌, Bool, true, false, true≢false, List, [], ◌∷◌}
 use Rattle.std.proofs.Common.{◌++◌, map, Option, Some, None, refl, sym, ap, subst, ◌∙◌, arith}
 use Rattle.std.specs.Prelude.{nat_lt, option_map, option_and_then, if◌then◌else◌}
-use Rattle.arm_value.specs.Json.{Json}
+use Rattle.template_parameters.specs.Json.{Json}
 use Rattle.foundation.proofs.Comparisons.{lt_of_true}
 use Rattle.deploy_cells.specs.Guarded.{Reads}
-use Rattle.template_tree.specs.Tree.{TemplateTree}
-use Rattle.deploy_cells.specs.Cells.{Step, Position, Cell, parameter, variable, offered, output, count, included, name}
-use Rattle.deploy_cells.specs.Cells.{deployments, state, parent, copies, admits}
+use Rattle.template_parameters.specs.Tree.{TemplateTree}
+use Rattle.deploy_cells.specs.Cells.{Step, Position, Cell, parameter, variable, offered, output, count, included, name, deployments, state, parent, copies, admits}
 use Rattle.deploy_cells.specs.Listing.{listing_value}
 use Rattle.plan_cells.specs.Resources.{resource_at, resources_in, header_in, nested_numbers}
 use Rattle.plan_cells.specs.Scopes.{template_at}
@@ -18,7 +17,7 @@ use Rattle.plan_cells.specs.Desired.{is_state}
 use Rattle.plan_cells.specs.Children.{Has, parameter_names, variable_names, output_names, numbers_in, own_cells}
 use Rattle.plan_cells.specs.Children.{scope_cells, opened_cells, steps, roots, children}
 use Rattle.plan_cells.proofs.ListLemmas.{has_left, has_right, has_map, not_named, not_numbered, has_step}
-use Rattle.arm_value.specs.Kinds.{is_true}
+use Rattle.template_parameters.specs.Kinds.{is_true}
 
 module _ (d : Deployment) where
   -- the parts of a scope's cells

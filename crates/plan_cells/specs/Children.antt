@@ -1,17 +1,14 @@
 -- Which cells are there: those of the root, and those that the value of another cell opens.
 use Rattle.std.specs.Prelude.{◌≡◌, ◌⊎◌, ℕ, zero, suc, Bool, true, false, List, [], ◌∷◌, ◌++◌, map, Option, Some}
 use Rattle.std.specs.Prelude.{None, if◌then◌else◌}
-use Rattle.arm_value.specs.Json.{Json}
-use Rattle.arm_value.specs.Look.{fold}
-use Rattle.template_tree.specs.Tree.{TemplateTree, template, ResourceTree, resource, BodyTree, body_members}
-use Rattle.template_tree.specs.Tree.{deployment}
-use Rattle.template_tree.specs.Tree.{Trees, no_resources, a_resource, Header}
-use Rattle.deploy_cells.specs.Cells.{Step, step, Position, Cell, parameter, variable, offered, output, count, included}
-use Rattle.deploy_cells.specs.Cells.{name, deployments, copies}
+use Rattle.template_parameters.specs.Json.{Json}
+use Rattle.template_parameters.specs.Look.{fold}
+use Rattle.template_parameters.specs.Tree.{TemplateTree, template, ResourceTree, resource, BodyTree, body_members, deployment, Trees, no_resources, a_resource, Header}
+use Rattle.deploy_cells.specs.Cells.{Step, step, Position, Cell, parameter, variable, offered, output, count, included, name, deployments, copies}
 use Rattle.plan_cells.specs.Resources.{Listed, header_in, resources_in}
 use Rattle.plan_cells.specs.Scopes.{template_at}
 use Rattle.plan_cells.specs.Meaning.{Deployment, is_own}
-use Rattle.arm_value.specs.Kinds.{is_true}
+use Rattle.template_parameters.specs.Kinds.{is_true}
 
 abbrev pub Has : {A : Type 0} → A → List A → Type 0
 Has x [] = ⊥

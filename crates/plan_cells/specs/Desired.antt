@@ -1,15 +1,13 @@
 -- The desired states of a template (Microsoft Learn, "Understand the structure and syntax of ARM templates").
 use Rattle.std.specs.Prelude.{◌≡◌, ℕ, Bool, true, false, List, ◌∷◌, Option, Some, None, option_map, is_some}
-use Rattle.arm_value.specs.Json.{Json, bool}
-use Rattle.arm_ids.specs.Id.{folded_text}
-use Rattle.arm_ids.specs.Held.{HeldResource, find}
-use Rattle.arm_ids.specs.declared.id.ResourceId.{ResourceId}
+use Rattle.template_parameters.specs.Json.{Json, bool}
+use Rattle.deploy_cells.specs.Id.{folded_text}
+use Rattle.deploy_cells.specs.Held.{HeldResource, find}
+use Rattle.deploy_cells.specs.ResourceId.{ResourceId}
 use Rattle.reading.specs.World.{value_in}
-use Rattle.deploy_cells.specs.Cells.{Step, Position, Cell, parameter, variable, offered, output, count, included, name}
-use Rattle.deploy_cells.specs.Cells.{deployments, state, World, is_admitted}
+use Rattle.deploy_cells.specs.Cells.{Step, Position, Cell, parameter, variable, offered, output, count, included, name, deployments, state, World, is_admitted}
 use Rattle.deploy_cells.specs.Guarded.{Reads}
-use Rattle.deploy_cells.specs.Puts.{Kind, Kinds, Desired, IsDesired, HaveBodies, ResourcesDiffer, DeploymentsDiffer}
-use Rattle.deploy_cells.specs.Puts.{OthersAreHeld}
+use Rattle.deploy_cells.specs.Puts.{Kind, Kinds, Desired, IsDesired, HaveBodies, ResourcesDiffer, DeploymentsDiffer, OthersAreHeld}
 use Rattle.plan_cells.specs.Resources.{Listed, Nested, nested_in}
 use Rattle.plan_cells.specs.Scopes.{resource_of, nested_of}
 use Rattle.plan_cells.specs.Meaning.{Deployment, meaning, bodies, raw, rule}

@@ -1,6 +1,6 @@
 -- What is known of cells at a moment: what follows from what is known outright, by what the cells are by others.
 use Rattle.std.specs.Prelude.{◌≡◌, Option, Some, None}
-use Rattle.arm_value.specs.Json.{Json}
+use Rattle.template_parameters.specs.Json.{Json}
 use Rattle.reading.specs.Knowledge.{Known, known, absent, missing, Told, value, no_value, waits, told}
 use Rattle.deploy_cells.specs.Cells.{Cell, World}
 use Rattle.deploy_cells.specs.Guarded.{Meaning}

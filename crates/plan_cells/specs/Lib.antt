@@ -11,3 +11,10 @@ pub mod TaskOf
 pub mod Needs
 pub mod Reads
 pub mod Plan
+pub use Rattle.arm_eval.specs.Titles
+pub use Rattle.arm_eval.specs.Trees
+pub use Rattle.template_parameters.specs.Rule
+pub use Rattle.deploy_cells.specs.Cells
+pub use Rattle.deploy_cells.specs.Guarded
+pub use Rattle.deploy_cells.specs.Same
+pub use Rattle.deploy_cells.specs.Puts

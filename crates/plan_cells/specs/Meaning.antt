@@ -1,26 +1,25 @@
 -- What the value of each cell of a template is, by the cells that are read for it.
 use Rattle.std.specs.Prelude.{ℕ, pos, not, Bool, true, false, List, [], ◌∷◌, ◌++◌, Option, Some, None, bytes_eq, codes}
 use Rattle.std.specs.Prelude.{nat_lt, is_some, is_none, option_map, option_and_then, if◌then◌else◌}
-use Rattle.arm_value.specs.Json.{Json, bool, int, text, object, pairs}
-use Rattle.arm_value.specs.Look.{fold}
-use Rattle.arm_value.specs.View.{json}
-use Rattle.arm_ids.specs.declared.id.Place.{Place}
-use Rattle.arm_env.specs.Look.{Looking, Surroundings}
+use Rattle.template_parameters.specs.Json.{Json, bool, int, text, object, pairs}
+use Rattle.template_parameters.specs.Look.{fold}
+use Rattle.template_parameters.specs.View.{json}
+use Rattle.deploy_cells.specs.Place.{Place}
+use Rattle.arm_eval.specs.Look.{Looking, Surroundings}
 use Rattle.arm_eval.specs.Trees.{tree_value, copied, count_of}
 use Rattle.arm_eval.specs.Outputs as outputs
 use Rattle.reading.specs.Reading.{done, ask, pure, read, continued}
-use Rattle.template_parts.specs.declared.content.Argument.{Argument}
-use Rattle.template_parts.specs.declared.content.Content.{Content}
-use Rattle.template_parts.specs.declared.content.Content.TheVariants.{Value, Copy}
-use Rattle.template_parts.specs.declared.looping.ResourceCopy.{ResourceCopy}
-use Rattle.template_parts.specs.declared.output.Output.{Output}
-use Rattle.template_parts.specs.declared.parameter.Parameter.{Parameter}
-use Rattle.template_parts.specs.declared.variable.Variable.{Variable}
+use Rattle.template_parameters.specs.Argument.{Argument}
+use Rattle.template_parameters.specs.Content.{Content}
+use Rattle.template_parameters.specs.Content.TheVariants.{Value, Copy}
+use Rattle.template_parameters.specs.ResourceCopy.{ResourceCopy}
+use Rattle.template_parameters.specs.Output.{Output}
+use Rattle.template_parameters.specs.Parameter.{Parameter}
+use Rattle.template_parameters.specs.Variable.{Variable}
 use Rattle.template_parameters.specs.Binding.{BoundMeaning, is_known, is_default}
 use Rattle.template_parameters.specs.Rule.{breach, is_of, is_bool}
-use Rattle.template_tree.specs.Tree.{TemplateTree}
-use Rattle.deploy_cells.specs.Cells.{Step, step, Position, Cell, parameter, variable, offered, output, count, included}
-use Rattle.deploy_cells.specs.Cells.{name, deployments, state, copies}
+use Rattle.template_parameters.specs.Tree.{TemplateTree}
+use Rattle.deploy_cells.specs.Cells.{Step, step, Position, Cell, parameter, variable, offered, output, count, included, name, deployments, state, copies}
 use Rattle.deploy_cells.specs.Guarded.{Reads, Meaning, there_if, itself, guarded}
 use Rattle.deploy_cells.specs.Listing.{listing_value}
 use Rattle.deploy_cells.specs.Puts.{Bodies, key_formed}

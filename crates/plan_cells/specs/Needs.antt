@@ -2,21 +2,21 @@
 use Rattle.std.specs.Prelude.{ℕ, suc, ◌/◌, nat_eq, ◌&&◌, ◌||◌, bytes_eq, Bool, true, false, List, []}
 use Rattle.std.specs.Prelude.{◌∷◌, ◌++◌, length, is_some, Option, Some, None, if◌then◌else◌}
 use Rattle.std.specs.List.{list_any}
-use Rattle.arm_value.specs.Json.{Json, text}
-use Rattle.arm_value.specs.Look.{is_same_folded}
-use Rattle.arm_ids.specs.Parent.{begins}
-use Rattle.arm_ids.specs.declared.id.Place.{Place}
-use Rattle.arm_ids.specs.declared.id.ResourceId.{ResourceId}
-use Rattle.arm_env.specs.Find.{id_key, names_resource}
+use Rattle.template_parameters.specs.Json.{Json, text}
+use Rattle.template_parameters.specs.Look.{is_same_folded}
+use Rattle.deploy_cells.specs.Parent.{begins}
+use Rattle.deploy_cells.specs.Place.{Place}
+use Rattle.deploy_cells.specs.ResourceId.{ResourceId}
+use Rattle.arm_eval.specs.Find.{id_key, names_resource}
 use Rattle.arm_eval.specs.Titles.{element}
 use Rattle.arm_eval.specs.Trees.{tree_value}
 use Rattle.reading.specs.Reading.{pure, read, continued}
-use Rattle.template_parts.specs.declared.looping.Batches.{Batches}
-use Rattle.template_parts.specs.declared.looping.Batches.TheVariants.{Parallel, Serial}
-use Rattle.template_parts.specs.declared.looping.ResourceCopy.{ResourceCopy}
-use Rattle.template_parts.specs.declared.mode.Form.{Form}
-use Rattle.template_parts.specs.declared.mode.Form.TheVariants.{One, Two}
-use Rattle.template_tree.specs.Tree.{TemplateTree}
+use Rattle.template_parameters.specs.Batches.{Batches}
+use Rattle.template_parameters.specs.Batches.TheVariants.{Parallel, Serial}
+use Rattle.template_parameters.specs.ResourceCopy.{ResourceCopy}
+use Rattle.template_parameters.specs.Form.{Form}
+use Rattle.template_parameters.specs.Form.TheVariants.{One, Two}
+use Rattle.template_parameters.specs.Tree.{TemplateTree}
 use Rattle.deploy_cells.specs.Cells.{Step, Position, name}
 use Rattle.deploy_cells.specs.Guarded.{Reads}
 use Rattle.deploy_cells.specs.Puts.{key_at}

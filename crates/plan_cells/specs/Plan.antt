@@ -1,8 +1,8 @@
 -- The plan of a deployment: its tasks, the keys of its puts, and which task needs which.
 use Rattle.std.specs.Prelude.{◌≡◌, ◌↔◌, ◌⊎◌, ℕ, Bool, true, List, [], ◌∷◌, slice_get, Some}
-use Rattle.arm_ids.specs.Held.{HeldResource}
+use Rattle.deploy_cells.specs.Held.{HeldResource}
 use Rattle.reading.specs.Knowledge.{value, told}
-use Rattle.template_parts.specs.declared.mode.Mode.{Mode}
+use Rattle.template_parameters.specs.Mode.{Mode}
 use Rattle.plan_cells.specs.Known.{Table}
 use Rattle.plan_cells.specs.Meaning.{Deployment}
 use Rattle.plan_cells.specs.Tasks.{Task, Work, work}

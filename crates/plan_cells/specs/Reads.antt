@@ -1,8 +1,8 @@
 -- What a task gives, the state at the key that it puts or the outputs of the scope that it leaves, and what a scope has
 -- when it is entered.
 use Rattle.std.specs.Prelude.{Bool, false, List, [], Option, Some, None, option_and_then}
-use Rattle.arm_ids.specs.declared.id.ResourceId.{ResourceId}
-use Rattle.template_tree.specs.Tree.{TemplateTree}
+use Rattle.deploy_cells.specs.ResourceId.{ResourceId}
+use Rattle.template_parameters.specs.Tree.{TemplateTree}
 use Rattle.deploy_cells.specs.Cells.{Step, Position, Cell, offered, output, name, state, World}
 use Rattle.deploy_cells.specs.Same.{same_id, same_position}
 use Rattle.plan_cells.specs.Scopes.{template_at}

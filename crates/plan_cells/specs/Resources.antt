@@ -1,12 +1,11 @@
 -- The resources of a template in one list: each before its children, with its full type.
 use Rattle.std.specs.Prelude.{ℕ, suc, ◌+◌, Bool, false, List, [], ◌∷◌, ◌++◌, Option, Some, None, slice_get}
 use Rattle.std.specs.Prelude.{option_and_then, is_some, if◌then◌else◌}
-use Rattle.arm_value.specs.Json.{Member}
-use Rattle.template_parts.specs.declared.content.Argument.{Argument}
-use Rattle.template_parts.specs.declared.declaration.Declaration.{Declaration}
-use Rattle.template_parts.specs.declared.mode.Scope.{Scope}
-use Rattle.template_tree.specs.Tree.{Header, TemplateTree, template, ResourceTree, resource, BodyTree, body_members}
-use Rattle.template_tree.specs.Tree.{deployment, Trees, no_resources, a_resource}
+use Rattle.template_parameters.specs.Json.{Member}
+use Rattle.template_parameters.specs.Argument.{Argument}
+use Rattle.template_parameters.specs.Declaration.{Declaration}
+use Rattle.template_parameters.specs.Scope.{Scope}
+use Rattle.template_parameters.specs.Tree.{Header, TemplateTree, template, ResourceTree, resource, BodyTree, body_members, deployment, Trees, no_resources, a_resource}
 
 -- the resource that has another as its child: its number in the list, and its full type
 pub record Above : Type 0 where

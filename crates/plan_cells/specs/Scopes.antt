@@ -3,14 +3,14 @@
 use Rattle.std.specs.Prelude.{ℕ, Bool, true, false, List, [], ◌∷◌, ◌++◌, Option, Some, None, option_map}
 use Rattle.std.specs.Prelude.{option_and_then}
 use Rattle.std.specs.Prelude.{if◌then◌else◌}
-use Rattle.arm_value.specs.Json.{Json, text}
-use Rattle.arm_ids.specs.declared.id.Place.{Place}
+use Rattle.template_parameters.specs.Json.{Json, text}
+use Rattle.deploy_cells.specs.Place.{Place}
 use Rattle.reading.specs.Reading.{done, pure, read, continued}
-use Rattle.arm_env.specs.declared.env.Looping.{Looping}
-use Rattle.template_parts.specs.declared.looping.ResourceCopy.{ResourceCopy}
-use Rattle.template_parts.specs.declared.mode.Scope.{Scope}
-use Rattle.template_parts.specs.declared.mode.Scope.TheVariants.{Outer, Inner}
-use Rattle.template_tree.specs.Tree.{TemplateTree}
+use Rattle.arm_eval.specs.Looping.{Looping}
+use Rattle.template_parameters.specs.ResourceCopy.{ResourceCopy}
+use Rattle.template_parameters.specs.Scope.{Scope}
+use Rattle.template_parameters.specs.Scope.TheVariants.{Outer, Inner}
+use Rattle.template_parameters.specs.Tree.{TemplateTree}
 use Rattle.deploy_cells.specs.Cells.{Step, Position, name}
 use Rattle.deploy_cells.specs.Guarded.{Reads}
 use Rattle.plan_cells.specs.Resources.{Listed, Nested, resource_at, nested_at}

@@ -1,29 +1,28 @@
 -- What an expression of a template reads, by where it is.
 use Rattle.std.specs.Prelude.{ℕ, Bool, true, false, List, [], ◌∷◌, ◌++◌, Option, Some, None, bytes_eq, codes}
 use Rattle.std.specs.Prelude.{zero, suc, is_some, option_map, option_and_then, slice_get, if◌then◌else◌}
-use Rattle.arm_value.specs.Json.{Json, text}
-use Rattle.arm_value.specs.Look.{fold}
-use Rattle.arm_value.specs.View.{json}
-use Rattle.arm_ids.specs.declared.id.Place.{Place}
-use Rattle.arm_ids.specs.declared.id.ResourceId.{ResourceId}
+use Rattle.template_parameters.specs.Json.{Json, text}
+use Rattle.template_parameters.specs.Look.{fold}
+use Rattle.template_parameters.specs.View.{json}
+use Rattle.deploy_cells.specs.Place.{Place}
+use Rattle.deploy_cells.specs.ResourceId.{ResourceId}
 use Rattle.reading.specs.Reading.{done, ask, pure, read, continued, through}
-use Rattle.arm_env.specs.declared.env.Looping.{Looping}
-use Rattle.arm_env.specs.declared.env.Spelled.{Spelled}
-use Rattle.arm_env.specs.Look as look
-use Rattle.arm_env.specs.Look.{Look, Fact, a_value, a_key, a_truth, a_list, Looking, Surroundings}
-use Rattle.arm_env.specs.Find.{names_key, names_only, first_named}
+use Rattle.arm_eval.specs.Looping.{Looping}
+use Rattle.arm_eval.specs.Spelled.{Spelled}
+use Rattle.arm_eval.specs.Look as look
+use Rattle.arm_eval.specs.Look.{Look, Fact, a_value, a_key, a_truth, a_list, Looking, Surroundings}
+use Rattle.arm_eval.specs.Find.{names_key, names_only, first_named}
 use Rattle.arm_eval.specs.Titles as titles
 use Rattle.arm_eval.specs.Titles.{Titles, titled}
-use Rattle.template_parts.specs.declared.mode.Form.{Form}
-use Rattle.template_parts.specs.declared.mode.Form.TheVariants.{One, Two}
-use Rattle.template_parts.specs.declared.output.Output.{Output}
-use Rattle.template_parts.specs.declared.parameter.Parameter.{Parameter}
-use Rattle.template_parts.specs.declared.value_type.ValueType.{ValueType}
-use Rattle.template_parts.specs.declared.value_type.ValueType.TheVariants as type
-use Rattle.template_parts.specs.declared.variable.Variable.{Variable}
-use Rattle.template_tree.specs.Tree.{TemplateTree}
-use Rattle.deploy_cells.specs.Cells.{Step, step, Position, Cell, parameter, variable, offered, output, count, name}
-use Rattle.deploy_cells.specs.Cells.{deployments, state, copies}
+use Rattle.template_parameters.specs.Form.{Form}
+use Rattle.template_parameters.specs.Form.TheVariants.{One, Two}
+use Rattle.template_parameters.specs.Output.{Output}
+use Rattle.template_parameters.specs.Parameter.{Parameter}
+use Rattle.template_parameters.specs.ValueType.{ValueType}
+use Rattle.template_parameters.specs.ValueType.TheVariants as type
+use Rattle.template_parameters.specs.Variable.{Variable}
+use Rattle.template_parameters.specs.Tree.{TemplateTree}
+use Rattle.deploy_cells.specs.Cells.{Step, step, Position, Cell, parameter, variable, offered, output, count, name, deployments, state, copies}
 use Rattle.deploy_cells.specs.Guarded.{Reads}
 use Rattle.deploy_cells.specs.Listing.{Named, listing_of, Sought, found, left_away, not_here, sought}
 use Rattle.deploy_cells.specs.Puts.{key_at}
@@ -31,8 +30,8 @@ use Rattle.deploy_cells.specs.Same.{same_id}
 use Rattle.deploy_cells.specs.Followed.{followed}
 use Rattle.plan_cells.specs.Resources.{Listed, header_in, resources_in, nested_numbers}
 use Rattle.plan_cells.specs.Scopes.{template_at, owner, visible, loops_around, loops_inside, own_place}
-use Rattle.arm_value.specs.Kinds.{is_true}
-use Rattle.arm_ids.specs.Members.{deployment_type}
+use Rattle.template_parameters.specs.Kinds.{is_true}
+use Rattle.deploy_cells.specs.Members.{deployment_type}
 
 -- what a text of `reference` that is no id means
 pub data Texts : Type 0 where

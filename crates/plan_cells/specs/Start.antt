@@ -1,9 +1,9 @@
 -- What is known at the start of a deployment, and at each point of it.
 use Rattle.std.specs.Prelude.{◌≡◌, ◌||◌, Bool, true, false, List, [], ◌∷◌, Option, Some, None, if◌then◌else◌}
 use Rattle.std.specs.List.{list_any}
-use Rattle.arm_value.specs.Json.{Json}
-use Rattle.arm_ids.specs.Held.{HeldResource}
-use Rattle.arm_ids.specs.declared.id.ResourceId.{ResourceId}
+use Rattle.template_parameters.specs.Json.{Json}
+use Rattle.deploy_cells.specs.Held.{HeldResource}
+use Rattle.deploy_cells.specs.ResourceId.{ResourceId}
 use Rattle.reading.specs.World.{value_in}
 use Rattle.reading.specs.Knowledge.{Known, known, absent, missing, Told, value, no_value, waits, blanked}
 use Rattle.deploy_cells.specs.Cells.{Position, Cell, offered, output, state, World}

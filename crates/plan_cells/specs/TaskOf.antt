@@ -1,6 +1,6 @@
 -- Which tasks a deployment has in a world, each by itself.
 use Rattle.std.specs.Prelude.{◌≡◌, true, List, [], ◌∷◌, Some, None}
-use Rattle.arm_value.specs.Json.{bool}
+use Rattle.template_parameters.specs.Json.{bool}
 use Rattle.reading.specs.World.{value_in}
 use Rattle.deploy_cells.specs.Cells.{Step, Position, World, included}
 use Rattle.plan_cells.specs.Resources.{Listed, Nested, nested_in}

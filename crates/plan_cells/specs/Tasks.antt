@@ -2,19 +2,17 @@
 use Rattle.std.specs.Prelude.{ℕ, zero, suc, ◌+◌, ◌&&◌, not, bytes_eq, Bool, List, [], ◌∷◌, ◌++◌}
 use Rattle.std.specs.Prelude.{Option, Some, None, if◌then◌else◌}
 use Rattle.std.specs.List.{list_any}
-use Rattle.arm_value.specs.Json.{Json, text}
-use Rattle.arm_value.specs.Look.{fold}
-use Rattle.arm_ids.specs.Held.{HeldResource}
-use Rattle.arm_ids.specs.declared.id.Place.{Place}
-use Rattle.arm_ids.specs.declared.id.ResourceId.{ResourceId}
-use Rattle.arm_env.specs.Find.{id_key}
+use Rattle.template_parameters.specs.Json.{Json, text}
+use Rattle.template_parameters.specs.Look.{fold}
+use Rattle.deploy_cells.specs.Held.{HeldResource}
+use Rattle.deploy_cells.specs.Place.{Place}
+use Rattle.deploy_cells.specs.ResourceId.{ResourceId}
+use Rattle.arm_eval.specs.Find.{id_key}
 use Rattle.reading.specs.Reading.{done, pure, read, continued}
-use Rattle.template_parts.specs.declared.declaration.Declaration.{Declaration}
-use Rattle.template_parts.specs.declared.mode.Mode.{Mode}
-use Rattle.template_parts.specs.declared.mode.Mode.TheVariants.{Incremental, Complete}
-use Rattle.template_tree.specs.Tree.{TemplateTree, template, ResourceTree, resource, BodyTree, body_members}
-use Rattle.template_tree.specs.Tree.{deployment}
-use Rattle.template_tree.specs.Tree.{Trees, no_resources, a_resource}
+use Rattle.template_parameters.specs.Declaration.{Declaration}
+use Rattle.template_parameters.specs.Mode.{Mode}
+use Rattle.template_parameters.specs.Mode.TheVariants.{Incremental, Complete}
+use Rattle.template_parameters.specs.Tree.{TemplateTree, template, ResourceTree, resource, BodyTree, body_members, deployment, Trees, no_resources, a_resource}
 use Rattle.deploy_cells.specs.Cells.{Step, step, Position, count, included, name, copies}
 use Rattle.deploy_cells.specs.Guarded.{Reads}
 use Rattle.deploy_cells.specs.Puts.{Kind, key_at}
@@ -22,7 +20,7 @@ use Rattle.deploy_cells.specs.Same.{same_id}
 use Rattle.plan_cells.specs.Resources.{tree_count}
 use Rattle.plan_cells.specs.Meaning.{Deployment}
 use Rattle.plan_cells.specs.Desired.{kinds}
-use Rattle.arm_value.specs.Kinds.{is_true}
+use Rattle.template_parameters.specs.Kinds.{is_true}
 
 pub data Task : Type 0 where
   -- a scope is entered, or left

@@ -1,15 +1,15 @@
 // What holds of the cells of a template. A law has no body: its contract is the law.
 ghost use Rattle.std.specs.Prelude.{◌≡◌, Option, Some, None, List, true, false};
-ghost use Rattle.arm_value.specs.Json.{Json};
-ghost use Rattle.arm_ids.specs.Held.{HeldResource};
+ghost use Rattle.template_parameters.specs.Json.{Json};
+ghost use Rattle.deploy_cells.specs.Held.{HeldResource};
 ghost use Rattle.reading.specs.World.{value_in};
 ghost use Rattle.reading.specs.Knowledge.{told, value, Completes, Grows};
-ghost use Rattle.template_parts.specs.declared.mode.Mode.{Mode};
+ghost use Rattle.template_parameters.specs.Mode.{Mode};
 ghost use Rattle.deploy_cells.specs.Cells.{Cell, World, parent, admits};
 ghost use Rattle.deploy_cells.specs.Guarded.{Reads, Meaning, IsWorld};
-ghost use Rattle.arm_ids.specs.declared.id.Place.{Place};
-ghost use Rattle.arm_env.specs.Look.{Looking, Surroundings};
-ghost use Rattle.template_tree.specs.Tree.{TemplateTree};
+ghost use Rattle.deploy_cells.specs.Place.{Place};
+ghost use Rattle.arm_eval.specs.Look.{Looking, Surroundings};
+ghost use Rattle.template_parameters.specs.Tree.{TemplateTree};
 ghost use Rattle.deploy_cells.specs.Followed.{followed};
 ghost use Rattle.plan_cells.specs.Sites.{Site, reading_in, seen_at, surroundings};
 ghost use Rattle.plan_cells.specs.Meaning.{Deployment, raw};

@@ -7,3 +7,6 @@
 #![tactic(auto)]
 
 pub mod laws;
+
+pub use arm_eval::symbols::key_at;
+pub use template_parameters::first_breach;

@@ -2,20 +2,18 @@
 use Rattle.std.proofs.Common.{◌≡◌, ℕ, refl, ap₂}
 use Rattle.std.proofs.Common.{◌∙◌, arith}
 use Rattle.std.specs.Prelude.{nat_eq, ◌&&◌, bytes_eq}
+use Rattle.foundation.proofs.Comparisons.{eq_turned}
 use Rattle.deploy_cells.specs.Cells.{Position}
 use Rattle.key_tags.proofs.CodeLemmas.{key_eq}
 use Rattle.plan_tags.specs.Tags.{Tag, entry, inside, before, root_left, child_of, same_tag}
 use Rattle.plan_codes.specs.Codes.{code, IsNumbering, IsTagOf}
 use Rattle.foundation.proofs.TruthValues.{and_true_is}
 
-turned : (n m : ℕ) → nat_eq n m ≡ nat_eq m n
-turned n m = grind arith
-
 -- ---- tags
 
 module _ (number : Position → ℕ) (P : Position → Type 0) (apart : IsNumbering number P) where
   pub tag_eq : (a t : Tag) → IsTagOf P a → IsTagOf P t → bytes_eq (code number a) (code number t) ≡ same_tag a t
-  tag_eq (entry p) (entry q) h k = and_true_is (nat_eq (number p) (number q)) ∙ turned (number p) (number q)
+  tag_eq (entry p) (entry q) h k = and_true_is (nat_eq (number p) (number q)) ∙ eq_turned (number p) (number q)
       ∙ apart q p k h
   tag_eq (entry p) (inside q) h k = refl
   tag_eq (entry p) (before q s m) h k = refl

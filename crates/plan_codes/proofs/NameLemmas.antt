@@ -7,27 +7,22 @@ use Rattle.arm_ids.specs.Segments.{joined}
 use Rattle.arm_ids.specs.declared.id.Place.{Place}
 use Rattle.arm_ids.specs.declared.id.ResourceId.{ResourceId}
 use Rattle.arm_env.specs.Find.{id_key}
-use Rattle.arm_eval.specs.Titles.{element}
+use Rattle.plan_tags.specs.Titles.{element}
 use Rattle.template_parts.specs.declared.looping.ResourceCopy.{ResourceCopy}
 use Rattle.template_parts.specs.declared.mode.Form.{Form}
 use Rattle.template_parts.specs.declared.mode.Form.TheVariants.{One, Two}
 use Rattle.template_tree.specs.Tree.{TemplateTree}
 use Rattle.deploy_cells.specs.Puts.{key_at}
 use Rattle.deploy_cells.specs.Same.{same_id}
-use Rattle.plan_cells.specs.Resources.{Listed}
-use Rattle.plan_cells.specs.Needs.{has_loop, is_loop, is_id_of, names_in_one, is_symbol, is_element}
-use Rattle.plan_cells.specs.Needs.{names_in_two, value_names}
+use Rattle.plan_tags.specs.Resources.{Listed}
+use Rattle.plan_tags.specs.Needs.{has_loop, is_loop, is_id_of, names_in_one, is_symbol, is_element, names_in_two, value_names}
 use Rattle.tag_needs.specs.Tags.{shares}
 use Rattle.key_tags.specs.KeyCodes.{key_code}
 use Rattle.plan_codes.specs.NameCodes.{loop_code, keyed, spelled, symbolic, loop_names, symbol_names, names_of}
 use Rattle.plan_codes.specs.NameCodes.{key_asks}
 use Rattle.plan_codes.specs.NameCodes.{value_asks}
 use Rattle.key_tags.proofs.CodeLemmas.{key_eq}
-use Rattle.foundation.proofs.TruthValues.{or_false_twice}
-
-and_nil : (b : Bool) → (b && false) ≡ false
-and_nil true = refl
-and_nil false = refl
+use Rattle.foundation.proofs.TruthValues.{or_false_twice, and_false_is}
 
 -- ---- in the first form
 
@@ -52,7 +47,7 @@ is_id_is place x r n (Some k) e = rw e refl
 loops_shared : (f g : ℕ) (x : List ℕ) (o : Option ResourceCopy) (k : ResourceId) (a c : List ℕ)
     → shares (loop_code f (fold x) ∷ []) (loop_names g o ++ (keyed g k ∷ spelled g a ∷ spelled g c ∷ []))
     ≡ (nat_eq f g && loop_is x o)
-loops_shared f g x None k a c = sym (and_nil (nat_eq f g))
+loops_shared f g x None k a c = sym (and_false_is (nat_eq f g))
 loops_shared f g x (Some l) k a c = or_false_twice (nat_eq f g && bytes_eq (fold x) (fold l.name))
 
 two_spelled : (b a c : Bool) → (((b && a) || ((b && c) || false)) || false) ≡ (b && (false || (a || c)))
@@ -133,7 +128,7 @@ module _ (f g : ℕ) (place : Place) (r : Listed) (i : ℕ) (n : List ℕ) where
   symbols_shared : (x : List ℕ) (looped : Bool) (o : Option (List ℕ)) (k : Option ResourceId)
       → shares (symbolic f x ∷ key_asks f k) (symbol_names g i looped o ++ keyed g key ∷ [])
       ≡ (nat_eq f g && (is_symbol x o || (is_element x i looped o || id_is k key)))
-  symbols_shared x looped None None = sym (and_nil (nat_eq f g))
+  symbols_shared x looped None None = sym (and_false_is (nat_eq f g))
   symbols_shared x looped None (Some j) =
       or_false_twice (nat_eq f g && bytes_eq (key_code j) (key_code key)) ∙ ap (λ s. nat_eq f g && s) (key_eq j key)
   symbols_shared x true (Some y) None = symbol_alone (nat_eq f g) (bytes_eq x y) (bytes_eq x (element y i))
@@ -160,8 +155,8 @@ module _ (f g : ℕ) (place : Place) (r : Listed) (i : ℕ) (n : List ℕ) where
       ≡ (nat_eq f g && value_names form place t v r i (text n))
   value_named One t (text x) = one_by (is_loop x t) x
   value_named Two t (text x) = two_by x
-  value_named form t null = sym (and_nil (nat_eq f g))
-  value_named form t (bool b) = sym (and_nil (nat_eq f g))
-  value_named form t (int z) = sym (and_nil (nat_eq f g))
-  value_named form t (array xs) = sym (and_nil (nat_eq f g))
-  value_named form t (object ms) = sym (and_nil (nat_eq f g))
+  value_named form t null = sym (and_false_is (nat_eq f g))
+  value_named form t (bool b) = sym (and_false_is (nat_eq f g))
+  value_named form t (int z) = sym (and_false_is (nat_eq f g))
+  value_named form t (array xs) = sym (and_false_is (nat_eq f g))
+  value_named form t (object ms) = sym (and_false_is (nat_eq f g))

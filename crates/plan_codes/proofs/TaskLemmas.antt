@@ -3,12 +3,13 @@ use Rattle.std.proofs.Common.{◌≡◌, ℕ, suc, ◌<◌, ◌≤◌, Bool, tru
 use Rattle.std.proofs.Common.{Option, Some, None, refl, sym, ap, ap₂, subst, ◌∙◌, arith}
 use Rattle.std.specs.Prelude.{nat_eq, ◌&&◌, ◌||◌, bytes_eq, if◌then◌else◌}
 use Rattle.std.specs.List.{list_any}
+use Rattle.foundation.proofs.Comparisons.{eq_itself}
 use Rattle.arm_value.specs.Json.{Json, null, bool, int, text, array, object}
 use Rattle.arm_value.specs.Look.{fold}
 use Rattle.arm_ids.specs.declared.id.ResourceId.{ResourceId}
 use Rattle.arm_env.specs.Find.{id_key}
-use Rattle.arm_eval.specs.Trees.{tree_value}
-use Rattle.arm_eval.specs.Titles.{element}
+use Rattle.plan_tags.specs.Trees.{tree_value}
+use Rattle.plan_tags.specs.Titles.{element}
 use Rattle.reading.specs.Reading.{pure, read, continued, onward}
 use Rattle.reading.specs.Knowledge.{known, value, told, and_then, by_entry}
 use Rattle.reading.proofs.Parts.{told-continued}
@@ -19,20 +20,18 @@ use Rattle.template_parts.specs.declared.mode.Form.{Form}
 use Rattle.template_parts.specs.declared.mode.Form.TheVariants.{One, Two}
 use Rattle.template_tree.specs.Tree.{TemplateTree}
 use Rattle.arm_ids.specs.declared.id.Place.{Place}
-use Rattle.deploy_cells.specs.Cells.{Step, Position, Cell, name, deployments}
+use Rattle.deploy_cells.specs.Cells.{Step, Position, Cell, name}
 use Rattle.deploy_cells.specs.Guarded.{Reads}
 use Rattle.deploy_cells.specs.Same.{same_position}
-use Rattle.deploy_cells.proofs.SameLemmas.{cell_is}
-use Rattle.plan_cells.specs.Known.{Table}
-use Rattle.plan_cells.specs.Resources.{Listed}
-use Rattle.plan_cells.specs.Scopes.{template_at, resource_of}
-use Rattle.plan_cells.specs.Sites.{reading_at, body_site, form_at}
-use Rattle.plan_cells.specs.Meaning.{Deployment}
-use Rattle.plan_cells.specs.Tasks.{Task, enter, leave, put, delete}
-use Rattle.plan_cells.specs.Needs.{Instance, started, ended, copy_of, is_loop, value_names, element_names, or_else}
-use Rattle.plan_cells.specs.Needs.{elements_name, depends_by, depends, depends_on, needs_by_order, needs}
-use Rattle.plan_tags.specs.Tags.{Tag, entry, inside, before, root_left, child_of, tags_of, asks_of, by_batch}
-use Rattle.plan_tags.specs.Tags.{by_copy, same_tag, parent_by}
+use Rattle.deploy_cells.proofs.SameLemmas.{position_is}
+use Rattle.plan_tags.specs.Known.{Table}
+use Rattle.plan_tags.specs.Resources.{Listed}
+use Rattle.plan_tags.specs.Scopes.{template_at, resource_of}
+use Rattle.plan_tags.specs.Sites.{reading_at, body_site, form_at}
+use Rattle.plan_tags.specs.Meaning.{Deployment}
+use Rattle.plan_tags.specs.Tasks.{Task, enter, leave, put, delete}
+use Rattle.plan_tags.specs.Needs.{Instance, started, ended, copy_of, is_loop, value_names, element_names, or_else, elements_name, depends_by, depends, depends_on, needs_by_order, needs}
+use Rattle.plan_tags.specs.Tags.{Tag, entry, inside, before, root_left, child_of, tags_of, asks_of, by_batch, by_copy, same_tag, parent_by}
 use Rattle.plan_tags.specs.Tags as plain
 use Rattle.plan_tags.proofs.TagLemmas.{by_tags}
 use Rattle.tag_needs.specs.Tags.{shares}
@@ -45,13 +44,9 @@ use Rattle.plan_codes.specs.TaskCodes.{AreRead, IsNamed, IsDepending, AreDependi
 use Rattle.plan_codes.specs.TaskCodes.{listed_names, instance_names, instance_asks, task_tags, task_asks}
 use Rattle.plan_codes.proofs.CodeLemmas.{tag_eq}
 use Rattle.plan_codes.proofs.NameLemmas.{value_named}
-use Rattle.foundation.proofs.TruthValues.{or_assoc, or_crossed}
+use Rattle.foundation.proofs.TruthValues.{or_assoc, or_crossed, and_false_is, or_false}
 
 -- ---- truth values
-
-or_nil : (b : Bool) → (b || false) ≡ b
-or_nil true = refl
-or_nil false = refl
 
 and_or : (a b c : Bool) → (a && (b || c)) ≡ ((a && b) || (a && c))
 and_or true b c = refl
@@ -126,15 +121,11 @@ name_no_code f x y h k =
     ap₂ bytes_eq h.is k.is
     ∙ ap (λ b. b && bytes_eq (f ∷ h.rest) k.rest) (not_equal_back h.sort k.sort h.high k.low)
 
-and_nil : (b : Bool) → (b && false) ≡ false
-and_nil true = refl
-and_nil false = refl
-
 other_scope : (f g : ℕ) → nat_eq f g ≡ false → (x y : List ℕ) → IsNameIn f x → IsNameIn g y → bytes_eq x y ≡ false
 other_scope f g e x y h k =
     ap₂ bytes_eq h.is k.is
     ∙ ap (λ b. nat_eq h.sort k.sort && (b && bytes_eq h.rest k.rest)) e
-    ∙ and_nil (nat_eq h.sort k.sort)
+    ∙ and_false_is (nat_eq h.sort k.sort)
 
 code_low : (number : Position → ℕ) (t : Tag) → IsCode (code number t)
 code_low number (entry p) = record { sort = 0; rest = number p ∷ []; low = omega arith; is = refl }
@@ -334,7 +325,7 @@ module _ (d : Deployment) (number : Position → ℕ) (P : Position → Type 0) 
     values_named : (f g : ℕ) (form : Form) (t : Option TemplateTree) (vs : List Json) (x : Listed) (i : ℕ) (n : List ℕ)
         → shares (values_ask f form t vs) (names_of g form d.place x i n)
         ≡ (nat_eq f g && list_any (λ v. value_names form d.place t v x i (text n)) vs)
-    values_named f g form t [] x i n = sym (and_nil (nat_eq f g))
+    values_named f g form t [] x i n = sym (and_false_is (nat_eq f g))
     values_named f g form t (v ∷ vs) x i n =
         shares_left (value_asks f form t v) (values_ask f form t vs) (names_of g form d.place x i n)
         ∙ ap₂ (λ a b. a || b) (value_named f g d.place x i n form t v) (values_named f g form t vs x i n)
@@ -346,16 +337,6 @@ module _ (d : Deployment) (number : Position → ℕ) (P : Position → Type 0) 
         ≡ names_of (number i.0) (form_at (template_at d.template i.0)) d.place j.listed i.1.copy j.title
     names_are i j =
         ap₂ (λ k o. listed_names d number i.0 i.1 (title_in k) o) j.has_name j.is_listed
-
-    positions_are : (p r : Position) → same_position p r ≡ true → p ≡ r
-    positions_are p r e = ap position_in (cell_is (deployments p) (deployments r) e)
-      where
-        position_in : Cell → Position
-        position_in (deployments p) = p
-        position_in _ = []
-
-    number_itself : (f : ℕ) → nat_eq f f ≡ true
-    number_itself f = grind arith
 
     here : (p r : Position) (s other : Step) (vs : List Json) → p ≡ r → IsDepending d q (p, s) vs
         → (j : IsNamed d q (r, other))
@@ -376,7 +357,7 @@ module _ (d : Deployment) (number : Position → ℕ) (P : Position → Type 0) 
             ∙ values_named (number p) (number p) (form_at (template_at d.template p))
             (template_at d.template p) vs k.listed
             other.copy k.title
-            ∙ ap (λ b. b && named_by p other.copy k.title k.listed vs) (number_itself (number p))))
+            ∙ ap (λ b. b && named_by p other.copy k.title k.listed vs) (eq_itself (number p))))
 
     elsewhere : (p r : Position) (s other : Step) (vs : List Json) → nat_eq (number p) (number r) ≡ false
         → (j : IsNamed d q (r, other))
@@ -397,7 +378,7 @@ module _ (d : Deployment) (number : Position → ℕ) (P : Position → Type 0) 
         by_test : (c : Bool) → same_position i.0 j.0 ≡ c
             → told q (if c then depends d i.0 i.1 j.1 else pure false)
             ≡ value (shares (instance_asks d number (Some i) vs) (instance_names d number q (Some j)))
-        by_test true e = here i.0 j.0 i.1 j.1 vs (positions_are i.0 j.0 e) a b
+        by_test true e = here i.0 j.0 i.1 j.1 vs (position_is i.0 j.0 e) a b
         by_test false e =
             is_pure false
             ∙ ap value (sym (elsewhere i.0 j.0 i.1 j.1 vs (apart i.0 j.0 h k ∙ e) b))
@@ -448,7 +429,7 @@ module _ (d : Deployment) (number : Position → ℕ) (P : Position → Type 0) 
     all_shared xs bs ts us e h =
         shares_left xs bs (ts ++ us)
         ∙ ap₂ (λ a b. a || b)
-        (shares_right xs ts us ∙ ap (λ b. shares xs ts || b) e ∙ or_nil (shares xs ts))
+        (shares_right xs ts us ∙ ap (λ b. shares xs ts || b) e ∙ or_false (shares xs ts))
         (shares_right bs ts us ∙ ap (λ b. b || shares bs us) h)
 
     needs_told : (u v : Task) (b c : Bool) → needs_by_order d u v ≡ b → told q (depends_on d (started u) (ended v))

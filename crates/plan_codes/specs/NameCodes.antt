@@ -6,14 +6,14 @@ use Rattle.arm_ids.specs.Segments.{joined}
 use Rattle.arm_ids.specs.declared.id.Place.{Place}
 use Rattle.arm_ids.specs.declared.id.ResourceId.{ResourceId}
 use Rattle.arm_env.specs.Find.{id_key}
-use Rattle.arm_eval.specs.Titles.{element}
+use Rattle.plan_tags.specs.Titles.{element}
 use Rattle.template_parts.specs.declared.looping.ResourceCopy.{ResourceCopy}
 use Rattle.template_parts.specs.declared.mode.Form.{Form}
 use Rattle.template_parts.specs.declared.mode.Form.TheVariants.{One, Two}
 use Rattle.template_tree.specs.Tree.{TemplateTree}
 use Rattle.deploy_cells.specs.Puts.{key_at}
-use Rattle.plan_cells.specs.Resources.{Listed}
-use Rattle.plan_cells.specs.Needs.{is_loop}
+use Rattle.plan_tags.specs.Resources.{Listed}
+use Rattle.plan_tags.specs.Needs.{is_loop}
 use Rattle.key_tags.specs.KeyCodes.{key_code}
 
 -- in the scope number f: a loop of a folded name, a key, a folded name, and a symbolic name

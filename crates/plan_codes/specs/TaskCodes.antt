@@ -1,16 +1,16 @@
 -- The tags of tasks and those for which they ask, as lists of numbers, with the names of instances among them.
 use Rattle.std.specs.Prelude.{◌≡◌, ℕ, List, [], ◌∷◌, ◌++◌, map, Option, Some, None}
 use Rattle.arm_value.specs.Json.{Json, text}
-use Rattle.arm_eval.specs.Trees.{tree_value}
+use Rattle.plan_tags.specs.Trees.{tree_value}
 use Rattle.reading.specs.Knowledge.{Known, known, value, told}
 use Rattle.deploy_cells.specs.Cells.{Step, Position, name}
-use Rattle.plan_cells.specs.Known.{Table}
-use Rattle.plan_cells.specs.Resources.{Listed}
-use Rattle.plan_cells.specs.Scopes.{template_at, resource_of}
-use Rattle.plan_cells.specs.Sites.{reading_at, body_site, form_at}
-use Rattle.plan_cells.specs.Meaning.{Deployment}
-use Rattle.plan_cells.specs.Tasks.{Task, enter, leave, put, delete}
-use Rattle.plan_cells.specs.Needs.{Instance, started, ended}
+use Rattle.plan_tags.specs.Known.{Table}
+use Rattle.plan_tags.specs.Resources.{Listed}
+use Rattle.plan_tags.specs.Scopes.{template_at, resource_of}
+use Rattle.plan_tags.specs.Sites.{reading_at, body_site, form_at}
+use Rattle.plan_tags.specs.Meaning.{Deployment}
+use Rattle.plan_tags.specs.Tasks.{Task, enter, leave, put, delete}
+use Rattle.plan_tags.specs.Needs.{Instance, started, ended}
 use Rattle.plan_tags.specs.Tags.{tags_of, asks_of}
 use Rattle.plan_codes.specs.Codes.{code}
 use Rattle.plan_codes.specs.NameCodes.{names_of, values_ask}

@@ -5,6 +5,7 @@ use Rattle.std.proofs.Common.{drop, Option, Some, None, refl, sym, ap, ap₂, �
 use Rattle.std.proofs.Common.{bytes_eq}
 use Rattle.std.proofs.lemmas.List.{map-append}
 use Rattle.std.specs.Prelude.{slice_get, ◌&&◌, if◌then◌else◌}
+use Rattle.foundation.proofs.Lists.{got_next, nothing_left}
 use Rattle.arm_value.specs.Look.{fold, is_same_folded}
 use Rattle.arm_ids.specs.Held.{HeldResource}
 use Rattle.arm_ids.specs.Id.{IsKey}
@@ -45,12 +46,6 @@ abbrev pub DeletesLeft : Place → List ResourceId → List HeldResource → Lis
 DeletesLeft place ks held found i =
     map delete found ++ deletes place ks (drop i held) ≡ deletes place ks held
 
-drop_here : (hs : List HeldResource) (i : ℕ) (h : HeldResource) → slice_get hs i ≡ Some h
-    → drop i hs ≡ h ∷ drop (suc i) hs
-drop_here [] i h e = let no : None ≡ Some h = e in absurd (cc)
-drop_here (x ∷ hs) zero h e = let same : x ≡ h = cc in ap (λ (y : HeldResource). y ∷ hs) same
-drop_here (x ∷ hs) (suc i) h e = drop_here hs i h e
-
 get_there : (hs : List HeldResource) (i : ℕ) → i < length hs → (h : HeldResource) × (slice_get hs i ≡ Some h)
 get_there [] i l = absurd (omega (arith, l))
 get_there (x ∷ hs) zero l = (x, refl)
@@ -67,13 +62,7 @@ deletes_more place ks held i found new l a c =
     ∙ append_assoc (map delete found) (delete_by place ks (id_key h.0.id)) (deletes place ks (drop (i + 1) held))
     ∙ ap (λ (j : ℕ). map delete found ++ (delete_by place ks (id_key h.0.id) ++ deletes place ks (drop j held)))
     (let z : i + 1 ≡ suc i = omega arith in z)
-    ∙ ap (λ hs. map delete found ++ deletes place ks hs) (sym (drop_here held i h.0 h.1)) ∙ c
-
-nothing_left : (hs : List HeldResource) (i : ℕ) → length hs ≤ i → drop i hs ≡ []
-nothing_left [] zero h = refl
-nothing_left [] (suc i) h = refl
-nothing_left (x ∷ hs) zero h = absurd (omega (arith, h))
-nothing_left (x ∷ hs) (suc i) h = nothing_left hs i (omega (arith, h))
+    ∙ ap (λ hs. map delete found ++ deletes place ks hs) (sym (got_next held i h.0 h.1)) ∙ c
 
 pub deletes_end : (place : Place) (ks : List ResourceId) (held : List HeldResource) (i : ℕ) (found : List ResourceId)
     → length held ≤ i → DeletesLeft place ks held found i → map delete found ≡ deletes place ks held

@@ -1,10 +1,11 @@
 -- The elements of `dependsOn`, one after another, and tasks one after another.
 use Rattle.std.proofs.Common.{◌≡◌, ℕ, zero, suc, ◌+◌, ◌<◌, ◌≤◌, List, [], ◌∷◌, ◌++◌, map, length, drop, get_or}
 use Rattle.std.proofs.Common.{Option, Some, None, refl, sym, ap, subst, ◌∙◌, arith, append_assoc}
-use Rattle.std.proofs.lemmas.List.{map-append}
+use Rattle.std.proofs.lemmas.List.{map-append, append-nil}
 use Rattle.std.specs.Prelude.{slice_get}
 use Rattle.std.specs.declared.vec.Vec.{Vec}
 use Rattle.std.specs.declared.alloc.Global.{Global}
+use Rattle.foundation.proofs.Lists.{got_next, next_after, nothing_left}
 use Rattle.arm_value.specs.Json.{Json}
 use Rattle.arm_value.specs.View.{json}
 use Rattle.arm_value.specs.declared.value.Value.{Value}
@@ -56,21 +57,6 @@ drop_zero : {A : Type 0} (xs : List A) → drop 0 xs ≡ xs
 drop_zero [] = refl
 drop_zero (x ∷ xs) = refl
 
-drop_here : {A : Type 0} (xs : List A) (i : ℕ) (x : A) → slice_get xs i ≡ Some x → drop i xs ≡ x ∷ drop (suc i) xs
-drop_here [] i x e = let no : None ≡ Some x = e in absurd (cc)
-drop_here {A} (y ∷ ys) zero x e = let same : y ≡ x = cc in ap (λ (z : A). z ∷ ys) same
-drop_here (y ∷ ys) (suc i) x e = drop_here ys i x e
-
-nothing_left : {A : Type 0} (xs : List A) (i : ℕ) → length xs ≤ i → drop i xs ≡ []
-nothing_left [] zero h = refl
-nothing_left [] (suc i) h = refl
-nothing_left (x ∷ xs) zero h = absurd (omega (arith, h))
-nothing_left (x ∷ xs) (suc i) h = nothing_left xs i (omega (arith, h))
-
-nil_right : {A : Type 0} (xs : List A) → xs ++ [] ≡ xs
-nil_right [] = refl
-nil_right (x ∷ xs) = ap (λ ys. x ∷ ys) (nil_right xs)
-
 pub item_json : (vs : List Value) (i : ℕ) (v : Value) → i < length vs → v ≡ get_or vs i v
     → slice_get (map json vs) i ≡ Some (json v)
 item_json [] i v h e = absurd (omega (arith, h))
@@ -102,7 +88,7 @@ elements_more t x trees i tree v old new h e told n left ws a =
     let later : ReadBy t x (drop (suc i) js) ws =
     subst (λ (k : ℕ). ReadBy t x (drop k js) ws) (let z : i + 1 ≡ suc i = omega arith in z) a in
     let here : ReadBy t x (drop i js) (json v ∷ ws) =
-    subst (λ ys. ReadBy t x ys (json v ∷ ws)) (sym (drop_here js i (json tree) (item_json trees i tree h e)))
+    subst (λ ys. ReadBy t x ys (json v ∷ ws)) (sym (got_next js i (json tree) (item_json trees i tree h e)))
     (told_at_start t (element_at t x (json tree)) (json v) told, later) in
     let all : map json old ++ json v ∷ ws ≡ map json new ++ ws =
     sym (append_assoc (map json old) (json v ∷ []) ws)
@@ -114,7 +100,7 @@ pub elements_end : (t : Table) (x : Opener) (trees vs : List Value) (i : ℕ) �
 elements_end t x trees vs i h left =
     let none : drop i (map json trees) ≡ [] =
     nothing_left (map json trees) i (let n = same_length trees in omega (arith, n, h)) in
-    subst (ReadBy t x (map json trees)) (nil_right (map json vs))
+    subst (ReadBy t x (map json trees)) (append-nil (map json vs))
     (left [] (subst (λ ys. ReadBy t x ys []) (sym none) tt))
   where
     same_length : (ys : List Value) → length (map json ys) ≡ length ys
@@ -155,12 +141,6 @@ abbrev pub TasksLeft : Table → List ScopeTask → List (Vec Value Global) → 
 TasksLeft t us vss i =
     (wss : List (List Json)) → AreElements t (drop i us) wss → AreElements t us (values_in vss ++ wss)
 
-task_here : (us : List ScopeTask) (i : ℕ) (u : ScopeTask) → i < length us → u ≡ get_or us i u
-    → drop i us ≡ u ∷ drop (suc i) us
-task_here [] i u h e = absurd (omega (arith, h))
-task_here (y ∷ ys) zero u h e = ap (λ (z : ScopeTask). z ∷ ys) (sym e)
-task_here (y ∷ ys) (suc i) u h e = task_here ys i u (omega (arith, h)) e
-
 pub tasks_begin : (t : Table) (us : List ScopeTask) (vss : List (Vec Value Global)) → vss ≡ [] → TasksLeft t us vss 0
 tasks_begin t us vss e =
     subst (λ uss. TasksLeft t us uss 0) (sym e) (λ wss a. subst (λ ys. AreElements t ys wss) (drop_zero us) a)
@@ -174,7 +154,7 @@ tasks_more t us i u v old new h e d n left wss a =
     let later : AreElements t (drop (suc i) us) wss =
     subst (λ (k : ℕ). AreElements t (drop k us) wss) (let z : i + 1 ≡ suc i = omega arith in z) a in
     let here : AreElements t (drop i us) (vs ∷ wss) =
-    subst (λ ys. AreElements t ys (vs ∷ wss)) (sym (task_here us i u h e)) (d, later) in
+    subst (λ ys. AreElements t ys (vs ∷ wss)) (sym (next_after us i u h e)) (d, later) in
     let all : values_in old ++ vs ∷ wss ≡ values_in new ++ wss =
     sym (append_assoc (values_in old) (vs ∷ []) wss)
     ∙ ap (λ ys. ys ++ wss)
@@ -184,5 +164,5 @@ tasks_more t us i u v old new h e d n left wss a =
 pub tasks_end : (t : Table) (us : List ScopeTask) (vss : List (Vec Value Global)) (i : ℕ) → length us ≤ i
     → TasksLeft t us vss i → AreElements t us (values_in vss)
 tasks_end t us vss i h left =
-    subst (AreElements t us) (nil_right (values_in vss))
+    subst (AreElements t us) (append-nil (values_in vss))
     (left [] (subst (λ ys. AreElements t ys []) (sym (nothing_left us i h)) tt))

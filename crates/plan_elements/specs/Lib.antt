@@ -1,1 +1,3 @@
 pub mod Elements
+pub use Rattle.plan_needs.specs.Lists
+pub use Rattle.plan_needs.specs.Needs

@@ -7,3 +7,4 @@
 mod elements;
 
 pub use elements::{Unread, elements_of_tasks};
+pub use plan_needs::needs_of_tasks;

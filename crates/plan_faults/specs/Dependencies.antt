@@ -19,7 +19,7 @@ use Rattle.plan_cells.specs.Sites.{form_at}
 use Rattle.plan_cells.specs.Known.{Table}
 use Rattle.plan_cells.specs.Meaning.{Deployment}
 use Rattle.plan_cells.specs.Needs.{is_loop, is_symbol, is_element, with_text, value_names}
-use Rattle.plan_tasks.specs.InOrder.{is_in}
+use Rattle.plan_refusals.specs.InOrder.{is_in}
 use Rattle.plan_faults.specs.Known.{IsElementAt}
 
 -- whether the text is the index of an element in brackets after the symbolic name

@@ -13,7 +13,7 @@ use Rattle.plan_cells.specs.Known.{Table, entry_of, IsKnown}
 use Rattle.plan_cells.specs.Meaning.{Deployment, meaning, raw}
 use Rattle.plan_cells.specs.Start.{start}
 use Rattle.plan_filling.specs.Final.{Leads}
-use Rattle.plan_tasks.specs.Answered.{is_asked}
+use Rattle.plan_refusals.specs.Answered.{is_asked}
 use Rattle.plan_refusals.specs.Refusals.{is_needed}
 use Rattle.plan_paths.specs.CellPaths.{cell_path, element_path}
 

@@ -1,23 +1,22 @@
 -- A write of a status, with new rows after the others, where that is justified.
 use Rattle.std.proofs.Common.{◌≡◌, ◌⊎◌, inl, inr, ℕ, zero, suc, ◌+◌, ◌-◌, ◌*◌, ◌<◌, ◌≤◌, ◌^◌, false, List, [], ◌∷◌}
 use Rattle.std.proofs.Common.{◌++◌, map, length, Option, Some, None, refl, sym, ap, subst, ◌∙◌, arith, length-append}
-use Rattle.std.proofs.lemmas.List.{length-map, length-set, get_or-set_same, get_or-set_other}
+use Rattle.std.proofs.lemmas.List.{length-map, length-set, get_or-set_same, get_or-set_other, append-nil}
 use Rattle.std.proofs.Math.ListN.{get_or-append}
+use Rattle.std.proofs.lemmas.Bool.{cases_eq}
 use Rattle.reading.specs.Knowledge.{known, absent, missing, Told, value, waits, told, Grows}
 use Rattle.reading.specs.Knowledge.{IsToldStill, Means}
 use Rattle.reading.proofs.Completion.{told_means}
 use Rattle.reading.proofs.Growth.{told_still}
-use Rattle.deploy_cells.specs.Guarded.{Reads}
-use Rattle.plan_cells.specs.Known.{Table}
-use Rattle.plan_cells.specs.Meaning.{Deployment}
+use Rattle.plan_cells.specs.Guarded.{Reads}
+use Rattle.plan_cells.specs.Known.{Table, entry_told}
+use Rattle.plan_cells.specs.Meaning.{Deployment, meaning}
 use Rattle.arm_value.specs.Json.{Json}
 use Rattle.arm_ids.specs.declared.id.ResourceId.{ResourceId}
-use Rattle.deploy_cells.specs.Cells.{Cell, state, parent, deployments}
-use Rattle.deploy_cells.specs.Same.{same}
-use Rattle.plan_cells.specs.Meaning.{meaning}
-use Rattle.plan_cells.specs.Known.{entry_told}
+use Rattle.plan_cells.specs.Cells.{Cell, state, parent, deployments}
+use Rattle.plan_cells.specs.Same.{same}
 use Rattle.plan_cells.specs.Children.{children, Has, AreApart}
-use Rattle.deploy_cells.proofs.SameLemmas.{cell_is}
+use Rattle.plan_cells.proofs.SameLemmas.{cell_is}
 use Rattle.plan_cells.proofs.ChildLemmas.{child_is, root_is}
 use Rattle.plan_cells.proofs.ApartLemmas.{children_apart}
 use Rattle.plan_filling.specs.Rows.{Status, New, Open, Value, Empty, Late}
@@ -32,10 +31,6 @@ use Rattle.plan_filling.proofs.RowLemmas.{by_same, status_found, status_set_same
 use Rattle.plan_filling.proofs.RowLemmas.{joined_some, joined_none, distinct_joined, fresh_has, fresh_only}
 use Rattle.plan_filling.proofs.RowLemmas.{distinct_fresh, weights_set, weights_joined, weights_less}
 use Rattle.plan_filling.proofs.StepLemmas.{good_after, grows, never_both}
-
-nil_right : (xs : List Row) → xs ++ [] ≡ xs
-nil_right [] = refl
-nil_right (x ∷ xs) = ap (λ (ys : List Row). x ∷ ys) (nil_right xs)
 
 get_second : (xs ys : List Row) (k : ℕ) → row_at (xs ++ ys) (length xs + k) ≡ row_at ys k
 get_second [] ys k = ap (row_at ys) (let e : 0 + k ≡ k = omega arith in e)
@@ -268,7 +263,7 @@ module _ (t : Deployment) (rows : List Row) (i : ℕ) (s : Status) (sound : Soun
   few_written : length (with_status rows i s ++ map fresh []) ≤ 2 ^ 32
   few_written =
       let few : length rows ≤ 2 ^ 32 = sound.few in
-      subst (λ (xs : List Row). length xs ≤ 2 ^ 32) (sym (nil_right (with_status rows i s)))
+      subst (λ (xs : List Row). length xs ≤ 2 ^ 32) (sym (append-nil (with_status rows i s)))
       (omega (arith, length-set rows i (record { cell = (row_at rows i).cell; status = s })))
 
   abbrev Facts : List Row → Type 0
@@ -276,18 +271,18 @@ module _ (t : Deployment) (rows : List Row) (i : ℕ) (s : Status) (sound : Soun
       × Touched rows xs i s
 
   facts_written : Facts (with_status rows i s)
-  facts_written = subst Facts (nil_right (with_status rows i s)) (facts_after t rows i s [] sound h open0 no_new tt)
+  facts_written = subst Facts (append-nil (with_status rows i s)) (facts_after t rows i s [] sound h open0 no_new tt)
 
   pub advanced_by : (new : List Row) → weight (row_at rows i).status < weight s → new ≡ with_status rows i s
       → Advanced t rows new i s
   advanced_by new m e =
       subst (λ (xs : List Row). Advanced t rows xs i s) (sym e) (record {
-        sound = subst (λ (xs : List Row). Sound t xs) (nil_right (with_status rows i s))
+        sound = subst (λ (xs : List Row). Sound t xs) (append-nil (with_status rows i s))
             (sound_after t rows i s [] sound h open0 no_new tt why few_written);
         keeps = facts_written.0;
         touched = facts_written.2;
         grows = subst (λ (xs : List Row). Grows (table (status_of rows)) (table (status_of xs)))
-            (nil_right (with_status rows i s)) (grows_after t rows i s [] sound h open0 no_new tt why);
+            (append-nil (with_status rows i s)) (grows_after t rows i s [] sound h open0 no_new tt why);
         more = (let f : weights (with_status rows i s) + weight (row_at rows i).status ≡ weights rows + weight s
             = facts_written.1 in omega (arith, m, f));
         before = before_of t rows i sound h open0;
@@ -357,12 +352,9 @@ same_cell_by old new i s d a l (inl e) =
     subst (λ (x : ℕ). (row_at new x).cell ≡ (row_at old x).cell) (sym e) (ap (λ (r : Row). r.cell) d.there)
 same_cell_by old new i s d a l (inr n) = ap (λ (r : Row). r.cell) (d.others a l n)
 
-pub either : (a i : ℕ) → (a ≡ i) ⊎ (a ≡ i → ⊥)
-either a i = grind arith
-
 pub same_cell : (old new : List Row) (i : ℕ) (s : Status) → Touched old new i s → (a : ℕ) → a < length old
     → (row_at new a).cell ≡ (row_at old a).cell
-same_cell old new i s d a l = same_cell_by old new i s d a l (either a i)
+same_cell old new i s d a l = same_cell_by old new i s d a l (cases_eq a i)
 
 -- what waited for a cell that is still begun waits for it
 pub waits_on : (t : Deployment) (old new : List Row) (i : ℕ) (s : Status) → Advanced t old new i s → (a j : ℕ)

@@ -3,18 +3,18 @@ use Rattle.std.proofs.Common.{◌≡◌, ◌⊎◌, inl, inr, ℕ, zero, suc, �
 use Rattle.std.proofs.Common.{◌∷◌}
 use Rattle.std.proofs.Common.{map, length, Option, Some, None, refl, sym, ap, subst, ◌∙◌, arith}
 use Rattle.std.specs.Prelude.{option_map, if◌then◌else◌}
+use Rattle.std.proofs.lemmas.Option.{same_Some}
 use Rattle.arm_value.specs.Json.{Json}
 use Rattle.arm_ids.specs.declared.id.ResourceId.{ResourceId}
 use Rattle.foundation.proofs.Comparisons.{lt_false}
 use Rattle.reading.specs.Knowledge.{Known, known, absent, missing, Told, value, no_value, waits, told, by_entry, Stays}
 use Rattle.reading.specs.Knowledge.{Grows, IsToldStill}
 use Rattle.reading.proofs.Growth.{told_still}
-use Rattle.deploy_cells.specs.Cells.{Step, Position, Cell, parameter, variable, offered, output, count, included, name}
-use Rattle.deploy_cells.specs.Cells.{deployments, state, parent, admits, depth}
-use Rattle.deploy_cells.specs.Guarded.{not_there, there_if, told_where, told_by}
-use Rattle.deploy_cells.specs.Same.{same}
-use Rattle.deploy_cells.proofs.CellLemmas.{guarded_told, parent_above}
-use Rattle.deploy_cells.proofs.SameLemmas.{cell_same, cell_is}
+use Rattle.plan_cells.specs.Cells.{Step, Position, Cell, parameter, variable, offered, output, count, included, name, deployments, state, parent, admits, depth}
+use Rattle.plan_cells.specs.Guarded.{not_there, there_if, told_where, told_by}
+use Rattle.plan_cells.specs.Same.{same}
+use Rattle.plan_cells.proofs.CellLemmas.{guarded_told, parent_above}
+use Rattle.plan_cells.proofs.SameLemmas.{cell_same, cell_is}
 use Rattle.plan_cells.specs.Known.{Table, entry_of, entry_told, IsKnown, is_told, entry_by}
 use Rattle.plan_cells.specs.Meaning.{Deployment, raw, rule, ruled, plain, meaning}
 use Rattle.plan_cells.specs.Desired.{is_state}
@@ -172,15 +172,12 @@ module _ (d : Deployment) where
     included_known : (p : Position) (s : Step) → final σ (included p s) ≡ missing → ⊥
     included_known p s = gate_by (included p s) refl (λ k. gates (included p s) k tt) (σ (included p s)) refl
 
-    some_cell : (a b : Cell) → Some a ≡ Some b → a ≡ b
-    some_cell a b e = cc
-
     none_some : (b : Cell) → None ≡ Some b → ⊥
     none_some b e = cc
 
     by_gate : (a e : Cell) → Some a ≡ Some e → (final σ a ≡ missing → ⊥) → absent ≡ parent_entry (final σ e)
     by_gate a e i n =
-        sym (not_missing (final σ e) (λ m. n (ap (final σ) (some_cell a e i) ∙ m)))
+        sym (not_missing (final σ e) (λ m. n (ap (final σ) (same_Some a e i) ∙ m)))
 
     condition_entry : (p : Position) (x : List ℕ) (o : Option Status) → σ (offered p x) ≡ o
         → by_condition o ≡ parent_entry (or_unlisted σ (offered p x) o)
@@ -206,7 +203,7 @@ module _ (d : Deployment) where
     unlisted_is (name p s) e i = by_gate (count p s.resource) e i (count_known p s.resource)
     unlisted_is (output p x) e i =
         condition_entry p x (σ (offered p x)) refl
-        ∙ ap (λ (y : Cell). parent_entry (final σ y)) (some_cell (offered p x) e i)
+        ∙ ap (λ (y : Cell). parent_entry (final σ y)) (same_Some (offered p x) e i)
     unlisted_is (state k) e i = absurd (none_some e i)
 
     -- a cell that is not listed is no child

@@ -5,3 +5,4 @@ pub mod WayLemmas
 pub mod FinalLemmas
 pub mod LimitLemmas
 pub use Rattle.plan_cells.proofs.ListLemmas
+pub use Rattle.plan_cells.proofs.SameLemmas

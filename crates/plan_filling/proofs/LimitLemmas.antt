@@ -4,8 +4,7 @@ use Rattle.std.specs.Prelude.{IfErr}
 use Rattle.arm_value.specs.Json.{Json}
 use Rattle.template_parts.specs.declared.limit.Which.{Which}
 use Rattle.reading.specs.Knowledge.{value, told}
-use Rattle.deploy_cells.specs.Cells.{Cell, parameter, variable, offered, output, count, included, name, deployments}
-use Rattle.deploy_cells.specs.Cells.{state}
+use Rattle.plan_cells.specs.Cells.{Cell, parameter, variable, offered, output, count, included, name, deployments, state}
 use Rattle.plan_cells.specs.Meaning.{Deployment, meaning}
 use Rattle.plan_filling.specs.Rows.{Status, Row, row_at, status_of, table, IsUnfinished}
 use Rattle.plan_filling.specs.Sound.{Sound}

@@ -1,11 +1,11 @@
 -- Rows: where a cell is, after a write and after new rows were added.
 use Rattle.std.proofs.Common.{◌≡◌, ◌⊎◌, inl, inr, ℕ, zero, suc, ◌+◌, ◌*◌, ◌<◌, ◌≤◌, Bool, true, false, List, [], ◌∷◌}
 use Rattle.std.proofs.Common.{◌++◌, map, length, Option, Some, None, refl, sym, subst, ◌∙◌, arith}
-use Rattle.std.specs.Prelude.{if◌then◌else◌}
-use Rattle.deploy_cells.specs.Cells.{Cell}
-use Rattle.deploy_cells.specs.Same.{same}
+use Rattle.foundation.proofs.Choices.{if_false, if_true}
+use Rattle.plan_cells.specs.Cells.{Cell}
+use Rattle.plan_cells.specs.Same.{same}
 use Rattle.plan_cells.specs.Children.{Has, AreApart}
-use Rattle.deploy_cells.proofs.SameLemmas.{cell_same, cell_is}
+use Rattle.plan_cells.proofs.SameLemmas.{cell_same, cell_is}
 use Rattle.plan_filling.specs.Rows.{Status, New, Open, Value, Empty, Late}
 use Rattle.plan_filling.specs.Rows.{Row, fresh, row_at, with_status, status_of, weight, weights, AreDistinct}
 use Rattle.plan_filling.specs.Rows.{IsUnfinished}
@@ -18,18 +18,12 @@ by_same c d = cases (same c d) refl
     cases true e = inl e
     cases false e = inr e
 
-pub test_true : {A : Type 0} (b : Bool) (x y : A) → b ≡ true → (if b then x else y) ≡ x
-test_true b x y e = rw e refl
-
-pub test_false : {A : Type 0} (b : Bool) (x y : A) → b ≡ false → (if b then x else y) ≡ y
-test_false b x y e = rw e refl
-
 pub found_first : (r : Row) (rs : List Row) (d : Cell) → r.cell ≡ d → status_of (r ∷ rs) d ≡ Some r.status
-found_first r rs d e = test_true (same r.cell d) (Some r.status) (status_of rs d)
+found_first r rs d e = if_true (same r.cell d) (Some r.status) (status_of rs d)
     (subst (λ (x : Cell). same r.cell x ≡ true) e (cell_same r.cell))
 
 pub found_later : (r : Row) (rs : List Row) (d : Cell) → same r.cell d ≡ false → status_of (r ∷ rs) d ≡ status_of rs d
-found_later r rs d e = test_false (same r.cell d) (Some r.status) (status_of rs d) e
+found_later r rs d e = if_false (same r.cell d) (Some r.status) (status_of rs d) e
 
 pub status_found : (rows : List Row) (i : ℕ) → AreDistinct rows → i < length rows
     → status_of rows (row_at rows i).cell ≡ Some (row_at rows i).status

@@ -3,18 +3,16 @@ use Rattle.std.proofs.Common.{◌≡◌, ◌⊎◌, inl, inr, true, false, true�
 use Rattle.std.proofs.Common.{sym, ap, subst, ◌∙◌}
 use Rattle.reading.specs.Knowledge.{absent, missing, Told, value, no_value, waits, told, Stays, Grows, IsToldStill}
 use Rattle.reading.proofs.Growth.{told_still}
-use Rattle.plan_cells.specs.Meaning.{Deployment}
+use Rattle.plan_cells.specs.Meaning.{Deployment, meaning}
 use Rattle.arm_value.specs.Json.{Json}
 use Rattle.arm_ids.specs.declared.id.ResourceId.{ResourceId}
-use Rattle.deploy_cells.specs.Cells.{Cell, parameter, variable, offered, output, count, included, name, deployments}
-use Rattle.deploy_cells.specs.Cells.{state}
-use Rattle.deploy_cells.specs.Same.{same}
-use Rattle.plan_cells.specs.Meaning.{meaning}
+use Rattle.plan_cells.specs.Cells.{Cell, parameter, variable, offered, output, count, included, name, deployments, state}
+use Rattle.plan_cells.specs.Same.{same}
 use Rattle.plan_cells.specs.Known.{IsKnown, is_told, entry_of, entry_told, by_others}
 use Rattle.plan_cells.specs.Start.{start}
 use Rattle.plan_cells.specs.Desired.{is_state}
 use Rattle.plan_cells.specs.Children.{roots, children, Has}
-use Rattle.deploy_cells.proofs.SameLemmas.{cell_same, cell_is}
+use Rattle.plan_cells.proofs.SameLemmas.{cell_same, cell_is}
 use Rattle.plan_cells.proofs.ChildLemmas.{child_is, root_is}
 use Rattle.plan_filling.specs.Rows.{Status, New, Open, Value, Empty, Late}
 use Rattle.plan_filling.specs.Rows.{table, known_by, IsFinished, IsUnfinished}

@@ -9,13 +9,15 @@ use Rattle.plan_filling.specs.Sound.{Sound}
 use Rattle.plan_filling.specs.Steps.{Keeps, Advanced, WaitsFor, IsDone, IsFirst, IsStuck, AllOpen, IsChain}
 use Rattle.plan_filling.specs.Steps.{OnTheWay, NoneOpen, OneOpen, AreFinished, Visited, IsCircle, Filled}
 use Rattle.std.specs.Prelude.{Result, Ok, Err, IfOk, MatchOption}
+use Rattle.std.proofs.lemmas.Bool.{cases_lt, cases_eq}
+use Rattle.foundation.proofs.Comparisons.{lt_or_is}
 use Rattle.plan_filling.specs.Rows.{stage_of, IsWaiting}
 use Rattle.plan_filling.specs.declared.sheet.Halt.{Halt}
 use Rattle.plan_filling.specs.declared.sheet.Stage.TheVariants as stage
 use Rattle.plan_filling.specs.declared.visit.Circle.{Circle}
 use Rattle.plan_filling.specs.Steps.{Turned}
 use Rattle.plan_filling.specs.declared.visit.Turn.{Turn}
-use Rattle.plan_filling.proofs.ChangeLemmas.{waits_on, either}
+use Rattle.plan_filling.proofs.ChangeLemmas.{waits_on}
 
 pub keeps_self : (rows : List Row) → Keeps rows rows
 keeps_self rows = record { longer = omega arith; finished = λ i h f. refl }
@@ -127,9 +129,6 @@ module _ (t : Deployment) where
         (l, ap (λ (r : Row). r.status) (sym (v.touched.others a l n)) ∙ o.1)
     was_open now new i s v a o n (inr l) = absurd (new_open (row_at new a).status (v.touched.added a l o.0) o.1)
 
-    below_or : (a n : ℕ) → (a < n) ⊎ (n ≤ a)
-    below_or a n = grind arith
-
     pending_still : (now new : List Row) (stack : List ℕ) → OnTheWay t first now start stack → Keeps now new
         → IsFinished (row_at new start).status ⊎ Has start stack
     pending_still now new stack w k =
@@ -156,10 +155,10 @@ module _ (t : Deployment) where
 
       all_still : (i : ℕ) → IsOpen new i → Has i xs
       all_still i o =
-          elim (either i top) [
+          elim (cases_eq i top) [
             | inl e ↦ absurd (not_both (row_at new i).status o.1
                 (subst (λ (y : ℕ). IsFinished (row_at new y).status) (sym e) finished_top))
-            | inr n ↦ (let b = was_open now new top d.status d.advanced i o n (below_or i (length now)) in
+            | inr n ↦ (let b = was_open now new top d.status d.advanced i o n (cases_lt i (length now)) in
                 elim (has_last i top xs (w.all_open i b.0 b.1)) [ inl e ↦ absurd (n (sym e)) | inr h ↦ h ])
           ]
 
@@ -214,9 +213,9 @@ module _ (t : Deployment) where
 
       all_open_too : (i : ℕ) → IsOpen new i → Has i (stack ++ j ∷ [])
       all_open_too i o =
-          elim (either i j) [
+          elim (cases_eq i j) [
             | inl e ↦ subst (λ (y : ℕ). Has y (stack ++ j ∷ [])) (sym e) (top_has j stack)
-            | inr n ↦ (let b = was_open now new j Open f.advanced i o n (below_or i (length now)) in
+            | inr n ↦ (let b = was_open now new j Open f.advanced i o n (cases_lt i (length now)) in
                 has_left i stack (j ∷ []) (w.all_open i b.0 b.1))
           ]
 
@@ -268,12 +267,9 @@ pub one_open : (t : Deployment) (old new : List Row) (start : ℕ) → start < l
     → Advanced t old new start Open → OneOpen new start
 one_open t old new start l n v = record {
   is_open = ap (λ (r : Row). r.status) v.touched.there;
-  alone = λ i h e. by_place i h e (either i start) (below_or i (length old));
+  alone = λ i h e. by_place i h e (cases_eq i start) (cases_lt i (length old));
 }
   where
-    below_or : (a n : ℕ) → (a < n) ⊎ (n ≤ a)
-    below_or a n = grind arith
-
     by_place : (i : ℕ) → i < length new → (row_at new i).status ≡ Open → (i ≡ start) ⊎ (i ≡ start → ⊥)
         → (i < length old) ⊎ (length old ≤ i) → start ≡ i
     by_place i h e (inl f) b = sym f
@@ -293,13 +289,10 @@ visited_already t rows start s n f = record { sound = s; keeps = keeps_self rows
 pub finished_more_of : (t : Deployment) (old new : List Row) (n : ℕ) → n < length old → AreFinished old n
     → Visited t old new n → AreFinished new (n + 1)
 finished_more_of t old new n h f v i l =
-    elim (by_last i n l) [
+    elim (lt_or_is i n l) [
       | inl a ↦ keeps_finished old new i v.keeps (omega (arith, a, h)) (f i a)
       | inr e ↦ subst (λ (j : ℕ). IsFinished (row_at new j).status) (sym e) v.finished
     ]
-  where
-    by_last : (i n : ℕ) → i < n + 1 → (i < n) ⊎ (i ≡ n)
-    by_last i n l = grind arith
 
 pub visited_as : (t u : Deployment) (old new : List Row) (start : ℕ) → u ≡ t → Visited u old new start
     → Visited t old new start

@@ -3,7 +3,7 @@ use Rattle.std.specs.Prelude.{◌≡◌, ◌⊎◌, Option, Some, None}
 use Rattle.arm_value.specs.Json.{Json}
 use Rattle.arm_ids.specs.declared.id.ResourceId.{ResourceId}
 use Rattle.reading.specs.Knowledge.{Known, absent, missing, waits, told}
-use Rattle.deploy_cells.specs.Cells.{Cell, offered, output, count, included, state}
+use Rattle.plan_cells.specs.Cells.{Cell, offered, output, count, included, state}
 use Rattle.plan_cells.specs.Known.{Table}
 use Rattle.plan_cells.specs.Meaning.{Deployment, meaning}
 use Rattle.plan_cells.specs.Start.{IsStart}

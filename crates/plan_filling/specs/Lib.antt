@@ -8,3 +8,6 @@ pub use Rattle.plan_cells.specs.Desired
 pub use Rattle.plan_cells.specs.Meaning
 pub use Rattle.plan_cells.specs.Resources
 pub use Rattle.plan_cells.specs.Scopes
+pub use Rattle.plan_cells.specs.Sites
+pub use Rattle.plan_cells.specs.Cells
+pub use Rattle.plan_cells.specs.Same

@@ -4,8 +4,8 @@ use Rattle.arm_value.specs.Json.{Json}
 use Rattle.reading.specs.Knowledge.{value, told}
 use Rattle.template_parts.specs.declared.limit.Which.{Which}
 use Rattle.template_parts.specs.declared.limit.Which.TheVariants.{Count, Resources, Instances}
-use Rattle.deploy_cells.specs.Cells.{Position, Cell, count, copies}
-use Rattle.deploy_cells.specs.Same.{same_position}
+use Rattle.plan_cells.specs.Cells.{Position, Cell, count, copies}
+use Rattle.plan_cells.specs.Same.{same_position}
 use Rattle.plan_cells.specs.Meaning.{Deployment, meaning}
 use Rattle.plan_filling.specs.Rows.{Status, Value, Row, status_of, table, IsUnfinished}
 use Rattle.plan_filling.specs.Sound.{Sound}

@@ -4,8 +4,8 @@ use Rattle.std.specs.Prelude.{slice_set, slice_index_or, Option, Some, None}
 use Rattle.arm_value.specs.Json.{Json}
 use Rattle.arm_ids.specs.declared.id.ResourceId.{ResourceId}
 use Rattle.reading.specs.Knowledge.{Known, known, absent, missing}
-use Rattle.deploy_cells.specs.Cells.{Cell, deployments}
-use Rattle.deploy_cells.specs.Same.{same}
+use Rattle.plan_cells.specs.Cells.{Cell, deployments}
+use Rattle.plan_cells.specs.Same.{same}
 use Rattle.plan_cells.specs.Known.{Table}
 use Rattle.plan_filling.specs.declared.sheet.Stage.{Stage}
 use Rattle.plan_filling.specs.declared.sheet.Stage.TheVariants as stage

@@ -4,7 +4,7 @@ use Rattle.arm_value.specs.Json.{Json}
 use Rattle.arm_value.specs.View.{json}
 use Rattle.arm_ids.specs.declared.id.ResourceId.{ResourceId}
 use Rattle.reading.specs.Knowledge.{absent, value, waits, told}
-use Rattle.deploy_cells.specs.Cells.{Cell, state}
+use Rattle.plan_cells.specs.Cells.{Cell, state}
 use Rattle.plan_cells.specs.Known.{IsKnown, entry_told}
 use Rattle.plan_cells.specs.Meaning.{Deployment, meaning}
 use Rattle.plan_cells.specs.Start.{start}

@@ -2,7 +2,7 @@
 use Rattle.std.specs.Prelude.{◌≡◌, ◌⊎◌, ℕ, ◌<◌, ◌≤◌, ◌^◌, List, [], ◌∷◌, ◌++◌, length, Option, Some}
 use Rattle.arm_ids.specs.declared.id.ResourceId.{ResourceId}
 use Rattle.reading.specs.Knowledge.{value, waits, told, absent, Grows}
-use Rattle.deploy_cells.specs.Cells.{Cell, state}
+use Rattle.plan_cells.specs.Cells.{Cell, state}
 use Rattle.plan_cells.specs.Known.{entry_told}
 use Rattle.plan_cells.specs.Meaning.{Deployment, meaning}
 use Rattle.plan_cells.specs.Children.{Has, AreApart, children}

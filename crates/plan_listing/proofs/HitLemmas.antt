@@ -5,6 +5,7 @@ use Rattle.std.specs.Prelude.{option_map, ◌&&◌, ◌||◌, if◌then◌else�
 use Rattle.std.specs.List.{list_any}
 use Rattle.std.proofs.lemmas.List.{drop_more, drop_all, drop-map, length-map}
 use Rattle.std.proofs.lemmas.Str.{chars-nil}
+use Rattle.foundation.proofs.TruthValues.{both, first_fails_alone, or_false}
 use Rattle.arm_value.specs.Json.{Json, null, bool, int, text, array, object, row, items}
 use Rattle.arm_value.specs.View.{json}
 use Rattle.arm_value.specs.declared.value.Value.{Value}
@@ -213,10 +214,6 @@ nothing_more test ns i left e h = (
   h.index ∙ ap (λ xs. option_map (λ k. i + k) (first_index test xs)) e,
   h.any ∙ ap (λ xs. left || list_any (λ n. test n.name) xs) e ∙ or_false left,
 )
-  where
-    or_false : (b : Bool) → (b || false) ≡ b
-    or_false true = refl
-    or_false false = refl
 
 module _ (test : List ℕ → Bool) (vs : List Value) (i : ℕ) (left : Bool) where
   abbrev names : List Named
@@ -234,13 +231,9 @@ module _ (test : List ℕ → Bool) (vs : List Value) (i : ℕ) (left : Bool) wh
     included_named : n.included ≡ e.included
     included_named = ap (λ (m : Named). m.included) (sym is)
 
-    one_hit : (x y : Bool) → (x && y) ≡ true → (x ≡ true) × (y ≡ true)
-    one_hit true y q = (refl, q)
-    one_hit false y q = absurd (cc)
-
     pub hit_here : h ≡ true → first_index test names ≡ Some i
     hit_here q =
-        let two = one_hit e.included b (sym hit ∙ q) in
+        let two = both e.included b (sym hit ∙ q) in
         seeking_ends test names i n left (next_of named_of json vs i v less at) here
         (name_is_wanted ∙ two.1) (included_named ∙ two.0)
 
@@ -248,15 +241,11 @@ module _ (test : List ℕ → Bool) (vs : List Value) (i : ℕ) (left : Bool) wh
     further true q r =
         subst (IsSeeking test names (i + 1)) (or_one left)
         (seeking_left test names i n left (next_of named_of json vs i v less at) here (name_is_wanted ∙ q)
-        (included_named ∙ left_out e.included r))
+        (included_named ∙ first_fails_alone e.included r))
       where
         or_one : (c : Bool) → true ≡ (c || true)
         or_one true = refl
         or_one false = refl
-
-        left_out : (c : Bool) → (c && true) ≡ false → c ≡ false
-        left_out true q = absurd (cc)
-        left_out false q = refl
     further false q r =
         subst (IsSeeking test names (i + 1)) (or_none left)
         (seeking_more test names i n left (next_of named_of json vs i v less at) here (name_is_wanted ∙ q))
@@ -344,11 +333,7 @@ none_sought : (test : List ℕ → Bool) (nss : List (List Named)) (i : ℕ) (le
 none_sought test nss i left e h =
     ap (λ o. sought_by o (has_name test nss))
     (h.included ∙ ap (λ xs. option_map (moved i) (first_included test xs)) e)
-    ∙ ap (λ b. sought_by None b) (h.any ∙ ap (λ xs. left || has_name test xs) e ∙ or_nothing left)
-  where
-    or_nothing : (b : Bool) → (b || false) ≡ b
-    or_nothing true = refl
-    or_nothing false = refl
+    ∙ ap (λ b. sought_by None b) (h.any ∙ ap (λ xs. left || has_name test xs) e ∙ or_false left)
 
 pub left_in_all : (test : List ℕ → Bool) (nss : List (List Named)) (i : ℕ) → drop i nss ≡ []
     → IsSeekingIn test nss i true → IsSoughtIn test nss seeks.LeftAway

@@ -16,19 +16,11 @@ use Rattle.arm_ids.specs.declared.id.ResourceId.{ResourceId}
 use Rattle.arm_ids.proofs.SegmentLemmas.{segments-slashed, slashed-segments, segments-fold, fold-slashed, some_joined}
 use Rattle.arm_ids.proofs.SegmentLemmas.{same_tail}
 use Rattle.std.proofs.lemmas.List.Splits.{slice_split-cons_yes}
-use Rattle.foundation.proofs.TruthValues.{both, both_ways}
-use Rattle.foundation.proofs.Words.{eq_word, swapped}
+use Rattle.foundation.proofs.TruthValues.{both_ways}
+use Rattle.foundation.proofs.Words.{swapped}
 use Rattle.deploy_cells.specs.Same.{same_texts}
 use Rattle.plan_listing.specs.Hits.{is_at, fits, is_wanted}
-use Rattle.deploy_cells.proofs.SameLemmas.{texts_same}
-
-texts_are : (xs ys : List (List ℕ)) → same_texts xs ys ≡ true → xs ≡ ys
-texts_are [] [] e = refl
-texts_are [] (y ∷ ys) e = absurd (cc)
-texts_are (x ∷ xs) [] e = absurd (cc)
-texts_are (x ∷ xs) (y ∷ ys) e =
-    let h = both (bytes_eq x y) (same_texts xs ys) e in
-    let a : x ≡ y = eq_word x y h.0 in let b : xs ≡ ys = texts_are xs ys h.1 in cc
+use Rattle.deploy_cells.proofs.SameLemmas.{texts_same, texts_are}
 
 -- ---- segments that are joined
 

@@ -14,9 +14,9 @@ use Rattle.reading.proofs.Parts.{told-continued}
 use Rattle.deploy_cells.specs.Cells.{Position, Cell, deployments}
 use Rattle.deploy_cells.specs.Guarded.{Reads}
 use Rattle.deploy_cells.specs.Listing.{Named, named_of, instances_of, listing_of}
-use Rattle.plan_cells.specs.Scopes.{visible}
-use Rattle.plan_cells.specs.Sites.{first_with, first_name, concat, seek_name, named_or, all_but_first, deployment_key}
-use Rattle.plan_filling.specs.Rows.{status_of, table}
+use Rattle.plan_sight.specs.Scopes.{visible}
+use Rattle.plan_sight.specs.Sites.{first_with, first_name, concat, seek_name, named_or, all_but_first, deployment_key}
+use Rattle.plan_table.specs.Rows.{status_of, table}
 use Rattle.plan_table.specs.declared.table.Table.{Table}
 use Rattle.plan_table.specs.declared.frame.Frame.{Frame}
 use Rattle.plan_table.specs.Opened.{Opened}
@@ -26,11 +26,11 @@ use Rattle.plan_sight.specs.declared.lack.Lack.{Lack}
 use Rattle.plan_sight.specs.Ready.{IsReady, told_in}
 use Rattle.plan_sight.specs.Seen.{Lacks, Stops}
 use Rattle.plan_sight.proofs.LookLemmas.{scope_is, scopes_there, frames_there}
-use Rattle.plan_listing.proofs.HitLemmas.{next_of, no_more}
+use Rattle.plan_nested.proofs.HitLemmas.{next_of, no_more}
 use Rattle.plan_nested.proofs.SeekLemmas.{around_own, around_outer, visible_here, read_goes, read_stops, stop_goes}
 use Rattle.plan_nested.proofs.OutputLemmas.{lacks_stopped}
-use Rattle.plan_listing.specs.Hits.{entry_of}
-use Rattle.plan_listing.specs.declared.listing.Entry.{Entry}
+use Rattle.plan_nested.specs.Hits.{entry_of}
+use Rattle.plan_nested.specs.Entry.{Entry}
 use Rattle.arm_env.specs.Find.{names_key}
 use Rattle.plan_names.specs.Named.{name_first, NamedOr, is_spelled}
 use Rattle.plan_names.proofs.SpelledLemmas.{key_spelled}

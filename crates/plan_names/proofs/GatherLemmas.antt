@@ -5,6 +5,7 @@ use Rattle.std.proofs.Common.{get_or, Option, Some, None, Result, Ok, Err, refl,
 use Rattle.std.proofs.Common.{append_assoc}
 use Rattle.std.specs.Prelude.{◌&&◌, ◌||◌, if◌then◌else◌, slice_get, MatchOption}
 use Rattle.std.proofs.lemmas.List.{drop_more, drop_all, length-map}
+use Rattle.std.proofs.lemmas.Option.{slice_get_within}
 use Rattle.arm_value.specs.Json.{Json, text}
 use Rattle.arm_value.specs.View.{json}
 use Rattle.arm_value.specs.declared.value.Value.{Value}
@@ -18,24 +19,23 @@ use Rattle.reading.specs.Knowledge.{Told, value, no_value, waits, told, finished
 use Rattle.deploy_cells.specs.Cells.{step, Position, Cell, name, count, copies}
 use Rattle.deploy_cells.specs.Guarded.{Reads}
 use Rattle.deploy_cells.specs.Puts.{key_at}
-use Rattle.plan_cells.specs.Resources.{Listed}
+use Rattle.plan_sight.specs.Resources.{Listed}
 use Rattle.plan_table.specs.declared.frame.Frame.{Frame}
 use Rattle.plan_table.specs.declared.listed.Listed as code
 use Rattle.plan_table.specs.Listed.{listed_of}
 use Rattle.plan_table.specs.Opened.{Opened}
 use Rattle.plan_table.specs.Lines.{cell_of, line_at, IsNumber}
 use Rattle.plan_table.specs.Found.{scope_at, IsLineOf, Counts, state_at}
-use Rattle.plan_sight.specs.Ready.{IsReady}
+use Rattle.plan_sight.specs.Ready.{IsReady, told_in}
 use Rattle.plan_sight.proofs.LookLemmas.{scope_is, scopes_there, found_none}
 use Rattle.plan_sight.proofs.RuleLemmas.{kind_here}
 use Rattle.plan_table.proofs.FrameLemmas.{resource_read}
-use Rattle.plan_cells.specs.Sites.{spelled_by, instances_spelled, resource_spelled, all_spelled}
-use Rattle.plan_filling.specs.Rows.{status_of, table}
+use Rattle.plan_sight.specs.Sites.{spelled_by, instances_spelled, resource_spelled, all_spelled}
+use Rattle.plan_table.specs.Rows.{status_of, table}
 use Rattle.plan_table.specs.declared.table.Table.{Table}
 use Rattle.plan_table.specs.Whole.{rows_in, scopes_of}
 use Rattle.plan_sight.specs.declared.lack.Lack.{Lack}
 use Rattle.plan_sight.specs.declared.lack.Lack.TheVariants as lack
-use Rattle.plan_sight.specs.Ready.{told_in}
 use Rattle.plan_sight.specs.Seen.{Stops}
 use Rattle.plan_nested.proofs.InvertLemmas.{and_value, read_known}
 use Rattle.plan_nested.proofs.SeekLemmas.{stop_goes, read_goes, read_stops, copy_there}
@@ -330,14 +330,8 @@ by_type t x place p r i kind y old new u e h =
 
 -- ---- instances of a scope
 
-has_within : {A : Type 0} (xs : List A) (n : ℕ) (x : A) → slice_get xs n ≡ Some x → n < length xs
-has_within [] zero x e = absurd (cc)
-has_within [] (suc n) x e = absurd (cc)
-has_within (y ∷ xs) zero x e = omega arith
-has_within (y ∷ xs) (suc n) x e = let less = has_within xs n x e in omega (arith, less)
-
 pub listed_within : (t : Table) (f r : ℕ) → IsNumber (scope_at t f) r → r < length (scope_at t f).resources
-listed_within t f r n = has_within (scope_at t f).resources r n.listed n.has
+listed_within t f r n = slice_get_within (scope_at t f).resources r n.listed n.has
 
 pub number_within : (t : Table) (f : ℕ) (fr : Frame) → f < length t.frames.items → fr ≡ get_or t.frames.items f fr
     → (r : ℕ) → IsNumber (scope_at t f) r → r < length fr.resources.items

@@ -14,10 +14,9 @@ use Rattle.reading.specs.Knowledge.{value, told, and_then}
 use Rattle.reading.proofs.Parts.{told-continued}
 use Rattle.deploy_cells.specs.Cells.{Position, Cell}
 use Rattle.deploy_cells.specs.Guarded.{Reads}
-use Rattle.plan_cells.specs.Scopes.{visible, template_at}
-use Rattle.plan_cells.specs.Sites.{named_at, all_spelled, key_by, seek_name, all_but_first, deployment_key}
-use Rattle.plan_cells.specs.Sites.{listed_at_scope}
-use Rattle.plan_filling.specs.Rows.{status_of, table}
+use Rattle.plan_sight.specs.Scopes.{visible, template_at}
+use Rattle.plan_sight.specs.Sites.{named_at, all_spelled, key_by, seek_name, all_but_first, deployment_key, listed_at_scope}
+use Rattle.plan_table.specs.Rows.{status_of, table}
 use Rattle.plan_table.specs.declared.table.Table.{Table}
 use Rattle.plan_table.specs.Whole.{whole_of, rows_in}
 use Rattle.plan_table.specs.Found.{scope_at}

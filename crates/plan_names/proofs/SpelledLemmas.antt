@@ -4,6 +4,7 @@ use Rattle.std.proofs.Common.{arith}
 use Rattle.std.specs.Prelude.{◌||◌, bytes_eq}
 use Rattle.std.specs.Char.{to_ascii_lowercase}
 use Rattle.std.proofs.lemmas.List.{map-append, length-map}
+use Rattle.foundation.proofs.TruthValues.{or_turned}
 use Rattle.arm_value.specs.Look.{fold, is_same_folded}
 use Rattle.arm_ids.specs.Segments.{segments, joined}
 use Rattle.arm_ids.specs.declared.id.Place.{Place}
@@ -11,8 +12,8 @@ use Rattle.arm_ids.proofs.SegmentLemmas.{slashed-segments, segments-fold, fold-f
 use Rattle.arm_env.specs.Find.{names_resource, names_key}
 use Rattle.foundation.proofs.Words.{swapped}
 use Rattle.deploy_cells.specs.Puts.{key_at}
-use Rattle.plan_cells.specs.Sites.{deployment_key}
-use Rattle.plan_listing.proofs.KeyLemmas.{joined_segments}
+use Rattle.plan_sight.specs.Sites.{deployment_key}
+use Rattle.plan_nested.proofs.KeyLemmas.{joined_segments}
 use Rattle.plan_names.specs.Named.{is_spelled}
 use Rattle.arm_ids.specs.Members.{deployment_type}
 
@@ -28,12 +29,6 @@ small_twice a b =
     map-append to_ascii_lowercase (fold a) (47 ∷ fold b)
     ∙ ap (λ x. x ++ 47 ∷ fold (fold b)) (fold-fold a) ∙ ap (λ x. fold a ++ 47 ∷ x) (fold-fold b)
     ∙ sym (map-append to_ascii_lowercase a (47 ∷ b))
-
-or_turned : (a b : Bool) → (a || b) ≡ (b || a)
-or_turned true true = refl
-or_turned true false = refl
-or_turned false true = refl
-or_turned false false = refl
 
 -- in small letters it is the same
 small_same : (x n : List ℕ) → is_same_folded x (fold n) ≡ is_same_folded n x

@@ -11,9 +11,9 @@ use Rattle.reading.specs.Reading.{done, read, continued}
 use Rattle.reading.specs.Knowledge.{known, Told, value, and_then}
 use Rattle.deploy_cells.specs.Cells.{step, Position, Cell, name, count, deployments, copies}
 use Rattle.deploy_cells.specs.Guarded.{Reads}
-use Rattle.plan_cells.specs.Sites.{spelled_by, named_or, first_name, concat, deployment_key}
+use Rattle.plan_sight.specs.Sites.{spelled_by, named_or, first_name, concat, deployment_key}
 use Rattle.deploy_cells.specs.Listing.{listing_of}
-use Rattle.plan_filling.specs.Rows.{status_of, table}
+use Rattle.plan_table.specs.Rows.{status_of, table}
 use Rattle.plan_table.specs.declared.table.Table.{Table}
 use Rattle.plan_table.specs.Whole.{rows_in}
 use Rattle.plan_table.specs.Found.{scope_at}

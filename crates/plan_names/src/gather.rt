@@ -3,8 +3,8 @@ ghost use Rattle.std.specs.Prelude.{◌≡◌, ◌<◌, ◌++◌, ◌∷◌, [],
 ghost use Rattle.arm_value.specs.View.{json};
 ghost use Rattle.deploy_cells.specs.Cells.{copies};
 ghost use Rattle.deploy_cells.specs.Puts.{key_at};
-ghost use Rattle.plan_cells.specs.Resources as cells;
-ghost use Rattle.plan_cells.specs.Sites.{spelled_by, instances_spelled, resource_spelled, all_spelled};
+ghost use Rattle.plan_sight.specs.Resources as cells;
+ghost use Rattle.plan_sight.specs.Sites.{spelled_by, instances_spelled, resource_spelled, all_spelled};
 ghost use Rattle.plan_table.specs.Lines.{IsNumber};
 ghost use Rattle.plan_table.specs.Whole.{whole_of};
 ghost use Rattle.plan_table.specs.Found.{scope_at};

@@ -3,7 +3,7 @@ ghost use Rattle.std.specs.Prelude.{◌≡◌, ◌<◌, length, option_map, IfOk
 ghost use Rattle.reading.specs.Knowledge.{value};
 ghost use Rattle.plan_table.specs.declared.table.Table.{Table};
 ghost use Rattle.arm_env.specs.Look.{a_key};
-ghost use Rattle.plan_cells.specs.Sites.{named_at};
+ghost use Rattle.plan_sight.specs.Sites.{named_at};
 ghost use Rattle.plan_table.specs.Whole.{whole_of};
 ghost use Rattle.plan_table.specs.Found.{scope_at};
 ghost use Rattle.plan_sight.specs.Ready.{IsReady, told_in};

@@ -4,6 +4,8 @@ use Rattle.std.proofs.Common.{Option, Some, None}
 use Rattle.std.proofs.Common.{refl, sym, ap, subst, ◌∙◌, arith}
 use Rattle.std.proofs.lemmas.List.{length-map, get_or-map}
 use Rattle.std.specs.Prelude.{slice_get, option_map, option_and_then, if◌then◌else◌}
+use Rattle.std.proofs.lemmas.Option.{same_Some}
+use Rattle.foundation.proofs.Comparisons.{lt_true}
 use Rattle.arm_value.specs.Json.{Json, null, bool, int, text, array, object}
 use Rattle.arm_ids.specs.declared.id.Place.{Place}
 use Rattle.arm_ids.specs.declared.id.ResourceId.{ResourceId}
@@ -46,11 +48,10 @@ use Rattle.plan_tasks.specs.InOrder.{copies_in}
 use Rattle.plan_tasks.specs.Start.{start_of, IsStartTable, IsInstance}
 use Rattle.plan_tasks.proofs.TableLemmas.{line_known}
 use Rattle.plan_tasks.proofs.AnswerLemmas.{cells_answered}
-use Rattle.plan_tasks.proofs.ToldLemmas.{lt_is_true}
 use Rattle.plan_needs.proofs.NumberLemmas.{number_at}
 use Rattle.plan_tasks.proofs.BodyLemmas.{listed_is}
-use Rattle.plan_codes.specs.NameCodes.{names_of, values_ask}
-use Rattle.plan_codes.specs.TaskCodes.{title_in, listed_names, instance_names, instance_asks, task_tags, task_asks}
+use Rattle.name_tags.specs.NameCodes.{names_of, values_ask}
+use Rattle.name_tags.specs.TaskCodes.{title_in, listed_names, instance_names, instance_asks, task_tags, task_asks}
 use Rattle.name_tags.specs.Loops.{loop_titles}
 use Rattle.plan_needs.specs.Numbers.{number_in}
 use Rattle.plan_needs.specs.Order.{entry_code, inside_code, loop_codes, loop_by, loop_at}
@@ -79,12 +80,9 @@ module _ (q : Cell → Known Json) where
   unfolding told
   done_is o x e = finished_is o x e
 
-  some_is : {A : Type 0} (x y : A) → Some x ≡ Some y → x ≡ y
-  some_is x y e = cc
-
   meets_by : (d : Deployment) (f : Json → Bool) (j v : Json) (b : Bool) → f j ≡ b → if_meets d b j ≡ Some v
       → f v ≡ true
-  meets_by d f j v true e h = ap f (sym (some_is j v h)) ∙ e
+  meets_by d f j v true e h = ap f (sym (same_Some j v h)) ∙ e
   meets_by d f j v false e h = absurd (cc)
 
   -- a value that was ruled meets the rule
@@ -94,7 +92,7 @@ module _ (q : Cell → Known Json) where
       let no : Some None ≡ Some (Some v) = done_is (Some None) (Some v) e in absurd (cc)
   rule_met d f (Some r) v e =
       let a = went (ruled d f r) (λ x. pure (Some x)) (Some v) e in
-      let same : a.0 ≡ v = some_is a.0 v (some_is (Some a.0) (Some v) (done_is (Some (Some a.0)) (Some v) a.1.1)) in
+      let same : a.0 ≡ v = same_Some a.0 v (same_Some (Some a.0) (Some v) (done_is (Some (Some a.0)) (Some v) a.1.1)) in
       let b = went r (λ j. done (if_meets d (f j) j)) a.0 a.1.0 in
       meets_by d f b.0 v (f b.0) refl (done_is (if_meets d (f b.0) b.0) a.0 b.1.1 ∙ ap Some same)
 
@@ -202,7 +200,7 @@ module _ (t : Table) (f r i : ℕ) (start : IsStartTable t) (h : IsInstance t f 
   unfolding raw
   name_known =
       cells_answered d _ start.filled start.answered (name p (step r i)) refl (name_value d p (step r i) x)
-      (ap (option_map (name_value d p (step r i))) listed_there) (lt_is_true i (copies_in q p r) h.within)
+      (ap (option_map (name_value d p (step r i))) listed_there) (lt_true i (copies_in q p r) h.within)
 
   name_text : IsText name_known.0
   name_text =

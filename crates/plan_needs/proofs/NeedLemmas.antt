@@ -16,8 +16,8 @@ use Rattle.plan_cells.specs.Meaning.{Deployment}
 use Rattle.plan_cells.specs.Tasks.{Task, enter, leave, delete}
 use Rattle.plan_cells.specs.Needs.{started, ended}
 use Rattle.plan_cells.specs.Plan.{Need, IsListed, AreNeeds}
-use Rattle.plan_codes.specs.TaskCodes.{AreDepending, IsNamed, MayBeNamed, IsTaskIn, task_tags, task_asks}
-use Rattle.plan_codes.proofs.TaskLemmas.{needs_coded}
+use Rattle.name_tags.specs.TaskCodes.{AreDepending, IsNamed, MayBeNamed, IsTaskIn, task_tags, task_asks}
+use Rattle.name_tags.proofs.TaskLemmas.{needs_coded}
 use Rattle.plan_table.specs.declared.table.Table.{Table}
 use Rattle.plan_table.specs.Opened.{Opened, opened_of}
 use Rattle.plan_table.specs.Whole.{whole_of, scopes_of}

@@ -3,25 +3,20 @@ use Rattle.std.proofs.Common.{◌≡◌, ℕ, zero, suc, ◌<◌, Bool, true, fa
 use Rattle.std.proofs.Common.{[], ◌∷◌, length}
 use Rattle.std.proofs.Common.{refl, sym, ap, ◌∙◌, arith}
 use Rattle.std.specs.Prelude.{nat_eq, ◌||◌, if◌then◌else◌}
-use Rattle.deploy_cells.specs.Cells.{Position, deployments}
+use Rattle.std.proofs.lemmas.Bool.{or_right}
+use Rattle.deploy_cells.specs.Cells.{Position}
 use Rattle.deploy_cells.specs.Same.{same_position}
-use Rattle.deploy_cells.proofs.SameLemmas.{cell_is, cell_same}
+use Rattle.deploy_cells.proofs.SameLemmas.{position_is, position_same}
 use Rattle.plan_cells.specs.Meaning.{Deployment}
-use Rattle.plan_codes.specs.Codes.{IsNumbering}
+use Rattle.name_tags.specs.Codes.{IsNumbering}
 use Rattle.plan_filling.specs.Rows.{AreDistinct}
 use Rattle.plan_table.specs.declared.line.Line.{Line}
 use Rattle.plan_table.specs.Opened.{Opened, opened_at}
 use Rattle.plan_table.specs.Lines.{rows_of}
 use Rattle.plan_table.specs.Keys.{Index}
 use Rattle.plan_table.specs.Laid.{Laid}
-use Rattle.plan_table.proofs.HaltLemmas.{one_scope, position_of}
+use Rattle.plan_table.proofs.HaltLemmas.{one_scope}
 use Rattle.plan_needs.specs.Numbers.{is_here, number_in}
-
-position_is : (p q : Position) → same_position p q ≡ true → p ≡ q
-position_is p q e = ap position_of (cell_is (deployments p) (deployments q) e)
-
-position_same : (p : Position) → same_position p p ≡ true
-position_same p = cell_same (deployments p)
 
 abbrev number_by : Bool → ℕ → ℕ
 number_by b n = if b then 0 else suc n
@@ -67,12 +62,8 @@ numbering (o ∷ os) p q h k =
 pub here_at : (os : List Opened) (f : ℕ) → f < length os → is_here os (opened_at os f).position ≡ true
 here_at [] f h = absurd (omega (arith, h))
 here_at (o ∷ os) zero h = ap (λ b. b || is_here os o.position) (position_same o.position)
-here_at (o ∷ os) (suc f) h = or_true (same_position o.position (opened_at os f).position)
+here_at (o ∷ os) (suc f) h = or_right (same_position o.position (opened_at os f).position)
     (is_here os (opened_at os f).position) (here_at os f (omega (arith, h)))
-  where
-    or_true : (b c : Bool) → c ≡ true → (b || c) ≡ true
-    or_true true c e = refl
-    or_true false c e = e
 
 -- the scope of a number has the position
 record IsAt (os : List Opened) (p : Position) (n : ℕ) : Type 0 where

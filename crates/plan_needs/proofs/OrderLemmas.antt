@@ -2,6 +2,7 @@
 use Rattle.std.proofs.Common.{◌≡◌, ℕ, suc, ◌-◌, List, [], ◌∷◌, ◌++◌, map, length}
 use Rattle.std.proofs.Common.{take, Option, Some, None, refl, sym, ap}
 use Rattle.std.proofs.Common.{◌∙◌, ◌<◌, arith}
+use Rattle.std.proofs.lemmas.List.{append-nil}
 use Rattle.arm_value.specs.Json.{Json}
 use Rattle.arm_ids.specs.Id.{IsKey}
 use Rattle.arm_ids.specs.declared.id.ResourceId.{ResourceId}
@@ -17,13 +18,9 @@ use Rattle.plan_cells.specs.Meaning.{Deployment}
 use Rattle.plan_cells.specs.Tasks.{enter, leave, put, delete}
 use Rattle.plan_cells.specs.Needs.{copy_of}
 use Rattle.plan_tags.specs.Tags.{first_ones, by_batch, by_copy, parent_by}
-use Rattle.plan_codes.specs.Codes.{code}
-use Rattle.plan_codes.specs.TaskCodes.{instance_names, instance_asks, task_tags, task_asks}
+use Rattle.name_tags.specs.Codes.{code}
+use Rattle.name_tags.specs.TaskCodes.{instance_names, instance_asks, task_tags, task_asks}
 use Rattle.plan_needs.specs.Order.{entry_code, inside_code, left_code, batch_codes, loop_codes}
-
-nil_right : {A : Type 0} (xs : List A) → xs ++ [] ≡ xs
-nil_right [] = refl
-nil_right (x ∷ xs) = ap (λ ys. x ∷ ys) (nil_right xs)
 
 module _ (d : Deployment) (number : Position → ℕ) where
   batches_are : (h : ℕ → ℕ) (p : Position) (s : Step) (b : Batches)
@@ -40,7 +37,7 @@ module _ (d : Deployment) (number : Position → ℕ) where
       → map (code number) (by_copy h p s (copy_of d (resource_of d.template p s.resource)) ++ [])
       ≡ loop_codes h (number p) s.resource s.copy y.declaration.copy
   middle h p s y e =
-      ap (map (code number)) (nil_right (by_copy h p s (copy_of d (resource_of d.template p s.resource))))
+      ap (map (code number)) (append-nil (by_copy h p s (copy_of d (resource_of d.template p s.resource))))
       ∙ ap (λ o. map (code number) (by_copy h p s (copy_of d o))) e
       ∙ loops_are h p s y.declaration.copy
 
@@ -113,7 +110,7 @@ module _ (d : Deployment) (number : Position → ℕ) where
   pub delete_is : (q : Table) (k : ResourceId) → IsKey k
       → task_tags d number q (delete k) ≡ (4 ∷ key_code (parent_parts k)) ∷ []
   delete_is q k h =
-      nil_right (map (code number) (parent_by k k.types k.names))
+      append-nil (map (code number) (parent_by k k.types k.names))
       ∙ (let n = h.is_id.named in let m = h.is_id.paired in
       parent_is k k.types k.names (omega (arith, m)) n)
 

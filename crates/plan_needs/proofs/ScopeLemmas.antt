@@ -2,9 +2,11 @@
 use Rattle.std.proofs.Common.{◌≡◌, ℕ, ◌+◌, ◌<◌, ◌≤◌, zero, suc, List, [], ◌∷◌, ◌++◌, map, length, drop}
 use Rattle.std.proofs.Common.{get_or, refl, sym}
 use Rattle.std.proofs.Common.{ap, ◌∙◌, arith, append_assoc}
-use Rattle.std.proofs.lemmas.List.{length-map, map-append}
+use Rattle.std.proofs.lemmas.List.{length-map, map-append, append-nil}
 use Rattle.std.specs.declared.vec.Vec.{Vec}
 use Rattle.std.specs.declared.alloc.Global.{Global}
+use Rattle.std.proofs.Math.Seq.{drop-cons}
+use Rattle.foundation.proofs.Lists.{nothing_left}
 use Rattle.arm_value.specs.Json.{Json}
 use Rattle.arm_value.specs.View.{json}
 use Rattle.arm_value.specs.declared.value.Value.{Value}
@@ -17,7 +19,7 @@ use Rattle.tag_needs.specs.Tags.{Tag, tags_of, tags_in}
 use Rattle.plan_cells.specs.Known as knowing
 use Rattle.plan_cells.specs.Meaning.{Deployment}
 use Rattle.plan_cells.specs.Tasks.{enter, leave, put, delete}
-use Rattle.plan_codes.specs.TaskCodes.{task_tags, task_asks}
+use Rattle.name_tags.specs.TaskCodes.{task_tags, task_asks}
 use Rattle.plan_table.specs.declared.table.Table.{Table}
 use Rattle.plan_table.specs.Opened.{opened_of}
 use Rattle.plan_table.specs.Whole.{whole_of, scopes_of}
@@ -110,21 +112,6 @@ each_at P [] i d a h = absurd (omega (arith, h))
 each_at P (y ∷ ys) zero d a h = a.0
 each_at P (y ∷ ys) (suc i) d a h = each_at P ys i d a.1 (omega (arith, h))
 
-drop_here : {A : Type 0} (xs : List A) (i : ℕ) (d : A) → i < length xs → drop i xs ≡ get_or xs i d ∷ drop (suc i) xs
-drop_here [] i d h = absurd (omega (arith, h))
-drop_here (x ∷ xs) zero d h = refl
-drop_here (x ∷ xs) (suc i) d h = drop_here xs i d (omega (arith, h))
-
-nothing_left : {A : Type 0} (xs : List A) (i : ℕ) → length xs ≤ i → drop i xs ≡ []
-nothing_left [] zero h = refl
-nothing_left [] (suc i) h = refl
-nothing_left (x ∷ xs) zero h = absurd (omega (arith, h))
-nothing_left (x ∷ xs) (suc i) h = nothing_left xs i (omega (arith, h))
-
-nil_right : {A : Type 0} (xs : List A) → xs ++ [] ≡ xs
-nil_right [] = refl
-nil_right (x ∷ xs) = ap (λ ys. x ∷ ys) (nil_right xs)
-
 -- with those of the tasks from a number on, the list is that of all tasks
 abbrev pub AsksLeft : Table → List ScopeTask → List (Vec Value Global) → List (Vec (Vec ℕ Global) Global) → ℕ → Type 0
 AsksLeft t us vs all i =
@@ -148,16 +135,16 @@ asks_more t us vs i u v xs all new asks h n e g x k m c =
     ∙ ap (λ (y : Vec Value Global). tags_in all ++ (asks_of_task t (get_or us i u) (map json y.items)
     ∷ asks_of_tasks t (drop (suc i) us) (values_in (drop (suc i) vs)))) g
     ∙ ap (λ ys. tags_in all ++ asks_of_tasks t ys (values_in (get_or vs i v ∷ drop (suc i) vs)))
-    (sym (drop_here us i u h))
+    (sym (drop-cons us i u h))
     ∙ ap (λ ys. tags_in all ++ asks_of_tasks t (drop i us) (values_in ys))
-    (sym (drop_here vs i v (omega (arith, h, n))))
+    (sym (drop-cons vs i v (omega (arith, h, n))))
     ∙ c
 
 pub asks_end : (t : Table) (us : List ScopeTask) (vs : List (Vec Value Global)) (i : ℕ)
     (all : List (Vec (Vec ℕ Global) Global)) → length us ≤ i → AsksLeft t us vs all i
     → tags_in all ≡ asks_of_tasks t us (values_in vs)
 asks_end t us vs i all h c =
-    sym (nil_right (tags_in all))
+    sym (append-nil (tags_in all))
     ∙ ap (λ ys. tags_in all ++ asks_of_tasks t ys (values_in (drop i vs))) (sym (nothing_left us i h)) ∙ c
 
 -- ---- deletes
@@ -177,4 +164,4 @@ one_more f ks i k first all new v h e g m c =
     ∙ append_assoc (tags_in all) (tags_of v ∷ []) (map f (drop (i + 1) ks))
     ∙ ap (λ ts. tags_in all ++ (ts ∷ map f (drop (i + 1) ks))) (g ∙ ap f e)
     ∙ ap (λ (j : ℕ). tags_in all ++ (f (get_or ks i k) ∷ map f (drop j ks))) (let z : i + 1 ≡ suc i = omega arith in z)
-    ∙ ap (λ ys. tags_in all ++ map f ys) (sym (drop_here ks i k h)) ∙ c
+    ∙ ap (λ ys. tags_in all ++ map f ys) (sym (drop-cons ks i k h)) ∙ c

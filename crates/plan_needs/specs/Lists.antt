@@ -8,7 +8,7 @@ use Rattle.arm_value.specs.declared.value.Value.{Value}
 use Rattle.arm_ids.specs.declared.id.ResourceId.{ResourceId}
 use Rattle.tag_needs.specs.Tags.{Tag}
 use Rattle.plan_cells.specs.Tasks.{delete}
-use Rattle.plan_codes.specs.TaskCodes.{task_tags, task_asks}
+use Rattle.name_tags.specs.TaskCodes.{task_tags, task_asks}
 use Rattle.plan_table.specs.declared.table.Table.{Table}
 use Rattle.plan_table.specs.Whole.{whole_of, scopes_of}
 use Rattle.plan_tasks.specs.declared.task.ScopeTask.{ScopeTask}

@@ -5,7 +5,7 @@ use Rattle.arm_ids.specs.declared.id.ResourceId.{ResourceId}
 use Rattle.plan_cells.specs.Tasks.{Task, delete}
 use Rattle.plan_cells.specs.Needs.{started}
 use Rattle.plan_cells.specs.Plan.{Need}
-use Rattle.plan_codes.specs.TaskCodes.{AreDepending}
+use Rattle.name_tags.specs.TaskCodes.{AreDepending}
 use Rattle.plan_table.specs.declared.table.Table.{Table}
 use Rattle.plan_table.specs.Opened.{Opened}
 use Rattle.plan_table.specs.Whole.{whole_of, scopes_of}

@@ -3,7 +3,7 @@ ghost use Rattle.std.specs.Prelude.{◌≡◌, ◌∷◌, ◌++◌, [], IfOk};
 ghost use Rattle.key_tags.specs.KeyCodes.{key_code, parent_parts};
 ghost use Rattle.tag_needs.specs.Tags.{tags_of, tags_in};
 ghost use Rattle.plan_cells.specs.Tasks.{delete};
-ghost use Rattle.plan_codes.specs.TaskCodes.{task_tags, task_asks};
+ghost use Rattle.name_tags.specs.TaskCodes.{task_tags, task_asks};
 ghost use Rattle.plan_table.specs.Whole.{whole_of, scopes_of};
 ghost use Rattle.plan_tasks.specs.Start.{start_of};
 ghost use Rattle.plan_needs.specs.Numbers.{number_in};

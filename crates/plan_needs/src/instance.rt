@@ -6,7 +6,7 @@ ghost use Rattle.tag_needs.specs.Tags.{tags_of};
 ghost use Rattle.plan_cells.specs.Reads.{key_in};
 ghost use Rattle.plan_cells.specs.Start.{start_world};
 ghost use Rattle.plan_cells.specs.Tasks.{put};
-ghost use Rattle.plan_codes.specs.TaskCodes.{instance_names, instance_asks, task_tags, task_asks};
+ghost use Rattle.name_tags.specs.TaskCodes.{instance_names, instance_asks, task_tags, task_asks};
 ghost use Rattle.plan_table.specs.Whole.{whole_of, scopes_of};
 ghost use Rattle.plan_table.specs.Found.{scope_at};
 ghost use Rattle.plan_tasks.specs.Start.{start_of, IsStartTable, IsInstance};

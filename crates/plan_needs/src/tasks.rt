@@ -5,7 +5,7 @@ ghost use Rattle.arm_value.specs.View.{json};
 ghost use Rattle.reading.specs.World.{Each};
 ghost use Rattle.tag_needs.specs.Tags.{tags_of, tags_in};
 ghost use Rattle.plan_cells.specs.Tasks.{enter, leave};
-ghost use Rattle.plan_codes.specs.TaskCodes.{task_tags, task_asks};
+ghost use Rattle.name_tags.specs.TaskCodes.{task_tags, task_asks};
 ghost use Rattle.plan_table.specs.Whole.{whole_of, scopes_of};
 ghost use Rattle.plan_table.specs.Found.{scope_at};
 ghost use Rattle.plan_tasks.specs.Start.{start_of, IsStartTable, IsTaskOf, task_of};

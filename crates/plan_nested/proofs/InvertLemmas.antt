@@ -14,9 +14,9 @@ use Rattle.deploy_cells.specs.Guarded.{Reads, told_by, told_where}
 use Rattle.deploy_cells.specs.Listing.{Named, named_by, one_named, instances_named, resource_named, all_named}
 use Rattle.deploy_cells.specs.Listing.{listing_value, listing_json}
 use Rattle.template_tree.specs.Tree.{TemplateTree}
-use Rattle.plan_cells.specs.Resources.{nested_numbers}
-use Rattle.plan_cells.specs.Scopes.{template_at}
-use Rattle.plan_cells.specs.Meaning.{Deployment, plain, raw, ruled, if_meets}
+use Rattle.plan_sight.specs.Resources.{nested_numbers}
+use Rattle.plan_sight.specs.Scopes.{template_at}
+use Rattle.plan_sight.specs.Meaning.{Deployment, plain, raw, ruled, if_meets}
 use Rattle.deploy_cells.specs.Guarded.{there_if}
 
 abbrev pub one_value : {A : Type 0} → A → Told Cell A

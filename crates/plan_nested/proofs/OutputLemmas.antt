@@ -23,14 +23,12 @@ use Rattle.template_parts.specs.declared.output.Output.{Output}
 use Rattle.template_tree.specs.Tree.{TemplateTree}
 use Rattle.deploy_cells.specs.Cells.{Step, Position, Cell, offered, output}
 use Rattle.deploy_cells.specs.Guarded.{Reads}
-use Rattle.plan_cells.specs.Resources.{header_in}
-use Rattle.plan_cells.specs.Scopes.{template_at, visible}
-use Rattle.plan_cells.specs.Sites as sites
-use Rattle.plan_cells.specs.Sites.{Site, value_of, declared_value, declares, output_named, output_at}
-use Rattle.plan_cells.specs.Sites.{outputs_at}
-use Rattle.plan_cells.specs.Sites.{offered_outputs, outputs_in, declared_output, seek, truth_of_found}
-use Rattle.plan_cells.specs.Children.{Has, output_names}
-use Rattle.plan_cells.proofs.ListLemmas.{not_named}
+use Rattle.plan_sight.specs.Resources.{header_in}
+use Rattle.plan_sight.specs.Scopes.{template_at, visible}
+use Rattle.plan_sight.specs.Sites as sites
+use Rattle.plan_sight.specs.Sites.{Site, value_of, declared_value, declares, output_named, output_at, outputs_at, offered_outputs, outputs_in, declared_output, seek, truth_of_found}
+use Rattle.plan_sight.specs.Children.{Has, output_names}
+use Rattle.plan_sight.proofs.ListLemmas.{not_named}
 use Rattle.plan_table.specs.Rows.{Status, status_of, table, known_by}
 use Rattle.plan_table.specs.declared.table.Table.{Table}
 use Rattle.plan_table.specs.declared.line.State.{State}
@@ -42,8 +40,7 @@ use Rattle.plan_sight.specs.declared.lack.Lack.{Lack}
 use Rattle.plan_sight.specs.declared.lack.Lack.TheVariants as lack
 use Rattle.plan_sight.specs.Ready.{IsReady, told_in}
 use Rattle.plan_sight.specs.Seen.{Lacks, Shows, Stops, Yields}
-use Rattle.plan_sight.proofs.LookLemmas.{cell_at, status_at, IsOpen, entry_waits, listed_row, cell_of_row, named}
-use Rattle.plan_sight.proofs.LookLemmas.{scope_is}
+use Rattle.plan_sight.proofs.LookLemmas.{cell_at, status_at, IsOpen, entry_waits, listed_row, cell_of_row, named, scope_is}
 use Rattle.plan_table.specs.declared.frame.Frame.{Frame}
 use Rattle.plan_table.specs.Opened.{Opened, opened_of}
 use Rattle.plan_listing.specs.Hits.{is_at}

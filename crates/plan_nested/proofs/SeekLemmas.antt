@@ -3,6 +3,7 @@ use Rattle.std.proofs.Common.{◌≡◌, ℕ, zero, suc, ◌+◌, ◌<◌, Bool,
 use Rattle.std.proofs.Common.{None, Result, Ok, Err, refl, sym, ap, subst, ◌∙◌, arith, map, get_or, IfOk}
 use Rattle.std.proofs.lemmas.List.{get_or_read}
 use Rattle.std.specs.Prelude.{slice_get, option_and_then, is_some, if◌then◌else◌, MatchOption}
+use Rattle.foundation.proofs.Options.{some_there}
 use Rattle.arm_value.specs.Json.{Json, bool}
 use Rattle.arm_value.specs.View.{json}
 use Rattle.arm_value.specs.declared.value.Value as values
@@ -16,12 +17,11 @@ use Rattle.deploy_cells.specs.Listing.{IsListed, IsSought, found, sought, listin
 use Rattle.deploy_cells.proofs.CellLemmas.{guarded_told}
 use Rattle.deploy_cells.proofs.ListingLemmas.{sought_is}
 use Rattle.template_tree.specs.Tree.{TemplateTree}
-use Rattle.plan_cells.specs.Resources.{Listed, Nested, nested_in, is_nested, nested_from, nested_numbers, resources_in}
-use Rattle.plan_cells.specs.Resources.{resource_at, nested_at, unless_existing}
-use Rattle.plan_cells.specs.Scopes.{template_at, visible, is_outer, nested_of}
-use Rattle.plan_cells.specs.Sites as sites
-use Rattle.plan_cells.specs.Sites.{nested_numbers_at, seek, found_or, instance_of, all_but_first, is_nowhere}
-use Rattle.plan_cells.specs.Meaning.{Deployment, meaning, plain, is_own}
+use Rattle.plan_sight.specs.Resources.{Listed, Nested, nested_in, is_nested, nested_from, nested_numbers, resources_in, resource_at, nested_at, unless_existing}
+use Rattle.plan_sight.specs.Scopes.{template_at, visible, is_outer, nested_of}
+use Rattle.plan_sight.specs.Sites as sites
+use Rattle.plan_sight.specs.Sites.{nested_numbers_at, seek, found_or, instance_of, all_but_first, is_nowhere}
+use Rattle.plan_sight.specs.Meaning.{Deployment, meaning, plain, is_own}
 use Rattle.plan_table.specs.Rows as rows
 use Rattle.plan_table.specs.Rows.{Status, status_of, table, known_by}
 use Rattle.plan_table.specs.declared.table.Table.{Table}
@@ -93,15 +93,11 @@ pub record HasNested (u : TemplateTree) (r : ℕ) : Type 0 where
   pub has : slice_get (resources_in u) r ≡ Some listed
   pub is_put : listed.declaration.existing ≡ false
 
-some_of : {A : Type 0} (o : Option A) → is_some o ≡ true → (x : A) × (o ≡ Some x)
-some_of (Some x) e = (x, refl)
-some_of None e = absurd (cc)
-
 by_existing : (x : Listed) (b : Bool) → x.declaration.existing ≡ b
     → (if b then false else is_some (nested_in x.content)) ≡ true
     → (x.declaration.existing ≡ false) × ((n : Nested) × (nested_in x.content ≡ Some n))
 by_existing x true e h = absurd (cc)
-by_existing x false e h = (e, some_of (nested_in x.content) h)
+by_existing x false e h = (e, some_there (nested_in x.content) h)
 
 pub resource_is : (u : TemplateTree) (r : ℕ) (x : Listed) → slice_get (resources_in u) r ≡ Some x
     → x.declaration.existing ≡ false → resource_at u r ≡ Some x

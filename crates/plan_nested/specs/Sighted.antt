@@ -7,9 +7,9 @@ use Rattle.reading.specs.Reading.{pure, read, continued}
 use Rattle.deploy_cells.specs.Cells.{Step, step, Position, Cell, count, included, deployments, copies}
 use Rattle.deploy_cells.specs.Listing.{Sought, not_here, sought}
 use Rattle.deploy_cells.specs.Guarded.{Reads}
-use Rattle.plan_cells.specs.Resources.{Nested, nested_at}
-use Rattle.plan_cells.specs.Sites as sites
-use Rattle.plan_cells.specs.Sites.{instance, is_left_away, is_nowhere, found_or, nested_numbers_at}
+use Rattle.plan_sight.specs.Resources.{Nested, nested_at}
+use Rattle.plan_sight.specs.Sites as sites
+use Rattle.plan_sight.specs.Sites.{instance, is_left_away, is_nowhere, found_or, nested_numbers_at}
 use Rattle.plan_table.specs.Rows.{status_of, table}
 use Rattle.plan_table.specs.declared.table.Table.{Table}
 use Rattle.plan_table.specs.Whole.{whole_of, scopes_of, rows_in}

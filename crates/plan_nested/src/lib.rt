@@ -8,3 +8,5 @@
 pub mod look;
 pub mod outputs;
 pub mod seeking;
+
+pub use plan_listing::listing::entry_of;

@@ -6,7 +6,7 @@ ghost use Rattle.arm_env.specs.Look.{a_value, a_truth};
 ghost use Rattle.arm_env.specs.Look as look;
 ghost use Rattle.reading.specs.Reading.{ask, pure};
 ghost use Rattle.deploy_cells.specs.Cells as cells;
-ghost use Rattle.plan_cells.specs.Sites.{Site, looked_up, value_of, output_at, truth_of_found};
+ghost use Rattle.plan_sight.specs.Sites.{Site, looked_up, value_of, output_at, truth_of_found};
 ghost use Rattle.plan_table.specs.Lines.{cell_of, line_at};
 ghost use Rattle.plan_table.specs.Whole.{whole_of, scopes_of};
 ghost use Rattle.plan_table.specs.declared.table.Table.{Table};

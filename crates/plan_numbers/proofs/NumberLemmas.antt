@@ -4,8 +4,12 @@ use Rattle.std.proofs.Common.{◌∷◌, ◌++◌, map, take, drop, length, get_
 use Rattle.std.proofs.Common.{refl, sym, ap, subst, ◌∙◌, arith}
 use Rattle.std.specs.Prelude.{slice_get, option_map, if◌then◌else◌, Decides, MatchOption}
 use Rattle.std.proofs.lemmas.Slice.Eq.{bytes_eq-Decides}
+use Rattle.foundation.proofs.TruthValues.{both, and_true}
 use Rattle.arm_ids.specs.declared.id.ResourceId.{ResourceId}
 use Rattle.std.proofs.lemmas.List.{map-append, take_more, take-append-drop}
+use Rattle.std.proofs.lemmas.Option.{same_Some, slice_get_within}
+use Rattle.foundation.proofs.Lists.{got_last}
+use Rattle.foundation.proofs.Comparisons.{lt_or_is}
 use Rattle.key_tags.specs.KeyCodes.{key_code}
 use Rattle.tag_places.proofs.PlaceLemmas.{untagged}
 use Rattle.tag_places.specs.Places.{Tag, is_tag, first_place, Places, ArePlaces}
@@ -74,12 +78,12 @@ puts_few (Put f r i ∷ us) = let h = puts_few us in omega (arith, h)
 
 -- ---- places apart
 
-got_last : {A : Type 0} (xs : List A) (x : A) (i : ℕ) (y : A) → slice_get (xs ++ x ∷ []) i ≡ Some y
+got_in_more : {A : Type 0} (xs : List A) (x : A) (i : ℕ) (y : A) → slice_get (xs ++ x ∷ []) i ≡ Some y
     → (slice_get xs i ≡ Some y) ⊎ ((i ≡ length xs) × (x ≡ y))
-got_last [] x zero y e = inr (refl, (let f : Some x ≡ Some y = e in cc))
-got_last [] x (suc i) y e = let f : None ≡ Some y = e in absurd (cc)
-got_last (z ∷ xs) x zero y e = inl e
-got_last (z ∷ xs) x (suc i) y e = elim (got_last xs x i y e) [
+got_in_more [] x zero y e = inr (refl, (let f : Some x ≡ Some y = e in cc))
+got_in_more [] x (suc i) y e = let f : None ≡ Some y = e in absurd (cc)
+got_in_more (z ∷ xs) x zero y e = inl e
+got_in_more (z ∷ xs) x (suc i) y e = elim (got_in_more xs x i y e) [
   | inl h ↦ inl h
   | inr h ↦ inr (ap suc h.0, h.1)
 ]
@@ -89,9 +93,9 @@ no_tag t e = cc
 
 pub apart_untagged : (os : List (Option Tag)) → AreApart os → AreApart (os ++ None ∷ [])
 apart_untagged os a i j t e f =
-    elim (got_last os None i (Some t) e) [
+    elim (got_in_more os None i (Some t) e) [
       | inr h ↦ absurd (no_tag t h.1)
-      | inl h ↦ elim (got_last os None j (Some t) f) [ inr g ↦ absurd (no_tag t g.1) | inl g ↦ a i j t h g ]
+      | inl h ↦ elim (got_in_more os None j (Some t) f) [ inr g ↦ absurd (no_tag t g.1) | inl g ↦ a i j t h g ]
     ]
 
 -- a tag that a place has is found
@@ -114,9 +118,6 @@ found_some t (o ∷ os) (suc i) e f = by_test (found_some t os i e) (is_tag t o)
         → (if b then Some zero else option_map (λ n. suc n) (first_place t os)) ≡ None → ⊥
     by_test more true g = let h : Some zero ≡ None = g in cc
     by_test more false g = more (further (first_place t os) g)
-
-one_tag : (t u : Tag) → Some t ≡ Some u → t ≡ u
-one_tag t u e = cc
 
 -- a place that is found has the tag
 tagged : (t : Tag) (o : Option Tag) → is_tag t o ≡ true → o ≡ Some t
@@ -151,22 +152,13 @@ get_front [] ys i y e = let f : None ≡ Some y = e in absurd (cc)
 get_front (x ∷ xs) ys zero y e = e
 get_front (x ∷ xs) ys (suc i) y e = get_front xs ys i y e
 
-get_end : {A : Type 0} (xs : List A) (x : A) → slice_get (xs ++ x ∷ []) (length xs) ≡ Some x
-get_end [] x = refl
-get_end (y ∷ xs) x = get_end xs x
-
-got_within : {A : Type 0} (xs : List A) (i : ℕ) (y : A) → slice_get xs i ≡ Some y → i < length xs
-got_within [] i y e = let f : None ≡ Some y = e in absurd (cc)
-got_within (x ∷ xs) zero y e = omega arith
-got_within (x ∷ xs) (suc i) y e = let h = got_within xs i y e in omega (arith, h)
-
 -- a tag that is there already is not apart
 not_apart : (os : List (Option Tag)) (u : Tag) (i : ℕ) → first_place u os ≡ Some i → AreApart (os ++ Some u ∷ []) → ⊥
 not_apart os u i e a =
     let h = first_has u os i e in
     let l = h.0 in
     let same : i ≡ length os
-    = a i (length os) u (get_front os (Some u ∷ []) i (Some u) h.1) (get_end os (Some u)) in
+    = a i (length os) u (get_front os (Some u ∷ []) i (Some u) h.1) (got_last os (Some u)) in
     omega (arith, l, same)
 
 pub key_refused : (os : List (Option Tag)) (tag : List ℕ) (k : ResourceId) (o : Option ℕ) (i : ℕ) → tag ≡ key_code k
@@ -177,13 +169,13 @@ key_refused os tag k o i e f g =
 pub apart_new : (os : List (Option Tag)) (u : Tag) → first_place u os ≡ None → AreApart os
     → AreApart (os ++ Some u ∷ [])
 apart_new os u n a i j t e f =
-    elim (got_last os (Some u) i (Some t) e) [
-      | inl h ↦ elim (got_last os (Some u) j (Some t) f) [
+    elim (got_in_more os (Some u) i (Some t) e) [
+      | inl h ↦ elim (got_in_more os (Some u) j (Some t) f) [
         | inl g ↦ a i j t h g
-        | inr g ↦ absurd (found_some u os i (h ∙ ap (λ (z : Tag). Some (Some z)) (sym (one_tag u t g.1))) n)
+        | inr g ↦ absurd (found_some u os i (h ∙ ap (λ (z : Tag). Some (Some z)) (sym (same_Some u t g.1))) n)
       ]
-      | inr h ↦ elim (got_last os (Some u) j (Some t) f) [
-        | inl g ↦ absurd (found_some u os j (g ∙ ap (λ (z : Tag). Some (Some z)) (sym (one_tag u t h.1))) n)
+      | inr h ↦ elim (got_in_more os (Some u) j (Some t) f) [
+        | inl g ↦ absurd (found_some u os j (g ∙ ap (λ (z : Tag). Some (Some z)) (sym (same_Some u t h.1))) n)
         | inr g ↦ h.0 ∙ sym g.0
       ]
     ]
@@ -225,7 +217,7 @@ numbered_put m n us f r i ks k b e a =
     record {
       places = subst (λ (os : List (Option Tag)). ArePlaces n os) (sym g) a.places;
       keys = record {
-        enough = let l = got_within ks (puts_in us) k e in let p = puts_more us (Put f r i) in omega (arith, l, p);
+        enough = let l = slice_get_within ks (puts_in us) k e in let p = puts_more us (Put f r i) in omega (arith, l, p);
         apart = subst (λ (os : List (Option Tag)). AreApart os) (sym g) (a.apart b.keys.apart);
       };
     }
@@ -343,13 +335,10 @@ some_place : (o : Option ℕ) → is_some o ≡ true → (u : ℕ) × (o ≡ Som
 some_place (Some u) e = (u, refl)
 some_place None e = absurd (true≢false (sym e))
 
-last_or : (f n : ℕ) → f < n + 1 → (f < n) ⊎ (f ≡ n)
-last_or f n l = grind (arith, l)
-
 pub place_more : (os : List (Option Tag)) (n : ℕ) (tag : Tag) (o : Option ℕ) → tag ≡ n ∷ [] → o ≡ first_place tag os
     → is_some o ≡ true → ((f : ℕ) → f < n → HasPlace os f) → (f : ℕ) → f < n + 1 → HasPlace os f
 place_more os n tag o e g h more f l =
-    elim (last_or f n l) [
+    elim (lt_or_is f n l) [
       | inl b ↦ more f b
       | inr b ↦ (let u = some_place o h in
           (u.0, ap (λ (k : ℕ). first_place (k ∷ []) os) b ∙ ap (λ (t : Tag). first_place t os) (sym e) ∙ sym g ∙ u.1))
@@ -361,14 +350,6 @@ pub not_placed : (os : List (Option Tag)) (n : ℕ) (tag : Tag) (o : Option ℕ)
 not_placed os n tag o e g h p =
     true≢false (sym (ap is_some (g ∙ ap (λ (t : Tag). first_place t os) e ∙ p.1)) ∙ h)
 
-both_true : (a b : Bool) → (a && b) ≡ true → (a ≡ true) × (b ≡ true)
-both_true true b e = (refl, e)
-both_true false b e = absurd (true≢false (sym e))
-
-true_both : (a b : Bool) → a ≡ true → b ≡ true → (a && b) ≡ true
-true_both true b d e = e
-true_both false b d e = d
-
 pub whole : (t : Table) (us : List Task) (ks : List ResourceId) (n : Numbers) (count : ℕ) (a b c d : Bool)
     → AreListed us ks n → count ≡ length t.frames.items → Decides a (length us ≤ 4294967295)
     → Decides b ((f : ℕ) → f < count → HasPlace (map enter_tag us) f)
@@ -376,9 +357,9 @@ pub whole : (t : Table) (us : List Task) (ks : List ResourceId) (n : Numbers) (c
     → Decides (a && (b && (c && d))) (AreOfScopes t us ks)
 whole t us ks n count a b c d l e few enters leaves each = (
   λ all.
-      let x = both_true a (b && (c && d)) all in
-      let y = both_true b (c && d) x.1 in
-      let z = both_true c d y.1 in
+      let x = both a (b && (c && d)) all in
+      let y = both b (c && d) x.1 in
+      let z = both c d y.1 in
       record {
         few = few.0 x.0;
         keys = l.puts.keys;
@@ -387,9 +368,9 @@ whole t us ks n count a b c d l e few enters leaves each = (
         of_table = each.0 z.1;
       },
   λ o.
-      true_both a (b && (c && d)) (few.1 o.few)
-      (true_both b (c && d) (enters.1 (λ f h. o.entered f (omega (arith, e, h))))
-      (true_both c d (leaves.1 (λ f h. o.left f (omega (arith, e, h)))) (each.1 o.of_table))),
+      and_true a (b && (c && d)) (few.1 o.few)
+      (and_true b (c && d) (enters.1 (λ f h. o.entered f (omega (arith, e, h))))
+      (and_true c d (leaves.1 (λ f h. o.left f (omega (arith, e, h)))) (each.1 o.of_table))),
 )
 
 pub numbers_are : (t : Table) (us : List Task) (ks : List ResourceId) (n : Numbers) → AreListed us ks n

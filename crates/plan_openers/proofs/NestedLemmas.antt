@@ -3,6 +3,8 @@ use Rattle.std.proofs.Common.{◌≡◌, inl, inr, ℕ, suc, ◌<◌, true, true
 use Rattle.std.proofs.Common.{Option, Some, None, refl, sym, ap, subst, ◌∙◌, arith}
 use Rattle.std.proofs.lemmas.List.{length-map}
 use Rattle.std.specs.Prelude.{is_some, slice_get, option_map, option_and_then, if◌then◌else◌}
+use Rattle.std.proofs.lemmas.Option.{same_Some}
+use Rattle.plan_cells.proofs.TaskLemmas.{some_true}
 use Rattle.arm_value.specs.Json.{Json, null, bool, int, text, array, object}
 use Rattle.arm_value.specs.View.{json}
 use Rattle.arm_ids.specs.declared.id.Place.{Place}
@@ -19,9 +21,9 @@ use Rattle.plan_cells.specs.Desired.{kind_of, kinds}
 use Rattle.plan_cells.specs.Reads.{key_in}
 use Rattle.plan_cells.specs.Start.{start_world}
 use Rattle.plan_cells.specs.Tasks.{key_by}
-use Rattle.plan_filling.specs.Rows.{Status, New, Open, Value, Empty, Late, Row, row_at, status_of, known_by}
-use Rattle.plan_filling.specs.Final.{or_unlisted}
-use Rattle.plan_filling.proofs.RowLemmas.{by_same, found_first, found_later}
+use Rattle.plan_table.specs.Rows.{Status, New, Open, Value, Empty, Late, Row, row_at, status_of, known_by}
+use Rattle.plan_table.specs.Final.{or_unlisted}
+use Rattle.plan_table.proofs.RowLemmas.{by_same, found_first, found_later}
 use Rattle.plan_table.specs.declared.line.Line.{Line}
 use Rattle.plan_table.specs.declared.line.Spot.{Spot}
 use Rattle.plan_table.specs.declared.line.Spot.TheVariants as spotted
@@ -35,21 +37,12 @@ use Rattle.plan_table.specs.Laid.{OpensBy, IsOpened}
 use Rattle.plan_table.specs.Whole.{whole_of, scopes_of, rows_in}
 use Rattle.plan_table.specs.Found.{scope_at}
 use Rattle.plan_table.proofs.LaidLemmas.{row_here, length_rows}
-use Rattle.plan_tasks.specs.Start.{start_of, IsStartTable, IsInstance}
+use Rattle.plan_refusals.specs.Start.{start_of, IsStartTable, IsInstance}
 use Rattle.plan_openers.specs.declared.opener.Opener.{Opener}
 use Rattle.plan_openers.specs.Openers.{IsOpener}
 use Rattle.arm_value.specs.Kinds.{is_true}
 
 -- ---- of a scope that is there, its nested deployment
-
-is_bool_true : (o : Option Json) → is_true o ≡ true → o ≡ Some (bool true)
-is_bool_true None e = absurd (true≢false (sym e))
-is_bool_true (Some (bool b)) e = ap (λ c. Some (bool c)) e
-is_bool_true (Some null) e = absurd (true≢false (sym e))
-is_bool_true (Some (int z)) e = absurd (true≢false (sym e))
-is_bool_true (Some (text n)) e = absurd (true≢false (sym e))
-is_bool_true (Some (array js)) e = absurd (true≢false (sym e))
-is_bool_true (Some (object ms)) e = absurd (true≢false (sym e))
 
 -- the name that gives a key
 record HasTitle (place : Place) (k : Kind) (o : Option Json) (key : ResourceId) : Type 0 where
@@ -57,14 +50,11 @@ record HasTitle (place : Place) (k : Kind) (o : Option Json) (key : ResourceId) 
   has : o ≡ Some (text title)
   is : key_at place k.type title ≡ key
 
-some_is : {A : Type 0} (x y : A) → Some x ≡ Some y → x ≡ y
-some_is x y e = cc
-
 title_by : (place : Place) (k : Kind) (o : Option Json) (key : ResourceId)
     → option_and_then (key_by place (Some k)) o ≡ Some key → HasTitle place k o key
 title_by place k None key e = absurd (cc)
 title_by place k (Some (text n)) key e =
-    record { title = n; has = refl; is = some_is (key_at place k.type n) key e }
+    record { title = n; has = refl; is = same_Some (key_at place k.type n) key e }
 title_by place k (Some null) key e = absurd (cc)
 title_by place k (Some (bool b)) key e = absurd (cc)
 title_by place k (Some (int z)) key e = absurd (cc)
@@ -109,7 +99,7 @@ opener_keyed t g x key start o e =
       is_nested = record {
         is_included = record {
           is_declared = kind;
-          has_condition = is_bool_true (known_value (q (included p s))) o.is_included;
+          has_condition = some_true (known_value (q (included p s))) o.is_included;
           has_name = title.has;
         };
         is_deployment = ap is_some o.is_nested;
@@ -119,11 +109,11 @@ opener_keyed t g x key start o e =
 
 -- ---- of a nested deployment that is included, its scope
 
-record HasRow (rows : List Row) (c : Cell) (s : Status) : Type 0 where
-  number : ℕ
-  listed : number < length rows
-  cell : (row_at rows number).cell ≡ c
-  status : (row_at rows number).status ≡ s
+pub record HasRow (rows : List Row) (c : Cell) (s : Status) : Type 0 where
+  pub number : ℕ
+  pub listed : number < length rows
+  pub cell : (row_at rows number).cell ≡ c
+  pub status : (row_at rows number).status ≡ s
 
 row_later : (r : Row) (rows : List Row) (c : Cell) (s : Status) → HasRow rows c s → HasRow (r ∷ rows) c s
 row_later r rows c s h = record {
@@ -133,7 +123,7 @@ row_later r rows c s h = record {
   status = h.status;
 }
 
-row_of_status : (rows : List Row) (c : Cell) (s : Status) → status_of rows c ≡ Some s → HasRow rows c s
+pub row_of_status : (rows : List Row) (c : Cell) (s : Status) → status_of rows c ≡ Some s → HasRow rows c s
 row_of_status [] c s e = absurd (cc)
 row_of_status (r ∷ rs) c s e =
     elim (by_same r.cell c) [
@@ -141,13 +131,13 @@ row_of_status (r ∷ rs) c s e =
         number = 0;
         listed = omega arith;
         cell = at;
-        status = some_is r.status s (sym (found_first r rs c at) ∙ e);
+        status = same_Some r.status s (sym (found_first r rs c at) ∙ e);
       })
       | inr x ↦ row_later r rs c s (row_of_status rs c s (sym (found_later r rs c x) ∙ e))
     ]
 
 by_known : (o : Option Status) (v : Json) → known_value (known_by o) ≡ Some v → o ≡ Some (Value v)
-by_known (Some (Value w)) v e = ap (λ x. Some (Value x)) (some_is w v e)
+by_known (Some (Value w)) v e = ap (λ x. Some (Value x)) (same_Some w v e)
 by_known (Some New) v e = absurd (cc)
 by_known (Some Open) v e = absurd (cc)
 by_known (Some Empty) v e = absurd (cc)
@@ -206,7 +196,7 @@ nested_by_kind : (o : Option Listed) (k : Kind) → option_map kind_of o ≡ Som
     → (n : Nested) × (option_and_then (λ (y : Listed). nested_in y.content) o ≡ Some n)
 nested_by_kind None k e h = absurd (cc)
 nested_by_kind (Some y) k e h =
-    some_of (nested_in y.content) (ap (λ (j : Kind). j.is_deployment) (some_is (kind_of y) k e) ∙ h)
+    some_of (nested_in y.content) (ap (λ (j : Kind). j.is_deployment) (same_Some (kind_of y) k e) ∙ h)
   where
     some_of : (o : Option Nested) → is_some o ≡ true → (n : Nested) × (o ≡ Some n)
     some_of (Some n) e = (n, refl)

@@ -4,6 +4,7 @@ use Rattle.std.proofs.Common.{Option, Some, None}
 use Rattle.std.proofs.Common.{refl, sym, ap, subst, ◌∙◌, arith}
 use Rattle.std.proofs.lemmas.List.{length-map}
 use Rattle.std.specs.Prelude.{slice_get, option_map, option_and_then, if◌then◌else◌}
+use Rattle.std.proofs.lemmas.Option.{same_Some}
 use Rattle.foundation.proofs.Comparisons.{lt_of_true}
 use Rattle.arm_value.specs.Json.{Json}
 use Rattle.reading.specs.Knowledge.{known_value}
@@ -15,10 +16,10 @@ use Rattle.plan_cells.specs.Scopes.{template_at}
 use Rattle.plan_cells.specs.Meaning.{Deployment}
 use Rattle.plan_cells.specs.Children.{Has, roots}
 use Rattle.plan_cells.proofs.ChildLemmas.{child_is, root_is}
-use Rattle.plan_filling.specs.Rows.{Status, Value, Row, row_at, status_of}
-use Rattle.plan_filling.specs.Sound.{Good, IsOpenedBy}
-use Rattle.plan_filling.specs.Final.{or_unlisted}
-use Rattle.plan_filling.proofs.RowLemmas.{status_found}
+use Rattle.plan_table.specs.Rows.{Status, Value, Row, row_at, status_of}
+use Rattle.plan_table.specs.Sound.{Good, IsOpenedBy}
+use Rattle.plan_table.specs.Final.{or_unlisted}
+use Rattle.plan_table.proofs.RowLemmas.{status_found}
 use Rattle.plan_table.specs.declared.frame.Frame.{Frame}
 use Rattle.plan_table.specs.declared.frame.Instance.{Instance}
 use Rattle.plan_table.specs.declared.line.Spot.TheVariants.{Deployments}
@@ -29,8 +30,8 @@ use Rattle.plan_table.specs.Whole.{whole_of, scopes_of, rows_in}
 use Rattle.plan_table.specs.Found.{scope_at}
 use Rattle.plan_table.proofs.FrameLemmas.{frame_is}
 use Rattle.plan_table.proofs.LaidLemmas.{row_here, length_rows}
-use Rattle.plan_tasks.specs.InOrder.{copies_in, is_in}
-use Rattle.plan_tasks.specs.Start.{start_of, IsStartTable, IsInstance}
+use Rattle.plan_refusals.specs.InOrder.{copies_in, is_in}
+use Rattle.plan_refusals.specs.Start.{start_of, IsStartTable, IsInstance}
 use Rattle.plan_openers.specs.Openers.{IsOpener}
 use Rattle.arm_value.specs.Kinds.{is_true}
 
@@ -42,9 +43,6 @@ record IsBy (σ : Cell → Option Status) (c e : Cell) : Type 0 where
   has : σ c ≡ Some (Value value)
   admitted : admits e (Some value) ≡ true
 
-parent_is : (c e : Cell) → Some c ≡ Some e → c ≡ e
-parent_is c e h = cc
-
 -- what has a parent was opened by it
 opened_by : (d : Deployment) (σ : Cell → Option Status) (c e : Cell) (s : Status) → Good d σ → parent e ≡ Some c
     → σ e ≡ Some s → IsBy σ c e
@@ -54,7 +52,7 @@ opened_by d σ c e s good p h = by_there (good.is_there e s h)
     by_there (inl r) = let n = (root_is d e r).0 in let f : None ≡ Some c = sym n ∙ p in absurd (cc)
     by_there (inr o) =
         let child = child_is d o.0 o.1.0 e o.1.1.1 in
-        let same : o.0 ≡ c = parent_is o.0 c (sym child.has_parent ∙ p) in
+        let same : o.0 ≡ c = same_Some o.0 c (sym child.has_parent ∙ p) in
         record { value = o.1.0; has = ap σ (sym same) ∙ o.1.1.0; admitted = child.admitted }
 
 -- ---- by the templates
@@ -68,10 +66,7 @@ nested_by : (u : TemplateTree) (r : ℕ) (v : TemplateTree) (o : Option Nested) 
     → option_map (λ (n : Nested). n.template) o ≡ Some v → HasNested u r v
 nested_by u r v None e h = let f : None ≡ Some v = h in absurd (cc)
 nested_by u r v (Some n) e h =
-    let same : n.template ≡ v = template_is n.template v h in record { nested = n; is = e; template = sym same }
-  where
-    template_is : (a b : TemplateTree) → Some a ≡ Some b → a ≡ b
-    template_is a b e = cc
+    let same : n.template ≡ v = same_Some n.template v h in record { nested = n; is = e; template = sym same }
 
 template_above : (t u v : TemplateTree) (s : Step) (p : Position) → template_at t p ≡ Some u
     → template_at t (s ∷ p) ≡ Some v → HasNested u s.resource v

@@ -1,19 +1,22 @@
 -- Scopes whose tags are shared are those of nested deployments with one key.
-use Rattle.std.proofs.Common.{◌≡◌, ◌⊎◌, inl, inr, ℕ, zero, suc, ◌<◌, Bool, true, false, true≢false, List, [], ◌∷◌}
+use Rattle.std.proofs.Common.{◌≡◌, inl, inr, ℕ, zero, suc, ◌<◌, Bool, true, false, true≢false, List, [], ◌∷◌}
 use Rattle.std.proofs.Common.{◌++◌, ◌+◌, ◌≤◌, map, length, drop, Option, Some, None, refl, sym, ap, ap₂, subst, ◌∙◌}
 use Rattle.std.proofs.Common.{arith, append_assoc}
 use Rattle.std.proofs.lemmas.List.{length-map, map-append}
 use Rattle.std.specs.declared.vec.Vec.{Vec}
 use Rattle.std.specs.declared.alloc.Global.{Global}
-use Rattle.std.specs.Prelude.{slice_get, nat_eq, bytes_eq, option_and_then, MatchOption}
-use Rattle.foundation.proofs.TruthValues.{both, and_true, or_false_twice}
+use Rattle.std.specs.Prelude.{slice_get, bytes_eq, option_and_then, MatchOption}
+use Rattle.std.proofs.lemmas.Option.{same_Some}
+use Rattle.foundation.proofs.Lists.{nothing_left}
+use Rattle.foundation.proofs.Comparisons.{apart}
+use Rattle.foundation.proofs.TruthValues.{or_false_twice}
 use Rattle.foundation.proofs.Words.{eq_word, itself}
 use Rattle.arm_ids.specs.declared.id.ResourceId.{ResourceId}
 use Rattle.reading.specs.Knowledge.{known_value}
 use Rattle.deploy_cells.specs.Cells.{Step, step, Position, name}
 use Rattle.deploy_cells.specs.Same.{same_step}
 use Rattle.deploy_cells.specs.Puts.{Kind, IsNested, key_at}
-use Rattle.deploy_cells.proofs.SameLemmas.{id_is}
+use Rattle.deploy_cells.proofs.SameLemmas.{id_is, step_is, step_same}
 use Rattle.key_tags.specs.KeyCodes.{key_code}
 use Rattle.key_tags.proofs.CodeLemmas.{key_eq}
 use Rattle.tag_needs.specs.Tags.{Tag, tags_of, tags_in, shares, IsShared}
@@ -28,7 +31,7 @@ use Rattle.plan_table.specs.Opened.{Opened, opened_of, opened_at}
 use Rattle.plan_table.specs.Whole.{whole_of, scopes_of}
 use Rattle.plan_table.specs.Found.{scope_at}
 use Rattle.plan_table.proofs.HaltLemmas.{one_scope}
-use Rattle.plan_tasks.specs.Start.{start_of, IsStartTable}
+use Rattle.plan_refusals.specs.Start.{start_of, IsStartTable}
 use Rattle.plan_refusals.specs.Keys.{ShareNestedKey}
 use Rattle.plan_openers.specs.declared.opener.Opener.{Opener}
 use Rattle.plan_openers.specs.Openers.{IsOpener}
@@ -98,13 +101,10 @@ record IsTagged (os : List Opened) (f : Opened → List Tag) (i : ℕ) (ts : Lis
   there : i < length os
   is : ts ≡ f (opened_at os i)
 
-some_is : {A : Type 0} (x y : A) → Some x ≡ Some y → x ≡ y
-some_is x y e = cc
-
 tagged_at : (os : List Opened) (f : Opened → List Tag) (i : ℕ) (ts : List Tag) → slice_get (map f os) i ≡ Some ts
     → IsTagged os f i ts
 tagged_at [] f i ts e = let no : None ≡ Some ts = e in absurd (cc)
-tagged_at (o ∷ os) f zero ts e = record { there = omega arith; is = sym (some_is (f o) ts e) }
+tagged_at (o ∷ os) f zero ts e = record { there = omega arith; is = sym (same_Some (f o) ts e) }
 tagged_at (o ∷ os) f (suc i) ts e =
     let r = tagged_at os f i ts e in record { there = (let l = r.there in omega (arith, l)); is = r.is }
 
@@ -113,17 +113,6 @@ tags_at : (os : List Opened) (f : Opened → List Tag) (i : ℕ) → i < length 
 tags_at [] f i h = absurd (omega (arith, h))
 tags_at (o ∷ os) f zero h = refl
 tags_at (o ∷ os) f (suc i) h = tags_at os f i (omega (arith, h))
-
-nat_is : (a b : ℕ) → nat_eq a b ≡ true → a ≡ b
-nat_is a b e = grind (arith, e)
-
-nat_same : (a : ℕ) → nat_eq a a ≡ true
-nat_same a = grind arith
-
-step_is : (s u : Step) → same_step s u ≡ true → s ≡ u
-step_is s u e =
-    let h = both (nat_eq s.resource u.resource) (nat_eq s.copy u.copy) e in
-    λ i. step (nat_is s.resource u.resource h.0 i) (nat_is s.copy u.copy h.1 i)
 
 module _ (t : Table) (start : IsStartTable t) where
   abbrev d : Deployment
@@ -223,9 +212,6 @@ module _ (t : Table) (start : IsStartTable t) where
     share = or_false_twice (bytes_eq tag tag) ∙ itself tag;
   }
 
-  by_order : (i j : ℕ) → (i ≡ j → ⊥) → (i < j) ⊎ (j < i)
-  by_order i j n = grind (arith, n)
-
   none_same : ((i j : ℕ) → IsShared (map tags os) i j → ⊥) → (p : Position) (s u : Step)
       → ShareNestedKey d (start_world q) p s u → ⊥
   none_same none p s u h =
@@ -241,15 +227,11 @@ module _ (t : Table) (start : IsStartTable t) where
       nested_tags p u h.other_kind h.other_title h.other_is_nested y
       ∙ ap (λ k. ((scope_at t y.number).around ∷ key_code k) ∷ []) (sym h.have_one)
       ∙ ap (λ n. (n ∷ key_code (key_at d.place h.kind.type h.title)) ∷ []) one in
-      elim (by_order x.number y.number (numbers_differ x y)) [
+      elim (apart x.number y.number (numbers_differ x y)) [
         | inl l ↦ none x.number y.number (shared_at x.number y.number tag x.there y.there l first second)
         | inr l ↦ none y.number x.number (shared_at y.number x.number tag y.there x.there l second first)
       ]
     where
-      step_same : (z : Step) → same_step z z ≡ true
-      step_same z =
-          and_true (nat_eq z.resource z.resource) (nat_eq z.copy z.copy) (nat_same z.resource) (nat_same z.copy)
-
       head_is : (a b : Step) (z : Position) → a ∷ z ≡ b ∷ z → a ≡ b
       head_is a b z e = cc
 
@@ -308,12 +290,6 @@ module _ (t : Table) (start : IsStartTable t) where
       (let z : i + 1 ≡ suc i = omega arith in z)
       ∙ ap (λ us. tags_in all ++ map tags us) (sym (drop_here os i (omega (arith, h, n))))
       ∙ c
-
-  nothing_left : (us : List Opened) (i : ℕ) → length us ≤ i → drop i us ≡ []
-  nothing_left [] zero h = refl
-  nothing_left [] (suc i) h = refl
-  nothing_left (u ∷ us) zero h = absurd (omega (arith, h))
-  nothing_left (u ∷ us) (suc i) h = nothing_left us i (omega (arith, h))
 
   nil_right : (xs : List (List Tag)) → xs ++ [] ≡ xs
   nil_right [] = refl

@@ -4,8 +4,8 @@ use Rattle.deploy_cells.specs.Cells.{step}
 use Rattle.plan_cells.specs.Resources.{Nested, nested_in}
 use Rattle.plan_table.specs.declared.table.Table.{Table}
 use Rattle.plan_table.specs.Found.{scope_at}
-use Rattle.plan_tasks.specs.InOrder.{is_in}
-use Rattle.plan_tasks.specs.Start.{start_of, IsInstance, IsScopeOf}
+use Rattle.plan_refusals.specs.InOrder.{is_in}
+use Rattle.plan_refusals.specs.Start.{start_of, IsInstance, IsScopeOf}
 use Rattle.plan_openers.specs.declared.opener.Opener.{Opener}
 
 -- the instance is a nested deployment that is included, and the scope number g is the one that it opened

@@ -12,7 +12,7 @@ use Rattle.plan_table.specs.declared.table.Table.{Table}
 use Rattle.plan_table.specs.Opened.{Opened}
 use Rattle.plan_table.specs.Whole.{whole_of}
 use Rattle.plan_table.specs.Found.{scope_at}
-use Rattle.plan_tasks.specs.Start.{start_of}
+use Rattle.plan_refusals.specs.Start.{start_of}
 use Rattle.plan_refusals.specs.Keys.{ShareNestedKey}
 
 -- the number of the scope around, and the key

@@ -1,7 +1,7 @@
 // Which instance opened a scope.
 ghost use Rattle.std.specs.Prelude.{◌≡◌, ◌<◌, [], length, MatchOption};
 ghost use Rattle.plan_table.specs.Found.{scope_at};
-ghost use Rattle.plan_tasks.specs.Start.{IsStartTable};
+ghost use Rattle.plan_refusals.specs.Start.{IsStartTable};
 ghost use Rattle.plan_openers.specs.Openers.{IsOpener};
 
 use plan_table::table::Table;

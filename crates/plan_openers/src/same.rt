@@ -7,7 +7,7 @@ ghost use Rattle.plan_cells.specs.Start.{start_world};
 ghost use Rattle.plan_cells.specs.Reads.{key_in};
 ghost use Rattle.plan_table.specs.Whole.{whole_of, scopes_of};
 ghost use Rattle.plan_table.specs.Found.{scope_at};
-ghost use Rattle.plan_tasks.specs.Start.{start_of, IsStartTable, IsInstance};
+ghost use Rattle.plan_refusals.specs.Start.{start_of, IsStartTable, IsInstance};
 ghost use Rattle.plan_refusals.specs.Keys.{ShareNestedKey};
 ghost use Rattle.plan_openers.specs.SameNested.{keyed_tags, scope_tags, AreSameNested};
 
@@ -15,8 +15,8 @@ use crate::opener::{Opener, opener_of};
 use arm_ids::Key;
 use arm_value::OutOfMemory;
 use key_tags::key_tag;
+use plan_refusals::key_at;
 use plan_table::table::Table;
-use plan_tasks::key_at;
 use std::alloc::Global;
 use tag_needs::find_shared;
 

@@ -8,11 +8,11 @@ use Rattle.template_parts.specs.declared.parameter.Parameter.{Parameter}
 use Rattle.template_parts.specs.declared.variable.Variable.{Variable}
 use Rattle.template_tree.specs.Tree.{TemplateTree}
 use Rattle.deploy_cells.specs.Cells.{Position}
-use Rattle.plan_cells.specs.Resources.{header_in}
-use Rattle.plan_cells.specs.Scopes.{template_at}
-use Rattle.plan_cells.specs.Sites.{parameter_named, variable_named, output_named}
-use Rattle.plan_cells.specs.Children.{HasOwnNames, NamesDiffer, parameter_names, variable_names, output_names}
-use Rattle.plan_cells.proofs.ApartLemmas.{names_at}
+use Rattle.plan_sight.specs.Resources.{header_in}
+use Rattle.plan_sight.specs.Scopes.{template_at}
+use Rattle.plan_sight.specs.Sites.{parameter_named, variable_named, output_named}
+use Rattle.plan_sight.specs.Children.{HasOwnNames, NamesDiffer, parameter_names, variable_names, output_names}
+use Rattle.plan_sight.proofs.ApartLemmas.{names_at}
 use Rattle.plan_table.specs.declared.frame.Frame.{Frame}
 use Rattle.plan_table.specs.declared.line.Spot.TheVariants as spot
 use Rattle.plan_table.specs.declared.table.Table.{Table}

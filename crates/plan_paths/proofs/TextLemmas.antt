@@ -3,11 +3,11 @@ use Rattle.std.proofs.Common.{◌≡◌, ℕ, zero, suc, ◌<◌, List, [], ◌�
 use Rattle.std.proofs.Common.{refl, sym, ap, ap₂}
 use Rattle.std.proofs.Common.{subst, ◌∙◌, arith}
 use Rattle.std.specs.Prelude.{slice_get}
-use Rattle.std.proofs.lemmas.List.{length-map}
+use Rattle.std.proofs.lemmas.List.{length-map, append-nil}
 use Rattle.template_tree.specs.Tree.{TemplateTree}
 use Rattle.template_tree.specs.View.{template_tree}
 use Rattle.deploy_cells.specs.Cells.{Step, Position}
-use Rattle.plan_cells.specs.Resources.{resources_in}
+use Rattle.plan_sight.specs.Resources.{resources_in}
 use Rattle.plan_table.specs.declared.frame.Frame.{Frame}
 use Rattle.plan_table.specs.declared.frame.Instance.{Instance}
 use Rattle.plan_table.specs.declared.listed.Listed as code
@@ -50,18 +50,13 @@ instance_is w t f s fr laid h e =
     (ap (λ (o : Opened). Some o.template) (sym (frame_is t.frames.items f fr h e))
     ∙ sym (laid.kept f (scopes_there t f h)).template)
 
--- the path of an instance has no index
-nil_right : (xs : List ℕ) → xs ++ [] ≡ xs
-nil_right [] = refl
-nil_right (x ∷ xs) = ap (λ ys. x ∷ ys) (nil_right xs)
-
 pub path_made : (t : Table) (f : ℕ) (s : Step) (fr : Frame) (scope resource path : List ℕ) → IsLaid t
     → f < length t.frames.items → fr ≡ get_or t.frames.items f fr
     → scope ≡ scope_text a_path (whole_of t).template (scope_at t f).position
     → resource ≡ path_at (template_tree fr.template.now) s.resource → path ≡ scope ++ resource
     → path ≡ instance_text a_path (whole_of t).template (scope_at t f).position s
 path_made t f s fr scope resource path laid h e a b c =
-    c ∙ ap₂ (λ x y. x ++ y) a (b ∙ sym (nil_right (path_at (template_tree fr.template.now) s.resource)))
+    c ∙ ap₂ (λ x y. x ++ y) a (b ∙ sym (append-nil (path_at (template_tree fr.template.now) s.resource)))
     ∙ instance_is a_path t f s fr laid h e
 
 -- ---- what the code reads

@@ -2,7 +2,8 @@
 use Rattle.std.proofs.Common.{◌≡◌, ℕ, zero, suc, ◌+◌, ◌<◌, ◌≤◌, List, [], ◌∷◌, ◌++◌, map, length, drop, get_or}
 use Rattle.std.proofs.Common.{refl, sym, ap}
 use Rattle.std.proofs.Common.{◌∙◌, arith, append_assoc}
-use Rattle.foundation.proofs.Lists.{next_item}
+use Rattle.std.proofs.lemmas.List.{append-nil}
+use Rattle.foundation.proofs.Lists.{next_item, nothing_left}
 use Rattle.arm_value.specs.Pointer.{step}
 use Rattle.template_tree.specs.Tree.{trees, ResourceTree}
 use Rattle.template_tree.specs.View.{resource_tree}
@@ -28,20 +29,10 @@ paths_more first now new path rs i r h e n left =
     ∙ ap (λ ys. now ++ trees_paths path i (trees (map resource_tree ys))) (sym (next_item rs i r h e))
     ∙ left
 
-nil_right : {A : Type 0} (xs : List A) → xs ++ [] ≡ xs
-nil_right [] = refl
-nil_right (x ∷ xs) = ap (λ ys. x ∷ ys) (nil_right xs)
-
-nothing_left : {A : Type 0} (xs : List A) (i : ℕ) → length xs ≤ i → drop i xs ≡ []
-nothing_left [] zero h = refl
-nothing_left [] (suc i) h = refl
-nothing_left (x ∷ xs) zero h = absurd (omega (arith, h))
-nothing_left (x ∷ xs) (suc i) h = nothing_left xs i (omega (arith, h))
-
 pub paths_end : (first now : List (List ℕ)) (path : List ℕ) (rs : List Resource) (ts : List ResourceTree) (i : ℕ)
     → length rs ≤ i → map resource_tree rs ≡ ts → PathsLeft first now path rs i
     → now ≡ first ++ trees_paths path 0 (trees ts)
 paths_end first now path rs ts i h e left =
-    sym (nil_right now)
+    sym (append-nil now)
     ∙ ap (λ ys. now ++ trees_paths path i (trees (map resource_tree ys))) (sym (nothing_left rs i h))
     ∙ left ∙ ap (λ ys. first ++ trees_paths path 0 (trees ys)) e

@@ -5,8 +5,8 @@ use Rattle.arm_value.specs.Pointer.{step as pointed}
 use Rattle.template_tree.specs.Tree.{TemplateTree}
 use Rattle.deploy_cells.specs.Cells.{Step, step, Position, Cell, parameter, variable, offered, output, count, included}
 use Rattle.deploy_cells.specs.Cells.{name, deployments, state}
-use Rattle.plan_cells.specs.Scopes.{template_at}
-use Rattle.plan_cells.specs.Sites.{parameter_named, variable_named, output_named}
+use Rattle.plan_sight.specs.Scopes.{template_at}
+use Rattle.plan_sight.specs.Sites.{parameter_named, variable_named, output_named}
 use Rattle.plan_paths.specs.Resources.{below}
 use Rattle.plan_paths.specs.Texts.{a_path, scope_text, instance_text}
 

@@ -4,7 +4,7 @@ use Rattle.std.specs.Fmt.{decimal}
 use Rattle.arm_value.specs.Pointer.{step, token}
 use Rattle.template_parts.specs.declared.declaration.Declaration.{Declaration}
 use Rattle.template_tree.specs.Tree.{TemplateTree, ResourceTree, resource, Trees, no_resources, a_resource}
-use Rattle.plan_cells.specs.Resources.{trees_in}
+use Rattle.plan_sight.specs.Resources.{trees_in}
 
 -- the member of a name, below a path
 abbrev pub below : List ℕ → List ℕ → List ℕ

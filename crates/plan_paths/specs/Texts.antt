@@ -4,8 +4,8 @@ use Rattle.std.specs.Fmt.{decimal}
 use Rattle.template_parts.specs.declared.looping.ResourceCopy.{ResourceCopy}
 use Rattle.template_tree.specs.Tree.{TemplateTree}
 use Rattle.deploy_cells.specs.Cells.{Step, Position}
-use Rattle.plan_cells.specs.Resources.{Listed, resources_in}
-use Rattle.plan_cells.specs.Scopes.{template_at}
+use Rattle.plan_sight.specs.Resources.{Listed, resources_in}
+use Rattle.plan_sight.specs.Scopes.{template_at}
 use Rattle.plan_paths.specs.Resources.{below, path_at}
 
 -- how an instance is written: by the path of its resource, or with its index after that

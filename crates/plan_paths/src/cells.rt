@@ -2,9 +2,8 @@
 ghost use Rattle.std.specs.Prelude.{◌≡◌, ◌<◌, codes, length, IfOk, nat_lt, true};
 ghost use Rattle.std.specs.List.{list_all};
 ghost use Rattle.deploy_cells.specs.Cells.{Step, step};
-ghost use Rattle.plan_cells.specs.Children.{NamesDiffer};
+ghost use Rattle.plan_sight.specs.Children.{NamesDiffer, output_names};
 ghost use Rattle.plan_table.specs.declared.line.Spot.TheVariants as spot;
-ghost use Rattle.plan_cells.specs.Children.{output_names};
 ghost use Rattle.plan_table.specs.Lines.{cell_of, line_at, name_at, IsPlaced};
 ghost use Rattle.plan_table.specs.Opened.{step_of};
 ghost use Rattle.plan_table.specs.Whole.{whole_of, scopes_of, IsLaid};

@@ -11,7 +11,7 @@ use Rattle.reading.specs.Reading.{done, read, continued}
 use Rattle.reading.specs.Knowledge.{value, finished}
 use Rattle.deploy_cells.specs.Cells.{Step, step, Position, name, count}
 use Rattle.deploy_cells.specs.Guarded.{Reads}
-use Rattle.plan_cells.specs.Scopes.{owner, own_place, with_deployment}
+use Rattle.plan_sight.specs.Scopes.{owner, own_place, with_deployment}
 use Rattle.plan_table.specs.declared.table.Table.{Table}
 use Rattle.plan_table.specs.declared.frame.Frame.{Frame}
 use Rattle.plan_table.specs.declared.frame.Instance.{Instance}

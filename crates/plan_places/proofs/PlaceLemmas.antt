@@ -7,13 +7,13 @@ use Rattle.foundation.proofs.Comparisons.{lt_of_true}
 use Rattle.arm_value.specs.Json.{Json}
 use Rattle.template_tree.specs.Tree.{TemplateTree}
 use Rattle.deploy_cells.specs.Cells.{Step, Position, Cell, parent, admits, count, included, name, deployments, copies}
-use Rattle.plan_cells.specs.Resources.{Nested, nested_at}
-use Rattle.plan_cells.specs.Scopes.{template_at}
-use Rattle.plan_cells.specs.Children.{Has, roots}
-use Rattle.plan_cells.proofs.ChildLemmas.{root_is, child_is}
-use Rattle.plan_filling.specs.Rows as rows
-use Rattle.plan_filling.specs.Rows.{Status, status_of, table, known_by}
-use Rattle.plan_filling.specs.Sound.{IsOpenedBy}
+use Rattle.plan_sight.specs.Resources.{Nested, nested_at}
+use Rattle.plan_sight.specs.Scopes.{template_at}
+use Rattle.plan_sight.specs.Children.{Has, roots}
+use Rattle.plan_sight.proofs.ChildLemmas.{root_is, child_is}
+use Rattle.plan_table.specs.Rows as rows
+use Rattle.plan_table.specs.Rows.{Status, status_of, table, known_by}
+use Rattle.plan_table.specs.Sound.{IsOpenedBy}
 use Rattle.plan_table.specs.declared.table.Table.{Table}
 use Rattle.plan_table.specs.declared.line.Spot.TheVariants.{Deployments}
 use Rattle.plan_table.specs.Opened.{IsKept, IsAround}

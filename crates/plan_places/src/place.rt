@@ -3,7 +3,7 @@ ghost use Rattle.std.specs.Prelude.{◌≡◌, ◌<◌, [], length, get_or, IfOk
 ghost use Rattle.arm_value.specs.View.{json};
 ghost use Rattle.reading.specs.Reading.{done, read, continued};
 ghost use Rattle.deploy_cells.specs.Cells.{name};
-ghost use Rattle.plan_cells.specs.Scopes.{owner, own_place, with_deployment};
+ghost use Rattle.plan_sight.specs.Scopes.{owner, own_place, with_deployment};
 ghost use Rattle.plan_table.specs.Opened.{step_of};
 ghost use Rattle.plan_table.specs.Whole.{whole_of};
 ghost use Rattle.plan_table.specs.Found.{scope_at};

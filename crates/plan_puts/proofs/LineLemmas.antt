@@ -4,6 +4,8 @@ use Rattle.std.proofs.Common.{drop, Option, Some, None, refl, sym, ap, subst, �
 use Rattle.std.proofs.lemmas.List.{length-map, map-append}
 use Rattle.std.specs.declared.vec.Vec.{Vec}
 use Rattle.std.specs.declared.alloc.Global.{Global}
+use Rattle.std.proofs.lemmas.Option.{same_Some}
+use Rattle.foundation.proofs.Lists.{nothing_left}
 use Rattle.foundation.proofs.Comparisons.{lt_of_true}
 use Rattle.reading.specs.Knowledge.{known_value}
 use Rattle.deploy_cells.specs.Cells.{Step, step, Position, Cell, count, included, copies}
@@ -28,9 +30,6 @@ use Rattle.plan_tasks.specs.InOrder.{copies_in}
 use Rattle.plan_tasks.specs.Start.{start_of, IsStartTable, IsInstance}
 use Rattle.plan_puts.specs.PutTags.{cell_tags, row_tags}
 
-same_some : {A : Type 0} (x y : A) → Some x ≡ Some y → x ≡ y
-same_some x y e = cc
-
 module _ (t : Table) (start : IsStartTable t) where
   abbrev d : Deployment
   d = whole_of t
@@ -50,7 +49,7 @@ module _ (t : Table) (start : IsStartTable t) where
   of_count p s (inl r) = let no : Some (count p s.resource) ≡ None = (root_is d (included p s) r).0 in absurd (cc)
   of_count p s (inr o) =
       let i = child_is d o.0 o.1.0 (included p s) o.1.1.1 in
-      let same : count p s.resource ≡ o.0 = same_some (count p s.resource) o.0 i.has_parent in
+      let same : count p s.resource ≡ o.0 = same_Some (count p s.resource) o.0 i.has_parent in
       let has : σ (count p s.resource) ≡ Some (Value o.1.0) = ap σ same ∙ o.1.1.0 in
       let known : q (count p s.resource) ≡ or_unlisted σ (count p s.resource) (Some (Value o.1.0)) =
       ap (or_unlisted σ (count p s.resource)) has in
@@ -111,12 +110,6 @@ module _ (t : Table) where
       ∙ ap (λ (j : ℕ). tags_in all ++ (tags (row_at (rows_in t) i) ∷ map tags (drop j (rows_in t))))
       (let z : i + 1 ≡ suc i = omega arith in z)
       ∙ ap (λ rs. tags_in all ++ map tags rs) (sym (row_drop (rows_in t) i (omega (arith, h, m)))) ∙ c
-
-  nothing_left : (rs : List Row) (i : ℕ) → length rs ≤ i → drop i rs ≡ []
-  nothing_left [] zero h = refl
-  nothing_left [] (suc i) h = refl
-  nothing_left (r ∷ rs) zero h = absurd (omega (arith, h))
-  nothing_left (r ∷ rs) (suc i) h = nothing_left rs i (omega (arith, h))
 
   nil_right : (xs : List (List Tag)) → xs ++ [] ≡ xs
   nil_right [] = refl

@@ -3,6 +3,9 @@ use Rattle.std.proofs.Common.{◌≡◌, ◌⊎◌, inl, inr, ℕ, zero, suc, �
 use Rattle.std.proofs.Common.{List, [], ◌∷◌, map, length}
 use Rattle.std.proofs.Common.{Option, Some, None, refl, sym, ap, ap₂, ◌∙◌, arith}
 use Rattle.std.specs.Prelude.{slice_get, bytes_eq, option_and_then, if◌then◌else◌}
+use Rattle.std.proofs.lemmas.Option.{same_Some}
+use Rattle.plan_cells.proofs.TaskLemmas.{some_true}
+use Rattle.foundation.proofs.Comparisons.{apart}
 use Rattle.foundation.proofs.TruthValues.{or_false_twice}
 use Rattle.foundation.proofs.Words.{eq_word, itself}
 use Rattle.arm_value.specs.Json.{Json, null, bool, int, text, array, object}
@@ -32,9 +35,6 @@ use Rattle.plan_filling.proofs.RowLemmas.{by_same, found_later, status_found}
 use Rattle.plan_tasks.specs.InOrder.{is_in}
 use Rattle.plan_refusals.specs.Keys.{ShareKey}
 use Rattle.plan_puts.specs.PutTags.{key_tags, unless_nested, cell_tags, row_tags}
-
-same_some : {A : Type 0} (x y : A) → Some x ≡ Some y → x ≡ y
-same_some x y e = cc
 
 -- ---- an instance that is put, with its key
 
@@ -150,15 +150,6 @@ module _ (d : Deployment) (q : knowing.Table) where
 
   -- ---- the put of an instance
 
-  is_bool_true : (o : Option Json) → is_true o ≡ true → o ≡ Some (bool true)
-  is_bool_true None e = absurd (true≢false (sym e))
-  is_bool_true (Some (bool b)) e = ap (λ c. Some (bool c)) e
-  is_bool_true (Some null) e = absurd (true≢false (sym e))
-  is_bool_true (Some (int z)) e = absurd (true≢false (sym e))
-  is_bool_true (Some (text n)) e = absurd (true≢false (sym e))
-  is_bool_true (Some (array js)) e = absurd (true≢false (sym e))
-  is_bool_true (Some (object ms)) e = absurd (true≢false (sym e))
-
   record HasTitle (place : Place) (k : Kind) (o : Option Json) (key : ResourceId) : Type 0 where
     title : List ℕ
     has : o ≡ Some (text title)
@@ -168,7 +159,7 @@ module _ (d : Deployment) (q : knowing.Table) where
       → option_and_then (key_by place (Some k)) o ≡ Some key → HasTitle place k o key
   title_by place k None key e = absurd (cc)
   title_by place k (Some (text n)) key e =
-      record { title = n; has = refl; is = same_some (key_at place k.type n) key e }
+      record { title = n; has = refl; is = same_Some (key_at place k.type n) key e }
   title_by place k (Some null) key e = absurd (cc)
   title_by place k (Some (bool b)) key e = absurd (cc)
   title_by place k (Some (int z)) key e = absurd (cc)
@@ -192,7 +183,7 @@ module _ (d : Deployment) (q : knowing.Table) where
         is_put = record {
           is_included = record {
             is_declared = x.is_kind;
-            has_condition = is_bool_true (known_value (q (included x.position x.instance))) x.included;
+            has_condition = some_true (known_value (q (included x.position x.instance))) x.included;
             has_name = t.has;
           };
           is_resource = x.is_resource;
@@ -210,7 +201,7 @@ module _ (d : Deployment) (q : knowing.Table) where
       → IsTagged rows i ts
   tagged_at [] i ts e = let no : None ≡ Some ts = e in absurd (cc)
   tagged_at (r ∷ rows) zero ts e =
-      record { there = omega arith; is = sym (same_some (row_tags d q r) ts e) }
+      record { there = omega arith; is = sym (same_Some (row_tags d q r) ts e) }
   tagged_at (r ∷ rows) (suc i) ts e =
       let x = tagged_at rows i ts e in record { there = (let l = x.there in omega (arith, l)); is = x.is }
 
@@ -305,7 +296,7 @@ row_of_status (r ∷ rs) c s e =
     ]
 
 by_known : (o : Option Status) (v : Json) → known_value (known_by o) ≡ Some v → o ≡ Some (Value v)
-by_known (Some (Value w)) v e = ap (λ x. Some (Value x)) (same_some w v e)
+by_known (Some (Value w)) v e = ap (λ x. Some (Value x)) (same_Some w v e)
 by_known (Some New) v e = absurd (cc)
 by_known (Some Open) v e = absurd (cc)
 by_known (Some Empty) v e = absurd (cc)
@@ -351,9 +342,6 @@ module _ (d : Deployment) (rows : List Row) (a : AreDistinct rows) where
     share = or_false_twice (bytes_eq tag tag) ∙ itself tag;
   }
 
-  by_order : (i j : ℕ) → (i ≡ j → ⊥) → (i < j) ⊎ (j < i)
-  by_order i j n = grind (arith, n)
-
   pub none_same : ((i j : ℕ) → IsShared (map (row_tags d q) rows) i j → ⊥) → (p : Position) (s : Step) (r : Position)
       (u : Step) → ShareKey d (start_world q) p s r u → ⊥
   none_same none p s r u h =
@@ -365,7 +353,7 @@ module _ (d : Deployment) (rows : List Row) (a : AreDistinct rows) where
       let second : row_tags d q (row_at rows y.number) ≡ tag ∷ [] =
       ap (cell_tags d q) y.cell ∙ put_tags r u h.other_kind h.other_title h.other_is_put
       ∙ ap (λ k. key_code k ∷ []) (sym h.have_one) in
-      elim (by_order x.number y.number (numbers_differ x y)) [
+      elim (apart x.number y.number (numbers_differ x y)) [
         | inl l ↦ none x.number y.number (shared_at x.number y.number tag x.listed y.listed l first second)
         | inr l ↦ none y.number x.number (shared_at y.number x.number tag y.listed x.listed l second first)
       ]

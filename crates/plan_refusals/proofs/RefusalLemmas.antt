@@ -1,14 +1,14 @@
 -- Rows without a value, and keys that differ.
 use Rattle.std.proofs.Common.{◌≡◌, inl, inr, ℕ, ◌<◌, Bool, true, false, true≢false, List, [], ◌∷◌, length, Some}
 use Rattle.std.proofs.Common.{refl, sym, ap, subst, ◌∙◌}
-use Rattle.std.specs.Prelude.{not, ◌||◌, ◌&&◌}
+use Rattle.std.specs.Prelude.{not, ◌||◌}
 use Rattle.deploy_cells.specs.Cells.{Step, Position, Cell, parameter, variable, offered, output, count, included, name}
 use Rattle.deploy_cells.specs.Cells.{deployments, state, World}
 use Rattle.deploy_cells.specs.Puts.{ResourcesDiffer, DeploymentsDiffer}
 use Rattle.deploy_cells.specs.Same.{same_instance, same_step}
-use Rattle.deploy_cells.proofs.SameLemmas.{cell_is}
-use Rattle.plan_cells.specs.Meaning.{Deployment}
-use Rattle.plan_cells.specs.Desired.{kinds}
+use Rattle.deploy_cells.proofs.SameLemmas.{cell_is, step_is}
+use Rattle.plan_filling.specs.Meaning.{Deployment}
+use Rattle.plan_filling.specs.Desired.{kinds}
 use Rattle.plan_filling.specs.Rows.{Status, New, Open, Value, Empty, Late, Row, row_at, status_of, IsFinished}
 use Rattle.plan_filling.specs.Steps.{Filled}
 use Rattle.plan_filling.proofs.RowLemmas.{status_found}
@@ -71,15 +71,6 @@ instances_are p s q t e =
     let same : included p s ≡ included q t = cell_is (included p s) (included q t) e in
     ap (λ (c : Cell). step_in c ∷ position_in c) same
 
-steps_are : (s t : Step) → same_step s t ≡ true → s ≡ t
-steps_are s t e =
-    let same : included [] s ≡ included [] t = cell_is (included [] s) (included [] t) (and_true (same_step s t) ∙ e) in
-    ap step_in same
-  where
-    and_true : (b : Bool) → (b && true) ≡ b
-    and_true true = refl
-    and_true false = refl
-
 pub resources_differ : (d : Deployment) (w : World)
     → ((p : Position) (s : Step) (q : Position) (t : Step) → ShareKey d w p s q t → ⊥)
     → ResourcesDiffer d.place (kinds d) w
@@ -104,7 +95,7 @@ pub deployments_differ : (d : Deployment) (w : World)
 deployments_differ d w none p s t k l m n a b e = by_test (same_step s t) refl
   where
     by_test : (c : Bool) → same_step s t ≡ c → s ≡ t
-    by_test true g = steps_are s t g
+    by_test true g = step_is s t g
     by_test false g =
         absurd (none p s t (record {
           kind = k;

@@ -3,8 +3,8 @@ use Rattle.std.specs.Prelude.{◌≡◌, ℕ, false, List}
 use Rattle.deploy_cells.specs.Cells.{Step, Position, World}
 use Rattle.deploy_cells.specs.Puts.{Kind, IsPut, IsNested, key_at}
 use Rattle.deploy_cells.specs.Same.{same_instance, same_step}
-use Rattle.plan_cells.specs.Meaning.{Deployment}
-use Rattle.plan_cells.specs.Desired.{kinds}
+use Rattle.plan_filling.specs.Meaning.{Deployment}
+use Rattle.plan_filling.specs.Desired.{kinds}
 
 -- two instances that are put have one key
 pub record ShareKey (d : Deployment) (w : World) (p : Position) (s : Step) (q : Position) (t : Step) : Type 0 where

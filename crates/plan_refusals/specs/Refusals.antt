@@ -8,9 +8,9 @@ use Rattle.template_parameters.specs.Rule.{breach}
 use Rattle.template_parameters.specs.declared.rule.Breach.{Breach}
 use Rattle.deploy_cells.specs.Cells.{Position, Cell, parameter, variable, offered, output, count, included, name}
 use Rattle.deploy_cells.specs.Guarded.{Reads}
-use Rattle.plan_cells.specs.Scopes.{template_at}
-use Rattle.plan_cells.specs.Sites.{parameter_named}
-use Rattle.plan_cells.specs.Meaning.{Deployment, meaning, raw}
+use Rattle.plan_filling.specs.Scopes.{template_at}
+use Rattle.plan_filling.specs.Sites.{parameter_named}
+use Rattle.plan_filling.specs.Meaning.{Deployment, meaning, raw}
 use Rattle.plan_filling.specs.Rows.{Row, Empty, status_of, table}
 use Rattle.plan_filling.specs.Sound.{IsLate}
 use Rattle.plan_tasks.specs.Answered.{is_asked}

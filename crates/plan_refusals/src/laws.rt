@@ -2,8 +2,8 @@
 ghost use Rattle.std.specs.Prelude.{◌≡◌, ◌<◌, ℕ, false, List, length};
 ghost use Rattle.deploy_cells.specs.Cells.{Step, Position, World};
 ghost use Rattle.deploy_cells.specs.Puts.{ResourcesDiffer, DeploymentsDiffer};
-ghost use Rattle.plan_cells.specs.Meaning.{Deployment};
-ghost use Rattle.plan_cells.specs.Desired.{kinds};
+ghost use Rattle.plan_filling.specs.Meaning.{Deployment};
+ghost use Rattle.plan_filling.specs.Desired.{kinds};
 ghost use Rattle.plan_filling.specs.Rows.{Row, row_at};
 ghost use Rattle.plan_filling.specs.Steps.{Filled};
 ghost use Rattle.plan_tasks.specs.Answered.{is_answered};

@@ -6,3 +6,5 @@
 #![tactic(auto)]
 
 pub mod laws;
+
+pub use plan_tasks::key_at;

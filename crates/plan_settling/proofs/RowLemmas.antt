@@ -1,8 +1,9 @@
 -- Rows of a filled sheet for which there is no plan, by their lines.
-use Rattle.std.proofs.Common.{◌≡◌, ◌⊎◌, inl, inr, ℕ, zero, suc, ◌+◌, ◌<◌, ◌≤◌, Bool, true, false, true≢false}
+use Rattle.std.proofs.Common.{◌≡◌, inl, inr, ℕ, zero, suc, ◌+◌, ◌<◌, ◌≤◌, Bool, true, false, true≢false}
 use Rattle.std.proofs.Common.{List, [], ◌∷◌, length}
 use Rattle.std.proofs.Common.{get_or, refl, sym, ap, ◌∙◌, arith}
 use Rattle.std.specs.Prelude.{not, ◌||◌}
+use Rattle.foundation.proofs.Comparisons.{is_or_lt}
 use Rattle.deploy_cells.specs.Cells.{Cell, parameter, variable, offered, output}
 use Rattle.deploy_cells.specs.Cells.{count, included, name, deployments, state}
 use Rattle.plan_cells.specs.Meaning.{Deployment}
@@ -41,12 +42,9 @@ module _ (t : Table) where
       ap is_refused (row_here (scopes_of t) t.lines.items i h)
       ∙ ap (λ (x : Line). is_refused (row_of (scopes_of t) x)) (line_here t.lines.items i l h e) ∙ sym g
 
-  before_or_here : (j i : ℕ) → j < i + 1 → (j ≡ i) ⊎ (j < i)
-  before_or_here j i h = grind (arith, h)
-
   pub settled_more : (i : ℕ) → AreSettledTo t i → is_refused (row_at (rows_in t) i) ≡ false → AreSettledTo t (i + 1)
   settled_more i s e j h =
-      elim (before_or_here j i h) [
+      elim (is_or_lt j i h) [
         | inl x ↦ ap (λ (k : ℕ). is_refused (row_at (rows_in t) k)) x ∙ e
         | inr l ↦ s j l
       ]

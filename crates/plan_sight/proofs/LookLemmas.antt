@@ -8,15 +8,14 @@ use Rattle.arm_value.specs.Look.{fold}
 use Rattle.arm_value.specs.View.{json}
 use Rattle.arm_value.specs.declared.value.Value.{Value}
 use Rattle.arm_ids.specs.declared.id.Place.{Place}
-use Rattle.arm_env.specs.Look as look
-use Rattle.arm_env.specs.Look.{Fact, a_value}
+use Rattle.plan_table.specs.Look as look
+use Rattle.plan_table.specs.Look.{Fact, a_value}
 use Rattle.reading.specs.Reading.{pure, read}
 use Rattle.reading.specs.Knowledge.{Told, value, no_value, waits, told, by_entry, finished}
 use Rattle.template_tree.specs.Tree.{TemplateTree}
-use Rattle.deploy_cells.specs.Cells.{Step, Position, Cell, parameter, variable}
+use Rattle.plan_cells.specs.Cells.{Step, Position, Cell, parameter, variable}
 use Rattle.plan_cells.specs.Scopes.{template_at, owner, is_outer, nested_of}
-use Rattle.plan_cells.specs.Sites.{Site, value_of, declared_value, declares, looked_up, first_with, parameter_named}
-use Rattle.plan_cells.specs.Sites.{variable_named}
+use Rattle.plan_cells.specs.Sites.{Site, value_of, declared_value, declares, looked_up, first_with, parameter_named, variable_named}
 use Rattle.plan_cells.specs.Resources.{header_in}
 use Rattle.plan_cells.specs.Meaning.{Deployment, is_own}
 use Rattle.plan_cells.specs.Children.{Has}

@@ -7,12 +7,12 @@ use Rattle.std.proofs.lemmas.Slice.Eq.{bytes_eq-Decides}
 use Rattle.arm_value.specs.Json.{Json, null, bool, int, text, array, object}
 use Rattle.arm_value.specs.Look.{fold}
 use Rattle.arm_ids.specs.declared.id.Place.{Place}
-use Rattle.arm_eval.specs.Titles as titles
-use Rattle.template_parameters.specs.Rule.{breach, is_of}
+use Rattle.plan_cells.specs.Titles as titles
+use Rattle.plan_cells.specs.Rule.{breach, is_of}
 use Rattle.template_parts.specs.declared.output.Output.{Output}
 use Rattle.template_parts.specs.declared.parameter.Parameter.{Parameter}
 use Rattle.template_tree.specs.Tree.{TemplateTree, template}
-use Rattle.deploy_cells.specs.Puts.{key_formed}
+use Rattle.plan_cells.specs.Puts.{key_formed}
 use Rattle.plan_cells.specs.Resources.{Listed, header_in, resource_at}
 use Rattle.plan_cells.specs.Scopes.{template_at}
 use Rattle.plan_cells.specs.Sites.{first_with, parameter_named, output_named}
@@ -25,8 +25,7 @@ use Rattle.plan_table.specs.declared.line.Line.{Line}
 use Rattle.plan_table.specs.declared.listed.Listed as code
 use Rattle.plan_table.specs.Listed.{listed_of}
 use Rattle.plan_table.specs.declared.line.Spot.{Spot}
-use Rattle.plan_table.specs.declared.line.Spot.TheVariants.{Parameter as ParameterSpot, Output as OutputSpot, Name}
-use Rattle.plan_table.specs.declared.line.Spot.TheVariants.{Deployments}
+use Rattle.plan_table.specs.declared.line.Spot.TheVariants.{Parameter as ParameterSpot, Output as OutputSpot, Name, Deployments}
 use Rattle.plan_table.specs.Opened.{Opened, opened_of, IsKept}
 use Rattle.plan_table.specs.Lines.{frame_of, name_at, cell_of, line_at, new_line, IsNumber, IsPlaced}
 use Rattle.plan_table.specs.Whole.{whole_of, scopes_of, IsLaid}

@@ -2,9 +2,9 @@
 use Rattle.std.proofs.Common.{◌≡◌, ◌⊎◌, inl, inr, ℕ, ◌<◌, Bool, true, length, Option, Some, None, ap, ◌∙◌, refl, ◌-◌}
 use Rattle.arm_value.specs.Json.{Json}
 use Rattle.reading.specs.Knowledge.{Known, known, Told, told, by_entry, value, finished, and_then}
-use Rattle.deploy_cells.specs.Cells.{Cell, parent, admits}
-use Rattle.deploy_cells.specs.Guarded.{told_by, told_where, Reads}
-use Rattle.deploy_cells.proofs.CellLemmas.{guarded_told}
+use Rattle.plan_cells.specs.Cells.{Cell, parent, admits}
+use Rattle.plan_cells.specs.Guarded.{told_by, told_where, Reads}
+use Rattle.plan_cells.proofs.CellLemmas.{guarded_told}
 use Rattle.plan_cells.specs.Meaning.{meaning, plain}
 use Rattle.plan_cells.specs.Children.{Has, roots}
 use Rattle.plan_cells.proofs.ChildLemmas.{root_is, child_is}

@@ -1,7 +1,7 @@
 -- A table of which something is asked, and what is told by it.
 use Rattle.reading.specs.Knowledge.{Told, told}
-use Rattle.deploy_cells.specs.Cells.{Cell}
-use Rattle.deploy_cells.specs.Guarded.{Reads}
+use Rattle.plan_cells.specs.Cells.{Cell}
+use Rattle.plan_cells.specs.Guarded.{Reads}
 use Rattle.plan_table.specs.Rows.{status_of, table}
 use Rattle.plan_table.specs.Sound.{Sound}
 use Rattle.plan_table.specs.declared.table.Table.{Table}

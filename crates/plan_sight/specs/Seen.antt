@@ -1,7 +1,7 @@
 -- What a look at the table returns.
 use Rattle.std.specs.Prelude.{◌≡◌, ◌<◌, length, Option, Some, None, Result, Ok, Err}
 use Rattle.reading.specs.Knowledge.{Told, value, no_value, waits}
-use Rattle.deploy_cells.specs.Cells.{Cell, state}
+use Rattle.plan_cells.specs.Cells.{Cell, state}
 use Rattle.plan_table.specs.Rows.{row_at}
 use Rattle.plan_table.specs.declared.table.Table.{Table}
 use Rattle.plan_table.specs.Whole.{rows_in}

@@ -2,9 +2,9 @@
 ghost use Rattle.std.specs.Prelude.{◌≡◌, ◌<◌, IfOk, length, get_or, is_none, is_some, slice_get, Some};
 ghost use Rattle.plan_cells.specs.Resources.{Listed, header_in};
 ghost use Rattle.arm_value.specs.View.{json};
-ghost use Rattle.arm_eval.specs.Trees.{count_of};
-ghost use Rattle.arm_eval.specs.Titles.{key_at};
-ghost use Rattle.template_parameters.specs.Rule.{breach, is_of, is_text, is_int, is_bool};
+ghost use Rattle.plan_cells.specs.Trees.{count_of};
+ghost use Rattle.plan_cells.specs.Titles.{key_at};
+ghost use Rattle.plan_cells.specs.Rule.{breach, is_of, is_text, is_int, is_bool};
 ghost use Rattle.plan_cells.specs.Meaning.{rule};
 ghost use Rattle.plan_table.specs.Lines.{cell_of, line_at};
 ghost use Rattle.plan_table.specs.Whole.{whole_of, scopes_of, IsLaid};
@@ -13,12 +13,11 @@ ghost use Rattle.plan_cells.specs.Children.{NamesDiffer};
 ghost use Rattle.arm_value.specs.Kinds.{is_array};
 ghost use Rattle.arm_value.specs.Kinds.{is_object};
 
-use arm_eval::symbols::key_at;
 use arm_value::{OutOfMemory, Value};
+use plan_cells::{first_breach, key_at};
 use plan_table::line::Spot;
 use plan_table::table::Table;
 use std::alloc::Global;
-use template_parameters::first_breach;
 use template_parts::{Output, Parameter, ValueType};
 
 // Whether the value is a text.

@@ -14,14 +14,13 @@ use Rattle.reading.specs.Knowledge.{Known, known, absent, missing, Told, value, 
 use Rattle.reading.specs.Knowledge.{finished}
 use Rattle.deploy_cells.specs.Cells.{Cell, state}
 use Rattle.deploy_cells.specs.Same.{same}
-use Rattle.plan_cells.specs.Sites.{value_of, named_at}
-use Rattle.plan_filling.specs.Rows.{Row, status_of, table, known_by}
+use Rattle.plan_sight.specs.Sites.{value_of, named_at}
+use Rattle.plan_table.specs.Rows.{Row, status_of, table, known_by}
 use Rattle.template_tree.specs.View.{template_tree}
 use Rattle.plan_table.specs.declared.table.Table.{Table}
 use Rattle.plan_table.specs.declared.line.Line.{Line}
 use Rattle.plan_table.specs.declared.line.Spot.{Spot}
-use Rattle.plan_table.specs.declared.line.Spot.TheVariants.{Parameter, Variable, Offered, Output, Count, Included}
-use Rattle.plan_table.specs.declared.line.Spot.TheVariants.{Name, Deployments}
+use Rattle.plan_table.specs.declared.line.Spot.TheVariants.{Parameter, Variable, Offered, Output, Count, Included, Name, Deployments}
 use Rattle.plan_table.specs.Opened.{Opened, opened_at}
 use Rattle.plan_table.specs.Lines.{cell_in, frame_of, row_of}
 use Rattle.plan_table.specs.Whole.{scopes_of, rows_in}

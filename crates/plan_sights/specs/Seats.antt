@@ -10,9 +10,9 @@ use Rattle.reading.specs.Knowledge.{Known, Told, told}
 use Rattle.template_tree.specs.View.{template_tree}
 use Rattle.template_tree.specs.declared.resource.Template.{Template}
 use Rattle.deploy_cells.specs.Cells.{Position, Cell}
-use Rattle.plan_cells.specs.Sites.{Texts, ids_alone, names, Site, looked_up}
+use Rattle.plan_sight.specs.Sites.{Texts, ids_alone, names, Site, looked_up}
 use Rattle.plan_table.specs.declared.table.Table.{Table}
-use Rattle.plan_filling.specs.Rows.{Row, status_of, table}
+use Rattle.plan_table.specs.Rows.{Row, status_of, table}
 use Rattle.plan_table.specs.Whole.{rows_in}
 use Rattle.plan_table.specs.Found.{scope_at}
 use Rattle.plan_sight.specs.declared.lack.Lack.{Lack}

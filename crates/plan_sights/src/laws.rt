@@ -3,8 +3,8 @@ ghost use Rattle.arm_env.specs.Look.{Looking};
 ghost use Rattle.reading.specs.Knowledge.{told};
 ghost use Rattle.template_tree.specs.View.{template_tree};
 ghost use Rattle.deploy_cells.specs.Followed.{followed};
-ghost use Rattle.plan_cells.specs.Sites.{looked_up};
-ghost use Rattle.plan_filling.specs.Rows.{status_of, table};
+ghost use Rattle.plan_sight.specs.Sites.{looked_up};
+ghost use Rattle.plan_table.specs.Rows.{status_of, table};
 ghost use Rattle.plan_sights.specs.Resolved.{IsResolved};
 ghost use Rattle.plan_sights.specs.Seats.{Seat, site_of, seen_in, known_in};
 

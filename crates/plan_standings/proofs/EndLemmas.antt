@@ -1,8 +1,10 @@
 -- What a task needs, and its fault, by the table of all that is known at the end of a deployment.
 use Rattle.std.proofs.Common.{◌≡◌, ◌⊎◌, inl, inr, ℕ, Bool, true, false, List, [], ◌∷◌, Option, Some, None}
 use Rattle.std.proofs.Common.{refl, sym, ap, subst, ◌∙◌, true≢false}
-use Rattle.std.specs.Prelude.{◌||◌, slice_get, option_map, if◌then◌else◌}
+use Rattle.std.specs.Prelude.{◌||◌, slice_get, option_map}
 use Rattle.std.specs.List.{list_any}
+use Rattle.std.proofs.lemmas.Bool.{or_right, or_cases}
+use Rattle.foundation.proofs.Choices.{if_false}
 use Rattle.arm_value.specs.Json.{Json}
 use Rattle.reading.specs.World.{reads_in, Each}
 use Rattle.reading.specs.Knowledge.{Known, known, absent, missing, Told, value, no_value, waits, told, blanked}
@@ -40,13 +42,9 @@ use Rattle.task_standings.proofs.Agreement.{awaited_is_read}
 use Rattle.scope_faults.specs.Circles.{IsAwait}
 use Rattle.scope_faults.specs.Faults.{broken_by, said_of}
 use Rattle.plan_standings.specs.Tells.{SaysFault}
-use Rattle.plan_standings.proofs.FailLemmas.{one_of, any_there, given_done}
+use Rattle.plan_standings.proofs.FailLemmas.{any_there, given_done}
 
 -- ---- tests of lists
-
-or_second : (a b : Bool) → b ≡ true → (a || b) ≡ true
-or_second true b e = refl
-or_second false b e = e
 
 any_read : (f : Cell → Bool) (c : Cell) (cs : List Cell) → reading.Has c cs → f c ≡ true → list_any f cs ≡ true
 any_read f c [] h e = absurd h
@@ -55,7 +53,7 @@ any_read f c (d ∷ ds) (inl q) e = by (f d) (ap f q ∙ e)
     by : (b : Bool) → b ≡ true → (b || list_any f ds) ≡ true
     by true g = refl
     by false g = absurd (true≢false (sym g))
-any_read f c (d ∷ ds) (inr h) e = or_second (f d) (list_any f ds) (any_read f c ds h e)
+any_read f c (d ∷ ds) (inr h) e = or_right (f d) (list_any f ds) (any_read f c ds h e)
 
 any_value : (f : TaskValue → Bool) (a : TaskValue) (vs : List TaskValue) → Has a vs → f a ≡ true
     → list_any f vs ≡ true
@@ -65,12 +63,12 @@ any_value f a (b ∷ bs) (inl q) e = by (f b) (ap f q ∙ e)
     by : (c : Bool) → c ≡ true → (c || list_any f bs) ≡ true
     by true g = refl
     by false g = absurd (true≢false (sym g))
-any_value f a (b ∷ bs) (inr h) e = or_second (f b) (list_any f bs) (any_value f a bs h e)
+any_value f a (b ∷ bs) (inr h) e = or_right (f b) (list_any f bs) (any_value f a bs h e)
 
 value_there : (f : TaskValue → Bool) (vs : List TaskValue) → list_any f vs ≡ true
     → (a : TaskValue) × (Has a vs × (f a ≡ true))
 value_there f [] e = absurd (true≢false (sym e))
-value_there f (a ∷ vs) e = by (one_of (f a) (list_any f vs) e) (value_there f vs)
+value_there f (a ∷ vs) e = by (or_cases (f a) (list_any f vs) e) (value_there f vs)
   where
     by : (f a ≡ true) ⊎ (list_any f vs ≡ true)
         → (list_any f vs ≡ true → (b : TaskValue) × (Has b vs × (f b ≡ true)))
@@ -134,7 +132,7 @@ module _ (x : Planned) (p : Progress) (s m a : knowledge.Table) (seen : IsSeen x
       → told m v.reading ≡ waits c → is_given_by x.deployment (start_world x.known) other c ≡ true
       → needs_now x a task other ≡ true
   value_needs task other v is_value c e given =
-      or_second (needs_first x task other) (needs_by_values x a task other)
+      or_right (needs_first x task other) (needs_by_values x a task other)
       (any_value (reads_from x a other) v (task_values x.deployment task) is_value
       (any_read (is_given_by x.deployment (start_world x.known) other) c (reads_in (blanked a) v.reading)
       (awaited_is_read (Option Json) m (blanked a) completes v.reading c e) given))
@@ -172,7 +170,7 @@ module _ (x : Planned) (p : Progress) (s m a : knowledge.Table) (seen : IsSeen x
       → ((w : TaskValue) → Has w (task_values x.deployment task) → (c : Cell) → told m w.reading ≡ waits c → ⊥)
       → (v : ℕ) (other : Task) → slice_get x.tasks v ≡ Some other → needs_now x a task other ≡ true → IsDone p v
   none_needed task first never v other is e =
-      elim (one_of (needs_first x task other) (needs_by_values x a task other) e) [
+      elim (or_cases (needs_first x task other) (needs_by_values x a task other) e) [
         | inl b ↦ first v other is b
         | inr b ↦
             let w = value_there (reads_from x a other) (task_values x.deployment task) b in
@@ -228,10 +226,6 @@ told_nowhere s = refl
 
 there_is : (s : knowledge.Table) (r : Reads Json) → told s (there r) ≡ and_then (told s r) (λ j. told s (pure (Some j)))
 there_is s r = told-continued Cell Json Json (Option Json) s r (λ j. pure (Some j))
-
-if_false : {A : Type 0} (b : Bool) (y z : A) → b ≡ false → (if b then y else z) ≡ z
-if_false true y z e = absurd (true≢false e)
-if_false false y z e = refl
 
 -- the fault of the cell
 abbrev pub fault_by : (d : Deployment) (s : knowledge.Table) (c : Cell) (o : Option BindFault) → BrokenIn d s c o

@@ -4,6 +4,7 @@ use Rattle.std.proofs.Common.{length, Option, Some, None, refl, sym, ap, subst, 
 use Rattle.std.proofs.lemmas.List.{length-map}
 use Rattle.std.specs.Prelude.{slice_get, Result, Ok, Err, IfOk, if◌then◌else◌}
 use Rattle.std.specs.declared.alloc.AllocError.{AllocError}
+use Rattle.deploy_cells.proofs.SameLemmas.{position_same}
 use Rattle.arm_value.specs.Json.{Json, null}
 use Rattle.arm_value.specs.View.{json}
 use Rattle.arm_value.specs.declared.value.Value.{Value}
@@ -54,7 +55,7 @@ use Rattle.task_standings.specs.declared.standing.Standing.TheVariants.{Ready, S
 use Rattle.task_standings.specs.declared.standing.Standing.TheVariants as standing
 use Rattle.plan_standings.specs.Waits.{table_of, IsNext, IsAtPoint, IsEntered, IsInSight, HasStates}
 use Rattle.plan_standings.specs.Answers.{IsLacking, IsUnready, IsOneMore, IsAnswer}
-use Rattle.plan_standings.proofs.NumberedLemmas.{planned_task, position_itself, entered_before, start_entered}
+use Rattle.plan_standings.proofs.NumberedLemmas.{planned_task, entered_before, start_entered}
 use Rattle.plan_standings.proofs.WaitLemmas.{in_sight}
 use Rattle.plan_standings.proofs.AnswerLemmas.{start_of_plan}
 use Rattle.plan_standings.proofs.StateLemmas.{kept_on, fewer_left}
@@ -156,7 +157,7 @@ module _ (g : Plan) (held : List HeldResource) (n : Numbers) (h : List Event) (l
       next.needs_done (scope_at t f).around (omega (arith, b, there))
       (entered_before d (enter q) (enter o)
       (subst (λ (z : Position). is_entered_by d (enter z) (enter o) ≡ true) (sym e)
-      (subst (λ (z : Position). same_position o z ≡ true) a.1 (position_itself o)))))
+      (subst (λ (z : Position). same_position o z ≡ true) a.1 (position_same o)))))
 
   own_is : (scope_at t f).is_own ≡ is_own d q
   own_is =

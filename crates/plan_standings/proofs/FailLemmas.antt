@@ -1,9 +1,11 @@
 -- Why a put cannot begin, by its readiness.
-use Rattle.std.proofs.Common.{◌≡◌, ◌⊎◌, inl, inr, ℕ, Bool, true, false, true≢false, List, [], ◌∷◌, Option, Some, None}
+use Rattle.std.proofs.Common.{◌≡◌, inl, inr, ℕ, Bool, true, false, true≢false, List, [], ◌∷◌, Option, Some, None}
 use Rattle.std.proofs.Common.{refl, sym, ap, subst, ◌∙◌}
-use Rattle.std.specs.Prelude.{◌||◌, slice_get, Result, Ok, Err, IfOk}
+use Rattle.std.specs.Prelude.{slice_get, Result, Ok, Err, IfOk}
 use Rattle.std.specs.declared.alloc.AllocError.{AllocError}
 use Rattle.std.specs.List.{list_any}
+use Rattle.std.proofs.lemmas.Bool.{or_cases}
+use Rattle.foundation.proofs.TruthValues.{first_alone}
 use Rattle.arm_value.specs.Json.{Json}
 use Rattle.arm_value.specs.View.{json}
 use Rattle.arm_value.specs.declared.value.Value.{Value}
@@ -58,14 +60,10 @@ use Rattle.plan_standings.specs.Tells.{tells}
 
 -- ---- what is read for a value that is none was given by tasks that are done
 
-pub one_of : (a b : Bool) → (a || b) ≡ true → (a ≡ true) ⊎ (b ≡ true)
-one_of true b e = inl refl
-one_of false b e = inr e
-
 pub any_there : (f : Cell → Bool) (P : Cell → Type 0) (cs : List Cell) → list_any f cs ≡ true → Each P cs
     → (c : Cell) × ((f c ≡ true) × P c)
 any_there f P [] e h = absurd (true≢false (sym e))
-any_there f P (c ∷ cs) e h = elim (one_of (f c) (list_any f cs) e) [
+any_there f P (c ∷ cs) e h = elim (or_cases (f c) (list_any f cs) e) [
   | inl g ↦ (c, (g, h.0))
   | inr g ↦ any_there f P cs g h.1
 ]
@@ -185,18 +183,14 @@ module _ (g : Plan) (held : List HeldResource) (h : List Event) (m : Later) (u f
     none_told : told k the_value.reading ≡ no_value
     none_told = subst (λ (d : Deployment). told k (there_if (bodies d q (step_of i))) ≡ no_value) whole bodyless
 
-    or_false : (b : Bool) → (b || false) ≡ true → b ≡ true
-    or_false true e = refl
-    or_false false e = e
-
     none_needed : (a : known.Table) → IsTableOf x p a → (v : ℕ) (other : tasks.Task)
         → slice_get x.tasks v ≡ Some other → needs_now x a the_put other ≡ true → IsDone p v
     none_needed a all v other is e =
-        elim (one_of (needs_first x the_put other) (needs_by_values x a the_put other) e) [
+        elim (or_cases (needs_first x the_put other) (needs_by_values x a the_put other) e) [
           | inl b ↦ next.needs_done the_put v other is_task is b
           | inr b ↦
               read_done x p k seen a all the_value.reading none_told v other is
-              (or_false (reads_from x a other the_value) b)
+              (first_alone (reads_from x a other the_value) b)
         ]
 
     at_fault_by : (a : known.Table) → IsTableOf x p a

@@ -3,6 +3,7 @@ use Rattle.std.proofs.Common.{◌≡◌, inl, inr, ℕ, ◌<◌, List, [], ◌�
 use Rattle.std.proofs.Common.{arith}
 use Rattle.std.specs.Prelude.{slice_get}
 use Rattle.std.proofs.lemmas.List.{length-map}
+use Rattle.std.proofs.lemmas.Option.{same_Some}
 use Rattle.arm_ids.specs.Held.{HeldResource}
 use Rattle.reading.specs.World.{Each}
 use Rattle.reading.specs.Knowledge.{IsThere}
@@ -108,11 +109,8 @@ module _ (g : Plan) (held : List HeldResource) (planned : IsPlanned g held)
   abbrev d : Deployment
   d = deployment_of g
 
-  some_of : (a b : Outputs) → Some a ≡ Some b → a ≡ b
-  some_of a b e = cc
-
   noted_is : (k : Outputs) → o ≡ Some k → n.noted ≡ k
-  noted_is k e = some_of n.noted k (sym n.is ∙ e)
+  noted_is k e = same_Some n.noted k (sym n.is ∙ e)
 
   -- the lines of what is noted have entries
   pub are_within : (k : Outputs) → o ≡ Some k → Each (λ y. y.at < length l.entries.items) k.told.items
@@ -155,9 +153,6 @@ module _ (g : Plan) (held : List HeldResource) (planned : IsPlanned g held)
   not_enter : (a b : Position) → Some (leave a) ≡ Some (enter b) → ⊥
   not_enter a b e = cc
 
-  same_template : (a b : TemplateTree) → Some a ≡ Some b → a ≡ b
-  same_template a b e = cc
-
   template_is : (there : n.frame < length t.frames.items)
       → template_at d.template q ≡ Some (scope_at t n.frame).template
   template_is there =
@@ -175,7 +170,7 @@ module _ (g : Plan) (held : List HeldResource) (planned : IsPlanned g held)
     entered = λ r e c i. absurd (not_enter q r (sym is_task ∙ e));
     left = λ r y z e f i.
         let at = same_leave q r (sym is_task ∙ e) in
-        let is = same_template (scope_at t n.frame).template z
+        let is = same_Some (scope_at t n.frame).template z
         (sym (template_is there) ∙ ap (template_at d.template) at ∙ f) in
         subst (λ (a : Position). IsThere (known_now t m (offered a y)) × IsThere (known_now t m (output a y))) at
         (has_each (IsKept t m n.frame) (names_of t n.frame) y kept

@@ -1,13 +1,13 @@
 -- The tasks that enter and leave scopes, by their numbers.
-use Rattle.std.proofs.Common.{◌≡◌, ℕ, zero, suc, ◌<◌, Bool, true, false, true≢false, List, [], ◌∷◌, map}
+use Rattle.std.proofs.Common.{◌≡◌, ℕ, zero, suc, ◌<◌, Bool, true, false, List, [], ◌∷◌, map}
 use Rattle.std.proofs.Common.{length, get_or, Option, Some, None, refl, sym, ap, subst, ◌∙◌, arith}
-use Rattle.std.specs.Prelude.{slice_get, ◌||◌, if◌then◌else◌}
+use Rattle.std.specs.Prelude.{slice_get, if◌then◌else◌}
+use Rattle.std.proofs.lemmas.Bool.{or_left, or_right}
 use Rattle.arm_ids.specs.declared.id.ResourceId.{ResourceId}
 use Rattle.reading.specs.Reading.{pure}
 use Rattle.reading.specs.Knowledge.{told}
-use Rattle.deploy_cells.specs.Cells.{Position, deployments}
-use Rattle.deploy_cells.specs.Same.{same_position}
-use Rattle.deploy_cells.proofs.SameLemmas.{cell_same}
+use Rattle.deploy_cells.specs.Cells.{Position}
+use Rattle.deploy_cells.proofs.SameLemmas.{position_same}
 use Rattle.plan_cells.specs.Tasks.{Task, enter, leave}
 use Rattle.plan_cells.specs.Needs.{started, ended, leaves, is_position, scope_of, is_entry_of, is_entered_by}
 use Rattle.plan_cells.specs.Needs.{needs_by_order, depends_on, needs}
@@ -76,17 +76,6 @@ planned_task os (w ∷ us) zero u e =
     ap (λ y. Some (task_in os y)) same
 planned_task os (w ∷ us) (suc v) u e = planned_task os us v u e
 
-pub position_itself : (p : Position) → same_position p p ≡ true
-position_itself p = cell_same (deployments p)
-
-or_left : (a b : Bool) → a ≡ true → (a || b) ≡ true
-or_left true b e = refl
-or_left false b e = absurd (true≢false (sym e))
-
-or_right : (a b : Bool) → b ≡ true → (a || b) ≡ true
-or_right true b e = refl
-or_right false b e = e
-
 -- a scope is entered before its tasks, and before it is left
 pub entered_before : (d : Deployment) (u v : Task) → is_entered_by d u v ≡ true → needs_by_order d u v ≡ true
 entered_before d u v e = or_left (is_entered_by d u v) _ e
@@ -95,7 +84,7 @@ pub entered_itself : (d : Deployment) (q : Position) → needs_by_order d (leave
 entered_itself d q =
     or_right (is_entered_by d (leave q) (enter q)) _
     (or_left (leaves d (leave q) (enter q)) _
-    (or_right (is_position d q (scope_of d (enter q))) (is_entry_of d q (enter q)) (position_itself q)))
+    (or_right (is_position d q (scope_of d (enter q))) (is_entry_of d q (enter q)) (position_same q)))
 
 module _ (x : Planned) where
   by_order : (u v : Task) → needs_by_order x.deployment u v ≡ true → needs_first x u v ≡ true

@@ -2,12 +2,13 @@
 use Rattle.std.proofs.Common.{◌≡◌, inl, ℕ, List, Option, Some, None, refl, sym, ap, subst, ◌∙◌, true}
 use Rattle.std.specs.Prelude.{slice_get, Result, Ok, Err, IfOk}
 use Rattle.std.specs.declared.alloc.AllocError.{AllocError}
+use Rattle.deploy_cells.proofs.SameLemmas.{position_same}
 use Rattle.arm_value.specs.Json.{Json, Member}
 use Rattle.arm_value.specs.View.{json}
 use Rattle.arm_value.specs.declared.value.Value.{Value}
 use Rattle.arm_ids.specs.Held.{HeldResource}
 use Rattle.reading.specs.Reading.{pure}
-use Rattle.reading.specs.Knowledge.{Told, value, no_value, waits, and_then, told, Grows, IsToldStill}
+use Rattle.reading.specs.Knowledge.{Told, value, no_value, waits, and_then, Grows, IsToldStill}
 use Rattle.reading.proofs.Growth.{told_still}
 use Rattle.template_tree.specs.Tree.{BodyTree, body_members, deployment}
 use Rattle.deploy_cells.specs.Cells.{Cell, Position, step}
@@ -48,7 +49,7 @@ use Rattle.task_standings.specs.declared.standing.Standing.{Standing}
 use Rattle.task_standings.specs.declared.standing.Standing.TheVariants.{Ready, Stuck}
 use Rattle.plan_standings.specs.Waits.{table_of, IsNext, IsAtPoint, IsEntered}
 use Rattle.plan_standings.specs.Answers.{IsLacking, IsAnswer}
-use Rattle.plan_standings.proofs.NumberedLemmas.{planned_task, position_itself, entered_before, start_entered}
+use Rattle.plan_standings.proofs.NumberedLemmas.{planned_task, entered_before, start_entered}
 use Rattle.plan_standings.proofs.WaitLemmas.{in_sight}
 use Rattle.plan_standings.proofs.AnswerLemmas.{start_of_plan}
 use Rattle.plan_standings.specs.Puts.{IsLookAt, IsBodyless}
@@ -137,7 +138,7 @@ module _ (g : Plan) (held : List HeldResource) (n : Numbers) (h : List Event) (l
     entered : IsEntered x p q
     entered =
         start_entered x t g.tasks.items g.keys.items refl at.under_way.numbers.of_scopes p u the_put is_task
-        next.needs_done f of_table.0 (entered_before (deployment_of g) the_put (enter q) (position_itself q))
+        next.needs_done f of_table.0 (entered_before (deployment_of g) the_put (enter q) (position_same q))
 
     -- a body that lacks something
     pub body_lacks : (e : Lack) → Lacks t e (told_now t l (there_if (bodies (whole_of t) q (step_of i))))

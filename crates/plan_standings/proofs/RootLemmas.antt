@@ -7,6 +7,7 @@ use Rattle.std.specs.declared.alloc.Global.{Global}
 use Rattle.std.specs.declared.vec.Vec.{Vec}
 use Rattle.std.proofs.lemmas.List.{drop_all, append_assoc, append-nil, map-append}
 use Rattle.std.proofs.Math.Seq.{drop-cons}
+use Rattle.std.proofs.lemmas.Option.{same_Some}
 use Rattle.arm_value.specs.Json.{Json}
 use Rattle.arm_value.specs.Look.{fold}
 use Rattle.arm_value.specs.View.{json}
@@ -49,16 +50,13 @@ module _ (t : Table) (ready : IsReady t) where
   abbrev all : TemplateTree
   all = (whole_of t).template
 
-  same_template : (a b : TemplateTree) → Some a ≡ Some b → a ≡ b
-  same_template a b e = cc
-
   at_root : template_at all [] ≡ Some all
   unfolding template_at
   at_root = refl
 
   pub root_template : (scope_at t 0).template ≡ all
   root_template =
-      same_template (scope_at t 0).template all
+      same_Some (scope_at t 0).template all
       (sym (ready.laid.kept 0 ready.laid.some).template
       ∙ ap (λ (p : Position). template_at all p) ready.laid.root ∙ at_root)
 

@@ -2,6 +2,8 @@
 use Rattle.std.proofs.Common.{◌≡◌, ℕ, ◌<◌, Bool, true, false, length, Option, Some, None, refl, sym, ap, subst}
 use Rattle.std.proofs.Common.{◌∙◌, arith}
 use Rattle.std.specs.Prelude.{slice_get}
+use Rattle.deploy_cells.proofs.SameLemmas.{position_same}
+use Rattle.foundation.proofs.TruthValues.{unless}
 use Rattle.arm_value.specs.Json.{Json}
 use Rattle.reading.specs.Knowledge.{missing, waits, told, IsThere, Means}
 use Rattle.reading.proofs.Completion.{told_means}
@@ -37,7 +39,6 @@ use Rattle.task_standings.specs.Standings.{StandsAs}
 use Rattle.task_standings.specs.declared.standing.Standing.TheVariants.{Waits}
 use Rattle.awaited_cells.specs.Awaited.{MaySee}
 use Rattle.plan_standings.specs.Waits.{line_frame, is_output_spot, IsStartOf, IsKeptAt, IsEntered, IsInSight}
-use Rattle.plan_standings.proofs.NumberedLemmas.{position_itself}
 
 no_entry : (o : Option Json) → entry_of o ≡ missing → ⊥
 no_entry (Some v) e = cc
@@ -129,18 +130,14 @@ module _ (x : Planned) (p : Progress) (t : Table) (l : Later) (planned : IsPlann
 
   given : (s : Spot) → is_output_spot s ≡ true
       → is_given_by x.deployment (start_world x.known) (leave (scope_at t (frame_of s)).position) (cell_at s) ≡ true
-  given (Offered f n) o = position_itself (scope_at t f).position
-  given (Output f n) o = position_itself (scope_at t f).position
+  given (Offered f n) o = position_same (scope_at t f).position
+  given (Output f n) o = position_same (scope_at t f).position
   given (Parameter f n) o = absurd (cc)
   given (Variable f n) o = absurd (cc)
   given (Count f r) o = absurd (cc)
   given (Included f r i) o = absurd (cc)
   given (Name f r i) o = absurd (cc)
   given (Deployments f) o = absurd (cc)
-
-  undone : (b : Bool) → (b ≡ true → ⊥) → b ≡ false
-  undone true h = absurd (h refl)
-  undone false h = refl
 
   status_at : (j : ℕ) → j < length t.lines.items
       → status_of (rows_in t) (cell_at (line_at t.lines.items j).spot) ≡ Some (status_in (state_at t j))
@@ -160,7 +157,7 @@ module _ (x : Planned) (p : Progress) (t : Table) (l : Later) (planned : IsPlann
   line_giver j h m sight v has =
       let s = (line_at t.lines.items j).spot in
       let o = is_listed s (status_in (state_at t j)) (status_at j h) sight m in
-      (undone (done_status (p.status v)) (not_left s o sight m v has), given s o)
+      (unless (done_status (p.status v)) (not_left s o sight m v has), given s o)
 
   -- a value of the task waits for the cell of the line, which the task gives that leaves its scope
   pub line_stands : (u : ℕ) (task : Task) (a : TaskValue) → Has a (task_values x.deployment task) → (j : ℕ)

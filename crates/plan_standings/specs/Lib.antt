@@ -8,3 +8,5 @@ pub mod Tells
 pub mod Ended
 pub mod Needing
 pub mod Titles
+pub use Rattle.task_aims.specs.Plan
+pub use Rattle.task_aims.specs.Planned

@@ -1,6 +1,5 @@
 // What a board asks of a plan.
 ghost use Rattle.std.specs.Prelude.{◌≡◌, IfOk};
-ghost use Rattle.arm_ids.specs.Segments.{is_empty};
 ghost use Rattle.plan_standings.specs.Titles.{or_root};
 
 use crate::root_outputs::root_outputs;
@@ -11,17 +10,11 @@ use std::alloc::Global;
 use task_aims::{aim_of, place_of};
 use task_standings::{Aim, Failing, Kind, RootOutput, Standing, Standings};
 
-fn is_blank(text: &Text) -> bool
-    ensures { result ≡ is_empty text.now }
-{
-    text.as_str().is_empty()
-}
-
 // The text; `/` where it is empty.
 fn or_root(alloc: Global, text: Text) -> Result<Text, OutOfMemory>
     ensures { IfOk result (λ t. t ≡ or_root text) }
 {
-    if is_blank(&text) {
+    if text.is_empty() {
         return Text::of(alloc, "/");
     }
     Ok(text)

@@ -1,1 +1,2 @@
 pub mod Sheets
+pub use Rattle.plan_values.specs.Values

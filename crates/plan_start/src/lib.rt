@@ -7,3 +7,5 @@
 
 pub mod sheet;
 pub mod start;
+
+pub use plan_values::values::raw_value;

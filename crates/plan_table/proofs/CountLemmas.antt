@@ -1,41 +1,36 @@
 -- The numbers of instances stay those of the lines, as a line gets a state, lines are listed and a scope is opened.
 use Rattle.std.proofs.Common.{◌≡◌, ◌⊎◌, inl, inr, ℕ, zero, suc, ◌+◌, ◌<◌, ◌≤◌, Bool, true, false, List, [], ◌∷◌, ◌++◌}
-use Rattle.std.proofs.Common.{map, length, get_or, set, Some, None, Result, Ok, Err, refl, sym, ap, subst, ◌∙◌, arith}
+use Rattle.std.proofs.Common.{map, length, get_or, set, Some, Result, Ok, Err, refl, sym, ap, subst, ◌∙◌, arith}
 use Rattle.std.proofs.Common.{length-append}
-use Rattle.std.proofs.lemmas.List.{length-set, length-map, get_or-set_same, get_or-set_other}
+use Rattle.std.proofs.lemmas.List.{length-set, get_or-set_same, get_or-set_other}
 use Rattle.std.proofs.Math.ListN.{get_or-append}
-use Rattle.std.specs.Prelude.{nat_eq, IfOk, IfErr, if◌then◌else◌}
-use Rattle.arm_value.specs.Json.{Json}
+use Rattle.std.specs.Prelude.{nat_eq, IfOk, if◌then◌else◌}
+use Rattle.std.proofs.lemmas.Bool.{cases_eq}
+use Rattle.foundation.proofs.Comparisons.{eq_itself, lt_suc_or_is}
 use Rattle.arm_value.specs.View.{json}
 use Rattle.arm_value.specs.declared.value.Value.{Value}
-use Rattle.deploy_cells.specs.Cells.{Cell, Position, count, copies, deployments}
-use Rattle.deploy_cells.specs.Same.{same_position}
+use Rattle.plan_filling.specs.Cells.{copies}
 use Rattle.plan_filling.specs.Meaning.{Deployment}
 use Rattle.plan_filling.specs.Rows as rows
-use Rattle.plan_filling.specs.Rows.{Row, row_at, status_of, IsUnfinished, AreDistinct}
-use Rattle.plan_filling.proofs.RowLemmas.{status_found}
-use Rattle.deploy_cells.proofs.SameLemmas.{cell_is, cell_same}
+use Rattle.plan_filling.specs.Rows.{Row, row_at, IsUnfinished}
 use Rattle.plan_filling.specs.Limits as limits
-use Rattle.plan_filling.specs.Limits.{Scopes, everywhere, instances_in, Tally, tally_of, IsBeyond, IsHalt}
-use Rattle.plan_filling.specs.declared.sheet.Halt.{Halt}
 use Rattle.plan_filling.specs.declared.sheet.Halt.TheVariants as halt
 use Rattle.template_parts.specs.declared.limit.Which.TheVariants as which
-use Rattle.plan_table.specs.declared.frame.Frame.{Frame}
 use Rattle.plan_table.specs.declared.line.Line.{Line}
 use Rattle.plan_table.specs.declared.line.Spot.{Spot}
 use Rattle.plan_table.specs.declared.line.Spot.TheVariants.{Parameter, Variable, Offered, Output, Count, Included}
 use Rattle.plan_table.specs.declared.line.Spot.TheVariants.{Name, Deployments}
 use Rattle.plan_table.specs.declared.line.State.{State}
 use Rattle.plan_table.specs.declared.line.State.TheVariants as how
-use Rattle.plan_table.specs.Opened.{Opened, opened_of, opened_at}
-use Rattle.plan_table.specs.Lines.{frame_of, IsPlaced, cell_of, status_in, rows_of, row_of}
+use Rattle.plan_table.specs.Opened.{Opened}
+use Rattle.plan_table.specs.Lines.{frame_of, status_in, rows_of}
 use Rattle.plan_table.specs.Lines.{new_line, line_at, with_state}
 use Rattle.plan_table.specs.Keys.{Index}
 use Rattle.plan_table.specs.Laid.{Laid, IsAlone}
 use Rattle.plan_table.specs.declared.table.Table.{Table}
 use Rattle.plan_table.specs.Whole.{scopes_of}
 use Rattle.plan_table.specs.Counted.{IsCounted, numbers_of, listed_by, listed_in, any_scope, Numbers}
-use Rattle.plan_table.specs.Counted.{number_at, AreNumbers, Exceeds}
+use Rattle.plan_table.specs.Counted.{number_at, AreNumbers}
 use Rattle.plan_table.proofs.LaidLemmas.{row_here, length_rows}
 
 -- ---- what lines list
@@ -134,16 +129,6 @@ last_number : (xs : List ℕ) (n : ℕ) → get_or (xs ++ n ∷ []) (length xs) 
 last_number [] n = refl
 last_number (x ∷ xs) n = last_number xs n
 
-eq_or_less : (f m : ℕ) → f < suc m → (f < m) ⊎ (f ≡ m)
-eq_or_less zero zero h = inr refl
-eq_or_less zero (suc m) h = inl (omega arith)
-eq_or_less (suc f) zero h = absurd (omega (arith, h))
-eq_or_less (suc f) (suc m) h =
-    elim (eq_or_less f m (omega (arith, h))) [
-      | inl l ↦ inl (omega (arith, l))
-      | inr e ↦ inr (ap suc e)
-    ]
-
 pub numbers_framed : (d : Deployment) (os us : List Opened) (ix : Index) (ls : List Line) (o : Opened) (n : Numbers)
     → Laid d os ix ls → us ≡ os ++ o ∷ [] → AreNumbers os ls n
     → AreNumbers us ls (record { of_scopes = n.of_scopes ++ 0 ∷ []; of_all = n.of_all })
@@ -165,7 +150,7 @@ numbers_framed d os us ix ls o n laid e a =
     })
   where
     which : (f : ℕ) → f < length (os ++ o ∷ []) → (f < length os) ⊎ (f ≡ length os)
-    which f h = eq_or_less f (length os) (let j = length-append os (o ∷ []) in omega (arith, j, h))
+    which f h = lt_suc_or_is f (length os) (let j = length-append os (o ∷ []) in omega (arith, j, h))
 
     kept : (f : ℕ) → f < length os → get_or (n.of_scopes ++ 0 ∷ []) f 0 ≡ get_or n.of_scopes f 0
     kept f l = get_or-append n.of_scopes (0 ∷ []) 0 f (let k = a.long in omega (arith, k, l))
@@ -180,14 +165,8 @@ numbers_framed d os us ix ls o n laid e a =
 
 -- ---- a count lists more
 
-pub same_number : (f : ℕ) → nat_eq f f ≡ true
-same_number f = grind arith
-
 pub other_number : (f g : ℕ) → (f ≡ g → ⊥) → nat_eq f g ≡ false
 other_number f g n = grind (arith, n)
-
-pub is_number : (f g : ℕ) → (f ≡ g) ⊎ (f ≡ g → ⊥)
-is_number f g = grind arith
 
 module _ (os : List Opened) (ls : List Line) (at f r c : ℕ) (v : Value) (n : Numbers) (h : at < length ls)
     (open0 : IsUnfinished (row_at (rows_of os ls) at).status) (is : (line_at ls at).spot ≡ Count f r)
@@ -201,7 +180,7 @@ module _ (os : List Opened) (ls : List Line) (at f r c : ℕ) (v : Value) (n : N
   listed_here : listed_in (nat_eq f) (with_state ls at (how.Value v) 0) ≡ listed_in (nat_eq f) ls + c
   listed_here =
       listed_more (nat_eq f)
-      ∙ ap (λ (b : Bool). listed_in (nat_eq f) ls + (if b then copies (Some (json v)) else 0)) (same_number f)
+      ∙ ap (λ (b : Bool). listed_in (nat_eq f) ls + (if b then copies (Some (json v)) else 0)) (eq_itself f)
       ∙ ap (λ m. listed_in (nat_eq f) ls + m) (sym number)
 
   listed_there : (g : ℕ) → (g ≡ f → ⊥) → listed_in (nat_eq g) (with_state ls at (how.Value v) 0)
@@ -215,14 +194,14 @@ module _ (os : List Opened) (ls : List Line) (at f r c : ℕ) (v : Value) (n : N
       → m.of_all ≡ n.of_all + c → n.of_all + c ≤ 2000 → AreNumbers os (with_state ls at (how.Value v) 0) m
   numbers_more m s w t u = record {
     long = ap length s ∙ length-set n.of_scopes f (number_at n f + c) ∙ a.long;
-    each = λ g l. elim (is_number g f) [
+    each = λ g l. elim (cases_eq g f) [
       | inl e ↦ (let k = here g e in let x = a.each f there in let y = listed_here in
           let z : listed_in (nat_eq g) (with_state ls at (how.Value v) 0)
           ≡ listed_in (nat_eq f) (with_state ls at (how.Value v) 0)
           = ap (λ i. listed_in (nat_eq i) (with_state ls at (how.Value v) 0)) e in omega (arith, k, x, y, z))
       | inr d ↦ others g d ∙ a.each g l ∙ sym (listed_there g d)
     ];
-    few = λ g l. elim (is_number g f) [
+    few = λ g l. elim (cases_eq g f) [
       | inl e ↦ (let k = here g e in omega (arith, k, w))
       | inr d ↦ (let k = others g d in let x = a.few g l in omega (arith, k, x))
     ];

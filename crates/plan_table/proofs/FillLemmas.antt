@@ -1,20 +1,20 @@
 -- What a value opens, as it is listed.
 use Rattle.std.proofs.Common.{◌≡◌, ◌⊎◌, inl, inr, ℕ, zero, suc, ◌+◌, ◌<◌, ◌≤◌, Bool, true, false, List, [], ◌∷◌, ◌++◌}
-use Rattle.std.proofs.Common.{map, length, get_or, set, Option, Some, None, refl, sym, ap, subst, ◌∙◌, arith, not}
-use Rattle.std.proofs.lemmas.List.{map-append}
+use Rattle.std.proofs.Common.{map, length, set, Some, None, refl, sym, ap, subst, ◌∙◌, arith}
+use Rattle.std.proofs.lemmas.List.{map-append, append-nil}
 use Rattle.std.specs.Prelude.{slice_get, option_map, option_and_then, if◌then◌else◌}
+use Rattle.std.proofs.lemmas.Option.{slice_get_within}
+use Rattle.foundation.proofs.TruthValues.{not_both}
+use Rattle.foundation.proofs.Choices.{if_false, if_true}
 use Rattle.reading.specs.World.{Each}
 use Rattle.arm_value.specs.Json.{Json}
 use Rattle.arm_value.specs.View.{json}
 use Rattle.arm_value.specs.declared.value.Value.{Value}
-use Rattle.template_tree.specs.Tree.{TemplateTree}
-use Rattle.deploy_cells.specs.Cells.{Step, step, Position, Cell, parameter, variable, offered, output, count, included}
-use Rattle.deploy_cells.specs.Cells.{name, deployments, copies}
-use Rattle.plan_filling.specs.Resources.{Listed, Nested, resources_in, resource_at, nested_at, nested_in}
-use Rattle.plan_filling.specs.Scopes.{template_at, nested_of}
+use Rattle.plan_filling.specs.Cells.{step, Position, Cell, parameter, variable, offered, output, count, included, name, deployments, copies}
+use Rattle.plan_filling.specs.Resources.{Listed, Nested, resource_at, nested_at, nested_in}
+use Rattle.plan_filling.specs.Scopes.{template_at}
 use Rattle.plan_filling.specs.Meaning.{Deployment, is_own}
-use Rattle.plan_filling.specs.Children.{Has, parameter_names, variable_names, output_names, numbers_in, own_cells, steps}
-use Rattle.plan_filling.specs.Children.{scope_cells, opened_cells, instance_cells, children, roots, numbers_from}
+use Rattle.plan_filling.specs.Children.{Has, parameter_names, variable_names, output_names, own_cells, steps, scope_cells, opened_cells, instance_cells, children, roots, numbers_from}
 use Rattle.plan_filling.proofs.ListLemmas.{has_left, has_right}
 use Rattle.plan_filling.specs.Rows.{Row, fresh, row_at, with_status, with_value}
 use Rattle.plan_table.specs.declared.line.Line.{Line}
@@ -28,12 +28,12 @@ use Rattle.plan_table.specs.Lines.{line_at}
 use Rattle.plan_table.specs.Lines.{with_state, IsAt}
 use Rattle.plan_table.specs.Keys.{Index, Indexes}
 use Rattle.plan_table.specs.Spots.{below, counts_below, own_spots, scope_spots, instance_spots}
-use Rattle.plan_table.specs.Laid.{IsOfScope, HasCells, IsOpened, OpensBy, Opens, Laid, IsAlone}
+use Rattle.plan_table.specs.Laid.{IsOfScope, HasCells, OpensBy, Opens, Laid, IsAlone}
 use Rattle.plan_table.proofs.SpotLemmas.{has_below, each_joined, each_below, map_below, map_steps, map_counts}
-use Rattle.plan_table.proofs.SpotLemmas.{has_count, each_count, got_within}
-use Rattle.plan_table.proofs.ScopeLemmas.{Extends, extends_same, extends_more, opened_last, length_last, inside_kept}
+use Rattle.plan_table.proofs.SpotLemmas.{has_count, each_count}
+use Rattle.plan_table.proofs.ScopeLemmas.{extends_same, extends_more, opened_last, length_last, inside_kept}
 use Rattle.plan_table.proofs.ScopeLemmas.{resource_here, nested_here, root_kept}
-use Rattle.plan_table.proofs.LaidLemmas.{at_new, at_listed, laid_after, laid_set, rows_after, rows_of_new, row_here}
+use Rattle.plan_table.proofs.LaidLemmas.{at_new, laid_after, laid_set, rows_after, rows_of_new, row_here}
 use Rattle.plan_table.proofs.LaidLemmas.{rows_set, each_at, opens_new, all_new}
 use Rattle.arm_value.specs.Kinds.{is_true}
 
@@ -50,12 +50,6 @@ pub record Fills (d : Deployment) (os us : List Opened) (ls ms : List Line) (jx 
         ++ map fresh (children d (row_at (rows_of os ls) at).cell v)
 
 -- ---- a value that opens nothing
-
-test_no : {A : Type 0} (b : Bool) (x y : A) → b ≡ false → (if b then x else y) ≡ y
-test_no b x y e = rw e refl
-
-test_yes : {A : Type 0} (b : Bool) (x y : A) → b ≡ true → (if b then x else y) ≡ x
-test_yes b x y e = rw e refl
 
 none_inside : (d : Deployment) (os : List Opened) (f r i : ℕ) → IsKept d os f (opened_at os f)
     → nested_at (opened_at os f).template r ≡ None
@@ -74,7 +68,7 @@ children_included : (d : Deployment) (os : List Opened) (f r i : ℕ) (v : Json)
     → (is_true (Some v) ≡ false) ⊎ (nested_at (opened_at os f).template r ≡ None)
     → children d (included (opened_at os f).position (step r i)) v ≡ []
 unfolding children
-children_included d os f r i v k (inl e) = test_no (is_true (Some v))
+children_included d os f r i v k (inl e) = if_false (is_true (Some v))
     (opened_cells d (step r i ∷ (opened_at os f).position)
     (template_at d.template (step r i ∷ (opened_at os f).position))) [] e
 children_included d os f r i v k (inr e) = if_either (is_true (Some v))
@@ -89,7 +83,7 @@ unfolding children
 children_alone d os (Parameter f n) v k a = refl
 children_alone d os (Variable f n) v k a = refl
 children_alone d os (Offered f n) v k a =
-    test_no (is_true (Some v)) (output (opened_at os f).position
+    if_false (is_true (Some v)) (output (opened_at os f).position
     (name_at (output_names (opened_at os f).template) n) ∷ []) [] a
 children_alone d os (Output f n) v k a = refl
 children_alone d os (Count f r) v k a = ap (instance_cells (opened_at os f).position r) a
@@ -97,24 +91,17 @@ children_alone d os (Included f r i) v k a = children_included d os f r i v k a
 children_alone d os (Name f r i) v k a = refl
 children_alone d os (Deployments f) v k a = refl
 
-differ : (b : Bool) → b ≡ true → b ≡ false → ⊥
-differ b e f = let no : true ≡ false = sym e ∙ f in cc
-
 opens_alone : (os : List Opened) (ms : List Line) (g : ℕ) (s : Spot) (v : Value) → IsAlone os s (json v)
     → OpensBy os ms g s (how.Value v)
 opens_alone os ms g (Parameter f n) v a = tt
 opens_alone os ms g (Variable f n) v a = tt
-opens_alone os ms g (Offered f n) v a = λ t. absurd (differ (is_true (Some (json v))) t a)
+opens_alone os ms g (Offered f n) v a = λ t. absurd (not_both (is_true (Some (json v))) t a)
 opens_alone os ms g (Output f n) v a = tt
 opens_alone os ms g (Count f r) v a = λ i l. absurd (omega (arith, l, a))
-opens_alone os ms g (Included f r i) v (inl a) = λ t n e. absurd (differ (is_true (Some (json v))) t a)
+opens_alone os ms g (Included f r i) v (inl a) = λ t n e. absurd (not_both (is_true (Some (json v))) t a)
 opens_alone os ms g (Included f r i) v (inr a) = λ t n e. absurd (let no : None ≡ Some n = sym a ∙ e in cc)
 opens_alone os ms g (Name f r i) v a = tt
 opens_alone os ms g (Deployments f) v a = tt
-
-nil_rows : (xs : List Row) → xs ++ [] ≡ xs
-nil_rows [] = refl
-nil_rows (x ∷ xs) = ap (λ ys. x ∷ ys) (nil_rows xs)
 
 pub alone_fills : (d : Deployment) (os : List Opened) (ix : Index) (ls ms : List Line) (at g : ℕ) (v : Value)
     → Laid d os ix ls → at < length ls → IsAlone os (line_at ls at).spot (json v)
@@ -129,7 +116,7 @@ alone_fills d os ix ls ms at g v laid h a e =
       laid = subst (λ (xs : List Line). Laid d os ix xs) (sym e)
           (laid_set d os ix ls at l laid h refl (λ xs. opens_alone os xs g (line_at ls at).spot v a));
       rows = ap (rows_of os) e ∙ rows_set os ls at l h refl
-          ∙ sym (nil_rows (with_status (rows_of os ls) at (with_value (json v))))
+          ∙ sym (append-nil (with_status (rows_of os ls) at (with_value (json v))))
           ∙ ap (λ (cs : List Cell). with_status (rows_of os ls) at (with_value (json v)) ++ map fresh cs) (sym none);
     }
 
@@ -207,7 +194,7 @@ module _ (d : Deployment) (os : List Opened) (ix jx : Index) (ls ms : List Line)
 children_offered : (d : Deployment) (p : Position) (x : List ℕ) (v : Json) → is_true (Some v) ≡ true
     → children d (offered p x) v ≡ output p x ∷ []
 unfolding children
-children_offered d p x v e = test_yes (is_true (Some v)) (output p x ∷ []) [] e
+children_offered d p x v e = if_true (is_true (Some v)) (output p x ∷ []) [] e
 
 pub output_placed : (os : List Opened) (f n : ℕ) → IsPlaced os (Offered f n) → Each (IsPlaced os) (Output f n ∷ [])
 output_placed os f n p = (record { there = p.there; declared = p.declared }, tt)
@@ -360,7 +347,7 @@ has_of_scope o (Count g r) u q =
     (has_right (Count g r) (below (λ i. Offered g i) (length (output_names o.template)))
     (counts_below g o.resources (length o.resources) ++ Deployments g ∷ [])
     (has_left (Count g r) (counts_below g o.resources (length o.resources)) (Deployments g ∷ [])
-    (has_count g o.resources (length o.resources) r q.listed (got_within o.resources r q.listed q.has) q.has q.is_put)))
+    (has_count g o.resources (length o.resources) r q.listed (slice_get_within o.resources r q.listed q.has) q.has q.is_put)))
 has_of_scope o (Included g r i) u q = absurd u
 has_of_scope o (Name g r i) u q = absurd u
 has_of_scope o (Deployments g) u q =
@@ -442,7 +429,7 @@ module _ (d : Deployment) (os us : List Opened) (ix jx : Index) (ls ms : List Li
       ≡ scope_cells d (step r i ∷ (opened_at os f).position) n.template
   unfolding children
   children_scope =
-      test_yes (is_true (Some (json v)))
+      if_true (is_true (Some (json v)))
       (opened_cells d (step r i ∷ (opened_at os f).position)
       (template_at d.template (step r i ∷ (opened_at os f).position)))
       [] is_included

@@ -3,8 +3,7 @@ use Rattle.std.proofs.Common.{◌≡◌, ◌⊎◌, inl, inr, ℕ, zero, suc, �
 use Rattle.std.proofs.Common.{get_or, Option, Some, None, refl, sym, ap, subst, ◌∙◌, arith}
 use Rattle.std.specs.Prelude.{MatchOption}
 use Rattle.arm_value.specs.View.{json}
-use Rattle.deploy_cells.specs.Cells.{Step, step, Position, Cell, parameter, variable, offered, output, count, included}
-use Rattle.deploy_cells.specs.Cells.{name, deployments, state, copies}
+use Rattle.plan_filling.specs.Cells.{Step, step, Position, Cell, parameter, variable, offered, output, count, included, name, deployments, state, copies}
 use Rattle.plan_filling.specs.Meaning.{Deployment}
 use Rattle.plan_filling.specs.Desired.{is_state}
 use Rattle.plan_filling.specs.Children.{Has, parameter_names, variable_names, output_names}

@@ -1,43 +1,39 @@
 -- Where instances are too many by the numbers of a table, they are by its rows.
-use Rattle.std.proofs.Common.{◌≡◌, ◌⊎◌, inl, inr, ℕ, zero, suc, ◌+◌, ◌<◌, ◌≤◌, Bool, true, false, List, [], ◌∷◌, ◌++◌}
-use Rattle.std.proofs.Common.{map, length, get_or, set, Some, None, Result, Ok, Err, refl, sym, ap, subst, ◌∙◌, arith}
-use Rattle.std.proofs.Common.{length-append}
-use Rattle.std.proofs.lemmas.List.{length-set, length-map, get_or-set_same, get_or-set_other}
-use Rattle.std.proofs.Math.ListN.{get_or-append}
-use Rattle.std.specs.Prelude.{nat_eq, IfOk, IfErr, if◌then◌else◌}
+use Rattle.std.proofs.Common.{◌≡◌, inl, inr, ℕ, zero, suc, ◌<◌, Bool, true, false, List, [], ◌∷◌}
+use Rattle.std.proofs.Common.{length, Some, None, Result, Ok, Err, refl, sym, ap, subst, ◌∙◌, arith}
+use Rattle.std.specs.Prelude.{nat_eq, IfErr, if◌then◌else◌}
+use Rattle.std.proofs.lemmas.Bool.{cases_eq}
+use Rattle.foundation.proofs.Comparisons.{eq_itself}
 use Rattle.arm_value.specs.Json.{Json}
 use Rattle.arm_value.specs.View.{json}
 use Rattle.arm_value.specs.declared.value.Value.{Value}
-use Rattle.deploy_cells.specs.Cells.{Cell, Position, count, copies, deployments}
-use Rattle.deploy_cells.specs.Same.{same_position}
+use Rattle.plan_filling.specs.Cells.{Cell, Position, count, copies, deployments}
+use Rattle.plan_filling.specs.Same.{same_position}
 use Rattle.plan_filling.specs.Meaning.{Deployment}
 use Rattle.plan_filling.specs.Rows as rows
-use Rattle.plan_filling.specs.Rows.{Row, row_at, status_of, IsUnfinished, AreDistinct}
+use Rattle.plan_filling.specs.Rows.{Row, row_at, status_of, AreDistinct}
 use Rattle.plan_filling.proofs.RowLemmas.{status_found}
-use Rattle.deploy_cells.proofs.SameLemmas.{cell_is, cell_same}
+use Rattle.plan_filling.proofs.SameLemmas.{cell_is, cell_same}
 use Rattle.plan_filling.specs.Limits as limits
 use Rattle.plan_filling.specs.Limits.{Scopes, everywhere, instances_in, Tally, tally_of, IsBeyond, IsHalt}
 use Rattle.plan_filling.specs.declared.sheet.Halt.{Halt}
 use Rattle.plan_filling.specs.declared.sheet.Halt.TheVariants as halt
 use Rattle.template_parts.specs.declared.limit.Which.TheVariants as which
-use Rattle.plan_table.specs.declared.frame.Frame.{Frame}
 use Rattle.plan_table.specs.declared.line.Line.{Line}
 use Rattle.plan_table.specs.declared.line.Spot.{Spot}
 use Rattle.plan_table.specs.declared.line.Spot.TheVariants.{Parameter, Variable, Offered, Output, Count, Included}
 use Rattle.plan_table.specs.declared.line.Spot.TheVariants.{Name, Deployments}
 use Rattle.plan_table.specs.declared.line.State.{State}
 use Rattle.plan_table.specs.declared.line.State.TheVariants as how
-use Rattle.plan_table.specs.Opened.{Opened, opened_of, opened_at}
-use Rattle.plan_table.specs.Lines.{frame_of, IsPlaced, cell_of, status_in, rows_of, row_of}
-use Rattle.plan_table.specs.Lines.{new_line, line_at, with_state}
+use Rattle.plan_table.specs.Opened.{Opened, opened_at}
+use Rattle.plan_table.specs.Lines.{frame_of, cell_of, status_in, rows_of}
+use Rattle.plan_table.specs.Lines.{line_at}
 use Rattle.plan_table.specs.Keys.{Index}
-use Rattle.plan_table.specs.Laid.{Laid, IsAlone}
-use Rattle.plan_table.specs.declared.table.Table.{Table}
-use Rattle.plan_table.specs.Whole.{scopes_of}
-use Rattle.plan_table.specs.Counted.{IsCounted, numbers_of, listed_by, listed_in, any_scope, Numbers}
+use Rattle.plan_table.specs.Laid.{Laid}
+use Rattle.plan_table.specs.Counted.{listed_by, listed_in, any_scope, Numbers}
 use Rattle.plan_table.specs.Counted.{number_at, AreNumbers, Exceeds}
 use Rattle.plan_table.proofs.LaidLemmas.{row_here, length_rows}
-use Rattle.plan_table.proofs.CountLemmas.{same_number, other_number, is_number}
+use Rattle.plan_table.proofs.CountLemmas.{other_number}
 
 -- ---- by positions
 
@@ -112,9 +108,9 @@ module _ (d : Deployment) (os : List Opened) (ix : Index) (ls : List Line) (laid
   by_number : (f g : ℕ) → f < length os → g < length os
       → same_position (opened_at os f).position (opened_at os g).position ≡ nat_eq f g
   by_number f g h k =
-      elim (is_number f g) [
+      elim (cases_eq f g) [
         | inl e ↦ ap (λ i. same_position (opened_at os f).position (opened_at os i).position) (sym e)
-            ∙ cell_same (deployments (opened_at os f).position) ∙ sym (same_number f) ∙ ap (nat_eq f) e
+            ∙ cell_same (deployments (opened_at os f).position) ∙ sym (eq_itself f) ∙ ap (nat_eq f) e
         | inr n ↦ differ f g h k (same_position (opened_at os f).position (opened_at os g).position) refl n
             ∙ sym (other_number f g n)
       ]

@@ -1,6 +1,6 @@
 -- Keys lead to the lines of their cells.
-use Rattle.std.proofs.Common.{◌≡◌, ◌⊎◌, inl, inr, ℕ, zero, suc, ◌+◌, ◌<◌, ◌≤◌, Bool, true, false, List, [], ◌∷◌, ◌++◌}
-use Rattle.std.proofs.Common.{map, length, get_or, set, Option, Some, None, refl, sym, ap, subst, ◌∙◌, arith, bytes_eq}
+use Rattle.std.proofs.Common.{◌≡◌, ◌⊎◌, inl, inr, ℕ, zero, suc, ◌+◌, ◌<◌, Bool, true, false, List, [], ◌∷◌, ◌++◌}
+use Rattle.std.proofs.Common.{length, get_or, set, Option, Some, None, refl, sym, ap, ◌∙◌, arith, bytes_eq}
 use Rattle.std.proofs.Common.{length-append}
 use Rattle.std.proofs.lemmas.List.{length-set, get_or-set_same, get_or-set_other}
 use Rattle.std.proofs.Math.ListN.{get_or-append}
@@ -11,8 +11,8 @@ use Rattle.std.specs.declared.vec.Vec.{Vec}
 use Rattle.std.specs.declared.alloc.Global.{Global}
 use Rattle.std.specs.BTreeMap.{get, is_at, Updates}
 use Rattle.std.specs.Map.{lookup}
-use Rattle.deploy_cells.specs.Cells.{Step, step, Position, Cell, parameter, variable, offered, output, count, included}
-use Rattle.deploy_cells.specs.Cells.{name, deployments, state}
+use Rattle.std.proofs.lemmas.Bool.{cases_eq, cases_lt}
+use Rattle.plan_filling.specs.Cells.{step, Position, Cell, parameter, variable, offered, output, count, included, name, deployments, state}
 use Rattle.plan_filling.specs.Desired.{is_state}
 use Rattle.plan_table.specs.declared.line.Line.{Line}
 use Rattle.plan_table.specs.declared.line.Spot.{Spot}
@@ -108,12 +108,6 @@ cell_by_key os s f c a e k =
 
 -- ---- lines
 
-pub lt_or : (i n : ℕ) → (i < n) ⊎ (n ≤ i)
-lt_or i n = grind arith
-
-pub eq_or : (i n : ℕ) → (i ≡ n) ⊎ (i ≡ n → ⊥)
-eq_or i n = grind arith
-
 -- an element after a first list
 pub get_after : {A : Type 0} (xs ys : List A) (j : ℕ) (d : A) → get_or (xs ++ ys) (length xs + j) d ≡ get_or ys j d
 get_after [] ys j d = ap (λ (k : ℕ). get_or ys k d) (omega arith)
@@ -134,7 +128,7 @@ line_before ls ms j h = get_or-append ls ms (new_line (Deployments 0)) j h
 pub spot_set : (ls : List Line) (at : ℕ) (l : Line) → at < length ls → l.spot ≡ (line_at ls at).spot → (j : ℕ)
     → (line_at (set ls at l) j).spot ≡ (line_at ls j).spot
 spot_set ls at l h e j =
-    elim (eq_or j at) [
+    elim (cases_eq j at) [
       | inl q ↦ ap (λ k. (line_at (set ls at l) k).spot) q
           ∙ ap (λ x. x.spot) (get_or-set_same ls at l (new_line (Deployments 0)) h) ∙ e
           ∙ ap (λ k. (line_at ls k).spot) (sym q)
@@ -217,7 +211,7 @@ module _ (os : List Opened) (ix jx : Index) (ls : List Line) (s : Spot) (key : V
   complete_after : (q : Vec ℕ Global) (j : ℕ) → j < length after → q.items ≡ key_of os (line_at after j).spot
       → IsIndexed jx q
   complete_after q j h e =
-      elim (lt_or j (length ls)) [
+      elim (cases_lt j (length ls)) [
         | inl l ↦ (let r = x.complete q j l (e ∙ ap (λ y. key_of os y.spot) (line_before ls (new_line s ∷ []) j l)) in
             still q r.line r.is)
         | inr l ↦ (let at : j ≡ length ls = omega (arith, l, h, length_after) in

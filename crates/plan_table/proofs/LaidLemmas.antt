@@ -1,18 +1,18 @@
 -- A table stays laid out as a line gets a state, lines are listed after all that are there, and a scope is opened.
-use Rattle.std.proofs.Common.{◌≡◌, ◌⊎◌, inl, inr, ℕ, zero, suc, ◌+◌, ◌-◌, ◌<◌, ◌≤◌, Bool, true, false, List, [], ◌∷◌}
+use Rattle.std.proofs.Common.{◌≡◌, inl, inr, ℕ, zero, suc, ◌+◌, ◌-◌, ◌<◌, ◌≤◌, Bool, true, false, List, [], ◌∷◌}
 use Rattle.std.proofs.Common.{◌++◌}
-use Rattle.std.proofs.Common.{map, length, get_or, set, Option, Some, None, refl, sym, ap, subst, ◌∙◌, arith}
+use Rattle.std.proofs.Common.{map, length, set, refl, sym, ap, subst, ◌∙◌, arith}
 use Rattle.std.proofs.Common.{length-append}
-use Rattle.std.proofs.lemmas.List.{length-set, length-map, get_or-set_same, get_or-set_other, get_or-map, map-append}
+use Rattle.std.proofs.lemmas.List.{length-set, length-map, get_or-set_same, get_or-set_other, get_or-map, map-append, append-nil}
+use Rattle.std.proofs.lemmas.Bool.{cases_lt, cases_eq}
 use Rattle.reading.specs.World.{Each}
-use Rattle.arm_value.specs.View.{json}
 use Rattle.arm_value.specs.declared.value.Value.{Value}
 use Rattle.arm_ids.specs.declared.id.ResourceId.{ResourceId}
-use Rattle.deploy_cells.specs.Cells.{step, Cell, copies, deployments}
-use Rattle.plan_filling.specs.Resources.{Nested, nested_at}
+use Rattle.plan_filling.specs.Cells.{step, Cell, deployments}
+use Rattle.plan_filling.specs.Resources.{nested_at}
 use Rattle.plan_filling.specs.Meaning.{Deployment}
 use Rattle.plan_filling.specs.Children.{Has}
-use Rattle.plan_filling.specs.Rows.{Status, Row, fresh, row_at, with_status}
+use Rattle.plan_filling.specs.Rows.{Row, fresh, row_at, with_status}
 use Rattle.plan_table.specs.declared.line.Line.{Line}
 use Rattle.plan_table.specs.declared.line.Spot.{Spot}
 use Rattle.plan_table.specs.declared.line.Spot.TheVariants.{Parameter, Variable, Offered, Output, Count, Included}
@@ -20,14 +20,13 @@ use Rattle.plan_table.specs.declared.line.Spot.TheVariants.{Name, Deployments}
 use Rattle.plan_table.specs.declared.line.State.{State}
 use Rattle.plan_table.specs.declared.line.State.TheVariants as how
 use Rattle.plan_table.specs.Opened.{Opened, opened_at, IsKept}
-use Rattle.plan_table.specs.Lines.{frame_of, cell_of, IsDeclared, IsPlaced, status_in, row_of, rows_of, new_line}
+use Rattle.plan_table.specs.Lines.{cell_of, IsDeclared, IsPlaced, status_in, row_of, rows_of, new_line}
 use Rattle.plan_table.specs.Lines.{line_at}
-use Rattle.plan_table.specs.Lines.{with_state, IsAt}
+use Rattle.plan_table.specs.Lines.{IsAt}
 use Rattle.plan_table.specs.Keys.{Index, Indexes}
-use Rattle.plan_table.specs.Laid.{IsOfScope, HasCells, IsOpened, OpensBy, Opens, Laid}
-use Rattle.plan_table.proofs.KeyLemmas.{lt_or, eq_or, get_after, line_before, spot_set, indexed_set}
+use Rattle.plan_table.specs.Laid.{HasCells, IsOpened, OpensBy, Opens, Laid}
+use Rattle.plan_table.proofs.KeyLemmas.{get_after, line_before, spot_set, indexed_set}
 use Rattle.plan_table.proofs.ScopeLemmas.{Extends, cell_still, placed_still, kept_still, extends_same}
-use Rattle.arm_value.specs.Kinds.{is_true}
 
 -- ---- lines after others
 
@@ -183,7 +182,7 @@ module _ (d : Deployment) (os us : List Opened) (ix jx : Index) (ls : List Line)
       (placed_new : Each (IsPlaced us) ss) (opens_it : Opens us after l) (indexed : Indexes us jx after) where
     kept_after : (f : ℕ) → f < length us → IsKept d us f (opened_at us f)
     kept_after f i =
-        elim (lt_or f (length os)) [
+        elim (cases_lt f (length os)) [
           | inl k ↦ subst (λ o. IsKept d us f o) (sym (ext.same f k))
               (kept_still d os us ext f (opened_at os f) k (laid.kept f k))
           | inr k ↦ kept_new f k i
@@ -191,7 +190,7 @@ module _ (d : Deployment) (os us : List Opened) (ix jx : Index) (ls : List Line)
 
     cells_after : (f : ℕ) → f < length us → HasCells us after f
     cells_after f i =
-        elim (lt_or f (length os)) [
+        elim (cases_lt f (length os)) [
           | inl k ↦ λ s e o q. at_still s (laid.cells f k s e o (subst (λ y. IsDeclared y s) (ext.same f k) q))
           | inr k ↦ cells_new f k i
         ]
@@ -202,7 +201,7 @@ module _ (d : Deployment) (os us : List Opened) (ix jx : Index) (ls : List Line)
 
     placed_after : (j : ℕ) → j < length after → IsPlaced us (line_at after j).spot
     placed_after j i =
-        elim (lt_or j (length ls)) [
+        elim (cases_lt j (length ls)) [
           | inl k ↦ subst (λ s. IsPlaced us s) (sym (spot_old j k))
               (placed_still os us ext (line_at ls j).spot (laid.placed j k))
           | inr k ↦ (let b = beyond j k i in
@@ -231,8 +230,8 @@ module _ (d : Deployment) (os us : List Opened) (ix jx : Index) (ls : List Line)
 
     opens_after : (j : ℕ) → j < length after → Opens us after (line_at after j)
     opens_after j i =
-        elim (lt_or j (length ls)) [
-          | inl k ↦ elim (eq_or j at) [ inl e ↦ opens_at_it j e | inr n ↦ opens_old j k n ]
+        elim (cases_lt j (length ls)) [
+          | inl k ↦ elim (cases_eq j at) [ inl e ↦ opens_at_it j e | inr n ↦ opens_old j k n ]
           | inr k ↦ opens_listed j k i
         ]
 
@@ -249,19 +248,15 @@ module _ (d : Deployment) (os us : List Opened) (ix jx : Index) (ls : List Line)
 
 -- ---- rows
 
-nil_lines : (xs : List Line) → xs ++ [] ≡ xs
-nil_lines [] = refl
-nil_lines (x ∷ xs) = ap (λ ys. x ∷ ys) (nil_lines xs)
-
 -- a line gets a state, and nothing is opened
 pub laid_set : (d : Deployment) (os : List Opened) (ix : Index) (ls : List Line) (at : ℕ) (l : Line) → Laid d os ix ls
     → at < length ls → l.spot ≡ (line_at ls at).spot
     → ((ms : List Line) → OpensBy os ms l.opened l.spot l.state) → Laid d os ix (set ls at l)
 laid_set d os ix ls at l laid h e o =
-    subst (λ (xs : List Line). Laid d os ix xs) (nil_lines (set ls at l))
+    subst (λ (xs : List Line). Laid d os ix xs) (append-nil (set ls at l))
     (laid_after d os os ix ix ls at l [] laid h e (extends_same os) (λ f a b. absurd (omega (arith, a, b)))
     (λ f a b. absurd (omega (arith, a, b))) tt (o (set ls at l ++ []))
-    (subst (λ (xs : List Line). Indexes os ix xs) (sym (nil_lines (set ls at l)))
+    (subst (λ (xs : List Line). Indexes os ix xs) (sym (append-nil (set ls at l)))
     (indexed_set os ix ls at l h e laid.indexed)))
 
 pub row_here : (os : List Opened) (ls : List Line) (j : ℕ) → j < length ls

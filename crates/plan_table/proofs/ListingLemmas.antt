@@ -2,7 +2,8 @@
 use Rattle.std.proofs.Common.{◌≡◌, ℕ, zero, suc, ◌+◌, ◌<◌, ◌≤◌, List, [], ◌∷◌, ◌++◌, map, length, get_or, drop, Option}
 use Rattle.std.proofs.Common.{Some, refl, sym}
 use Rattle.std.proofs.Common.{ap, ◌∙◌, arith, append_assoc, length-append}
-use Rattle.std.proofs.lemmas.List.{length-map}
+use Rattle.std.proofs.lemmas.List.{length-map, append-nil}
+use Rattle.foundation.proofs.Lists.{next_item, nothing_left}
 use Rattle.template_tree.specs.Tree.{ResourceTree, resource, Trees, no_resources, a_resource, trees}
 use Rattle.template_tree.specs.View.{resource_tree}
 use Rattle.template_tree.specs.declared.resource.Resource.{Resource}
@@ -21,24 +22,6 @@ mutual
       let a = length_tree o n r in
       let b = length_trees o (n + tree_count r) rs in
       length-append (listed_tree o n r) (listed_trees o (n + tree_count r) rs) ∙ omega (arith, a, b)
-
-dropped : {A : Type 0} (xs : List A) (i : ℕ) (x : A) → i < length xs → x ≡ get_or xs i x
-    → drop i xs ≡ x ∷ drop (i + 1) xs
-dropped [] i x h e = absurd (omega (arith, h))
-dropped (y ∷ xs) zero x h e = ap (λ z. z ∷ xs) (sym e)
-dropped (y ∷ xs) (suc i) x h e =
-    dropped xs i x (omega (arith, h)) e
-    ∙ ap (λ k. x ∷ drop k (y ∷ xs)) (let s : suc (i + 1) ≡ suc i + 1 = omega arith in s)
-
-nil_after : {A : Type 0} (xs : List A) → xs ++ [] ≡ xs
-nil_after [] = refl
-nil_after (x ∷ xs) = ap (λ ys. x ∷ ys) (nil_after xs)
-
-past : {A : Type 0} (xs : List A) (i : ℕ) → length xs ≤ i → drop i xs ≡ []
-past [] zero h = refl
-past [] (suc i) h = refl
-past (x ∷ xs) zero h = absurd (omega (arith, h))
-past (x ∷ xs) (suc i) h = past xs i (omega (arith, h))
 
 -- what is to be listed in the end
 abbrev pub trees_start : Option Above → List Listed → List Resource → List cells.Listed
@@ -63,7 +46,7 @@ trees_more o first xs i r old new h e f g =
     ∙ append_assoc (map listed_of old) (listed_tree o (length old) tree)
     (listed_trees o (length old + tree_count tree) rest)
     ∙ ap (λ ys. map listed_of old ++ listed_trees o (length old) (trees (map resource_tree ys)))
-    (sym (dropped xs i r h e)) ∙ g
+    (sym (next_item xs i r h e)) ∙ g
 
 -- all of them
 pub trees_all : (o : Option Above) (first : List cells.Listed) (n i : ℕ) (xs : List Resource) (rs : List ResourceTree)
@@ -72,6 +55,6 @@ pub trees_all : (o : Option Above) (first : List cells.Listed) (n i : ℕ) (xs :
     ≡ first ++ listed_trees o n (trees (map resource_tree xs))
     → map listed_of new ≡ first ++ listed_trees o n (trees rs)
 trees_all o first n i xs rs new h e g =
-    sym (nil_after (map listed_of new))
-    ∙ ap (λ ys. map listed_of new ++ listed_trees o (length new) (trees (map resource_tree ys))) (sym (past xs i h))
+    sym (append-nil (map listed_of new))
+    ∙ ap (λ ys. map listed_of new ++ listed_trees o (length new) (trees (map resource_tree ys))) (sym (nothing_left xs i h))
     ∙ g ∙ ap (λ ys. first ++ listed_trees o n (trees ys)) e

@@ -7,7 +7,7 @@ use Rattle.std.specs.Prelude.{IfOk, slice_get}
 use Rattle.reading.specs.World.{Each}
 use Rattle.arm_value.specs.View.{json}
 use Rattle.arm_value.specs.declared.value.Value.{Value}
-use Rattle.deploy_cells.specs.Cells.{copies}
+use Rattle.plan_filling.specs.Cells.{copies}
 use Rattle.plan_filling.specs.Resources as cells
 use Rattle.plan_filling.specs.Resources.{Nested, nested_in}
 use Rattle.plan_filling.specs.Meaning.{Deployment}

@@ -6,10 +6,9 @@ use Rattle.std.proofs.Math.ListN.{get_or-append}
 use Rattle.std.specs.Prelude.{slice_get, option_map, option_and_then, if◌then◌else◌}
 use Rattle.arm_env.specs.declared.env.Looping.{Looping}
 use Rattle.template_tree.specs.Tree.{TemplateTree}
-use Rattle.deploy_cells.specs.Cells.{Step, step, Position}
+use Rattle.plan_filling.specs.Cells.{Step, step, Position}
 use Rattle.plan_filling.specs.Resources.{Listed, Nested, resources_in, resource_at, unless_existing, nested_at, nested_in}
-use Rattle.plan_filling.specs.Scopes.{template_at, resource_of, nested_of, owner, loops_around, loop_of, is_outer}
-use Rattle.plan_filling.specs.Scopes.{is_outer_scope}
+use Rattle.plan_filling.specs.Scopes.{template_at, resource_of, nested_of, owner, loops_around, loop_of, is_outer, is_outer_scope}
 use Rattle.plan_filling.specs.Meaning.{Deployment, is_own}
 use Rattle.plan_table.specs.declared.line.Spot.{Spot}
 use Rattle.plan_table.specs.Opened.{Opened, blank, opened_at, root_of, owner_inside, loops_within, inside_of, IsAround}

@@ -1,25 +1,22 @@
 -- Spots of scopes and of instances, and the cells that they are.
-use Rattle.std.proofs.Common.{◌≡◌, ◌⊎◌, inl, inr, ℕ, zero, suc, ◌+◌, ◌<◌, ◌≤◌, Bool, true, false, List, [], ◌∷◌, ◌++◌}
+use Rattle.std.proofs.Common.{◌≡◌, inl, inr, ℕ, zero, suc, ◌+◌, ◌<◌, ◌≤◌, Bool, true, false, List, [], ◌∷◌, ◌++◌}
 use Rattle.std.proofs.Common.{map, length, take, get_or, Option, Some, None, refl, sym, ap, subst, ◌∙◌, arith}
 use Rattle.std.proofs.lemmas.List.{map-append}
 use Rattle.std.specs.Prelude.{slice_get, if◌then◌else◌}
+use Rattle.foundation.proofs.Comparisons.{lt_suc_or_is}
 use Rattle.reading.specs.World.{Each}
-use Rattle.deploy_cells.specs.Cells.{Step, step, Cell}
+use Rattle.plan_filling.specs.Cells.{Step, step, Cell}
 use Rattle.plan_filling.specs.Resources.{Listed}
 use Rattle.plan_filling.specs.Children.{Has, numbers_from, steps}
 use Rattle.plan_filling.proofs.ListLemmas.{has_left, has_right}
 use Rattle.plan_table.specs.declared.line.Spot.{Spot}
-use Rattle.plan_table.specs.declared.line.Spot.TheVariants.{Parameter, Variable, Offered, Output, Count, Included}
-use Rattle.plan_table.specs.declared.line.Spot.TheVariants.{Name, Deployments}
+use Rattle.plan_table.specs.declared.line.Spot.TheVariants.{Count}
 use Rattle.plan_table.specs.Spots.{below, unless_existing, counts_below}
-
-below_or_last : (i n : ℕ) → i < suc n → (i < n) ⊎ (i ≡ n)
-below_or_last i n h = grind arith
 
 pub has_below : (f : ℕ → Spot) (n i : ℕ) → i < n → Has (f i) (below f n)
 has_below f zero i h = absurd (omega arith)
 has_below f (suc n) i h =
-    elim (below_or_last i n h) [
+    elim (lt_suc_or_is i n h) [
       | inl l ↦ has_left (f i) (below f n) (f n ∷ []) (has_below f n i l)
       | inr e ↦ has_right (f i) (below f n) (f n ∷ []) (inl (ap f (sym e)))
     ]
@@ -101,11 +98,6 @@ got [] n d h = absurd (omega arith)
 got (x ∷ xs) zero d h = refl
 got (x ∷ xs) (suc n) d h = got xs n d (omega arith)
 
-pub got_within : {A : Type 0} (xs : List A) (n : ℕ) (x : A) → slice_get xs n ≡ Some x → n < length xs
-got_within [] n x h = let no : None ≡ Some x = h in cc
-got_within (y ∷ xs) zero x h = omega arith
-got_within (y ∷ xs) (suc n) x h = let r = got_within xs n x h in omega (arith, r)
-
 length_taken : {A : Type 0} (n : ℕ) (xs : List A) → n ≤ length xs → length (take n xs) ≡ n
 length_taken zero xs h = refl
 length_taken (suc n) [] h = absurd (omega arith)
@@ -160,7 +152,7 @@ pub has_count : (g : ℕ) (xs : List Listed) (n r : ℕ) (x : Listed) → r < n 
     → x.declaration.existing ≡ false → Has (Count g r) (counts_below g xs n)
 has_count g xs zero r x h e f = absurd (omega (arith, h))
 has_count g xs (suc n) r x h e f =
-    elim (below_or_last r n h) [
+    elim (lt_suc_or_is r n h) [
       | inl l ↦ has_left (Count g r) (counts_below g xs n) (unless_existing (slice_get xs n) (Count g n))
           (has_count g xs n r x l e f)
       | inr q ↦ subst (λ m. Has (Count g r) (counts_below g xs n ++ unless_existing (slice_get xs m) (Count g m))) q

@@ -1,43 +1,39 @@
 -- What steps of the code come to, together.
-use Rattle.std.proofs.Common.{◌≡◌, ◌⊎◌, inl, inr, ℕ, zero, suc, ◌<◌, ◌≤◌, ◌^◌, Bool, true, false, List, [], ◌∷◌, ◌++◌}
+use Rattle.std.proofs.Common.{◌≡◌, ℕ, zero, suc, ◌<◌, Bool, true, false, List, [], ◌∷◌, ◌++◌}
 use Rattle.std.proofs.Common.{map, length}
-use Rattle.std.proofs.Common.{get_or, Option, Some, None, Result, Ok, Err, refl, sym, ap, subst, ◌∙◌, arith}
+use Rattle.std.proofs.Common.{get_or, Some, None, Result, Ok, Err, refl, sym, ap, subst, ◌∙◌, arith}
 use Rattle.std.proofs.lemmas.List.{length-map, map-append}
 use Rattle.std.specs.Prelude.{IfOk, slice_get}
 use Rattle.std.specs.declared.vec.Vec.{Vec}
 use Rattle.std.specs.declared.alloc.Global.{Global}
 use Rattle.std.specs.BTreeMap.{Updates}
+use Rattle.std.proofs.lemmas.Option.{slice_get_within}
 use Rattle.reading.specs.World.{Each}
 use Rattle.arm_value.specs.Json.{Json}
-use Rattle.arm_value.specs.View.{json}
-use Rattle.arm_value.specs.declared.value.Value.{Value}
 use Rattle.template_tree.specs.View.{body_tree}
 use Rattle.template_tree.specs.declared.resource.Body.{Body}
 use Rattle.template_tree.specs.declared.resource.Body.TheVariants.{Members, Deployment}
 use Rattle.template_tree.specs.declared.resource.Deployment as code
 use Rattle.arm_value.specs.Json.{Member}
 use Rattle.plan_filling.specs.Resources as cells
-use Rattle.plan_filling.specs.Resources.{Nested, nested_at, nested_in, resource_at}
+use Rattle.plan_filling.specs.Resources.{Nested, nested_at, nested_in}
 use Rattle.plan_filling.specs.Meaning as meaning
-use Rattle.plan_filling.specs.Rows.{Row}
 use Rattle.plan_table.specs.declared.frame.Frame.{Frame}
 use Rattle.plan_table.specs.declared.line.Line.{Line}
 use Rattle.plan_table.specs.declared.line.Spot.{Spot}
-use Rattle.plan_table.specs.declared.line.Spot.TheVariants.{Included, Deployments}
+use Rattle.plan_table.specs.declared.line.Spot.TheVariants.{Included}
 use Rattle.plan_table.specs.declared.listed.Listed.{Listed}
 use Rattle.plan_table.specs.Listed.{listed_of}
 use Rattle.plan_table.specs.Opened.{Opened, opened_of, opened_at, inside_of, nested_view, IsKept}
-use Rattle.plan_table.specs.Lines.{frame_of, IsNumber, IsPlaced, rows_of, new_line, line_at}
-use Rattle.plan_table.specs.Keys.{key_of, key_cmp, Index, at_key, Indexes}
-use Rattle.plan_table.specs.Spots.{scope_spots, instance_spots}
+use Rattle.plan_table.specs.Lines.{IsNumber, IsPlaced, new_line, line_at}
+use Rattle.plan_table.specs.Keys.{key_of, key_cmp, Index, Indexes}
+use Rattle.plan_table.specs.Spots.{scope_spots}
 use Rattle.plan_table.specs.Laid.{Laid, IsAlone}
-use Rattle.plan_table.proofs.SpotLemmas.{got_within}
 use Rattle.plan_table.proofs.KeyLemmas.{indexed_more}
 use Rattle.plan_table.proofs.ScopeLemmas.{Extends, extends_more, key_still, opened_last, length_last, resource_here}
 use Rattle.plan_table.proofs.ScopeLemmas.{nested_here}
 use Rattle.plan_table.proofs.FrameLemmas.{frame_is, resource_read}
 use Rattle.plan_table.proofs.FillLemmas.{scope_placed}
-use Rattle.arm_value.specs.Kinds.{is_true}
 
 -- what holds of a result by two facts of it
 pub ok_both : {X E : Type 0} (r : Result X E) (P Q R : X → Type 0) → IfOk r P → IfOk r Q → ((x : X) → P x → Q x → R x)
@@ -135,7 +131,7 @@ module _ (d : meaning.Deployment) (fs : List Frame) (ix : Index) (ls : List Line
     pub resource_there : r < length fr.resources.items
     resource_there =
         let l : r < length (opened_at os f).resources =
-        got_within (opened_at os f).resources r number.listed number.has in
+        slice_get_within (opened_at os f).resources r number.listed number.has in
         let m : (opened_at os f).resources ≡ map listed_of fr.resources.items = ap (λ (o : Opened). o.resources) same in
         let n = length-map fr.resources.items listed_of in
         omega (arith, subst (λ (xs : List cells.Listed). r < length xs) m l, n)
@@ -181,6 +177,6 @@ pub resource_in_frame : (fs : List Frame) (f r : ℕ) (fr : Frame) (x : cells.Li
 resource_in_frame fs f r fr x h e s =
     let same : opened_at (map opened_of fs) f ≡ opened_of fr = frame_is fs f fr h e in
     let l : r < length (opened_at (map opened_of fs) f).resources =
-    got_within (opened_at (map opened_of fs) f).resources r x s in
+    slice_get_within (opened_at (map opened_of fs) f).resources r x s in
     let n = length-map fr.resources.items listed_of in
     omega (arith, subst (λ (o : Opened). r < length o.resources) same l, n)

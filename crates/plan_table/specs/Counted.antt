@@ -2,7 +2,7 @@
 use Rattle.std.specs.Prelude.{◌≡◌, ℕ, ◌+◌, ◌<◌, ◌≤◌, nat_eq, Bool, true, List, [], ◌∷◌, length, slice_index_or, Some}
 use Rattle.std.specs.Prelude.{if◌then◌else◌}
 use Rattle.arm_value.specs.View.{json}
-use Rattle.deploy_cells.specs.Cells.{copies}
+use Rattle.plan_filling.specs.Cells.{copies}
 use Rattle.plan_filling.specs.Limits.{Tally, IsBeyond}
 use Rattle.plan_filling.specs.declared.sheet.Halt.{Halt}
 use Rattle.plan_filling.specs.declared.sheet.Halt.TheVariants as halt

@@ -1,8 +1,7 @@
 -- Which line is found for a cell.
 use Rattle.std.specs.Prelude.{◌≡◌, ℕ, ◌<◌, length, true, Some}
 use Rattle.arm_value.specs.View.{json}
-use Rattle.deploy_cells.specs.Cells.{Cell, parameter, variable, offered, output, count, included, name, deployments}
-use Rattle.deploy_cells.specs.Cells.{state, copies}
+use Rattle.plan_filling.specs.Cells.{Cell, parameter, variable, offered, output, count, included, name, deployments, state, copies}
 use Rattle.plan_filling.specs.Children.{Has, parameter_names, variable_names, output_names}
 use Rattle.plan_table.specs.declared.table.Table.{Table}
 use Rattle.plan_table.specs.declared.line.State.{State}

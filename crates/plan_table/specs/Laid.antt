@@ -2,7 +2,7 @@
 use Rattle.std.specs.Prelude.{◌≡◌, ◌⊎◌, ℕ, ◌<◌, List, [], ◌∷◌, true, false, length, Some, None}
 use Rattle.arm_value.specs.Json.{Json}
 use Rattle.arm_value.specs.View.{json}
-use Rattle.deploy_cells.specs.Cells.{step, copies}
+use Rattle.plan_filling.specs.Cells.{step, copies}
 use Rattle.plan_filling.specs.Resources.{Nested, nested_at}
 use Rattle.plan_filling.specs.Meaning.{Deployment}
 use Rattle.plan_table.specs.declared.line.Line.{Line}

@@ -11,3 +11,4 @@ pub use Rattle.plan_filling.specs.Rows
 pub use Rattle.plan_filling.specs.Sound
 pub use Rattle.plan_filling.specs.Final
 pub use Rattle.plan_filling.specs.Steps
+pub use Rattle.arm_env.specs.Look

@@ -3,8 +3,7 @@ use Rattle.std.specs.Prelude.{◌≡◌, ℕ, ◌<◌, Bool, true, false, List, 
 use Rattle.std.specs.Prelude.{slice_set, Some}
 use Rattle.arm_value.specs.View.{json}
 use Rattle.arm_value.specs.declared.value.Value.{Value}
-use Rattle.deploy_cells.specs.Cells.{Step, step, Position, Cell, parameter, variable, offered, output, count, included}
-use Rattle.deploy_cells.specs.Cells.{name, deployments, state}
+use Rattle.plan_filling.specs.Cells.{Step, step, Position, Cell, parameter, variable, offered, output, count, included, name, deployments, state}
 use Rattle.plan_filling.specs.Resources.{Listed}
 use Rattle.plan_filling.specs.Children.{parameter_names, variable_names, output_names}
 use Rattle.plan_filling.specs.Rows as rows

@@ -5,7 +5,7 @@ use Rattle.arm_env.specs.declared.env.Looping.{Looping}
 use Rattle.template_parts.specs.declared.mode.Form.TheVariants.{One}
 use Rattle.template_tree.specs.Tree.{TemplateTree, template, no_resources}
 use Rattle.template_tree.specs.View.{template_tree}
-use Rattle.deploy_cells.specs.Cells.{Step, step, Position}
+use Rattle.plan_filling.specs.Cells.{Step, step, Position}
 use Rattle.plan_filling.specs.Resources.{Listed, Nested, resources_in}
 use Rattle.plan_filling.specs.Scopes.{template_at, owner, loops_around, loop_of, is_outer_scope}
 use Rattle.plan_filling.specs.Meaning as meaning

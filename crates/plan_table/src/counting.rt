@@ -1,7 +1,7 @@
 // How many instances a table has, and which are too many.
 ghost use Rattle.std.specs.Prelude.{◌≡◌, ◌+◌, ◌<◌, ◌≤◌, length, slice_set, slice_index_or, IfOk, IfErr, Some};
 ghost use Rattle.arm_value.specs.View.{json};
-ghost use Rattle.deploy_cells.specs.Cells.{copies};
+ghost use Rattle.plan_filling.specs.Cells.{copies};
 ghost use Rattle.plan_table.specs.Counted.{Exceeds};
 
 use arm_value::Value;

@@ -4,7 +4,7 @@ ghost use Rattle.std.specs.Prelude.{slice_get, true, false};
 ghost use Rattle.reading.specs.World.{Each};
 ghost use Rattle.arm_value.specs.Json.{Json};
 ghost use Rattle.arm_value.specs.View.{json};
-ghost use Rattle.deploy_cells.specs.Cells.{copies};
+ghost use Rattle.plan_filling.specs.Cells.{copies};
 ghost use Rattle.plan_filling.specs.Resources as cells;
 ghost use Rattle.plan_filling.specs.Children.{children};
 ghost use Rattle.plan_filling.specs.Rows.{row_at, with_status, with_value, fresh, IsUnfinished, AreDistinct};

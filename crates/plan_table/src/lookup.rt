@@ -1,8 +1,7 @@
 // Where the line of a cell is.
 ghost use Rattle.std.specs.Prelude.{◌≡◌, ◌∷◌, ◌<◌, ℕ, IfOk, MatchOption, length};
 ghost use Rattle.arm_value.specs.Look.{fold};
-ghost use Rattle.deploy_cells.specs.Cells.{step, parameter, variable, offered, output, count, included, name};
-ghost use Rattle.deploy_cells.specs.Cells.{deployments};
+ghost use Rattle.plan_filling.specs.Cells.{step, parameter, variable, offered, output, count, included, name, deployments};
 ghost use Rattle.plan_filling.specs.Children.{Has, parameter_names, variable_names, output_names};
 ghost use Rattle.plan_table.specs.Lines.{IsNumber};
 ghost use Rattle.plan_table.specs.Whole.{IsLaid};

@@ -3,6 +3,7 @@ use Rattle.std.proofs.Common.{◌≡◌, ℕ, zero, suc, ◌/◌, Bool, true, fa
 use Rattle.std.proofs.Common.{length, Option, Some, None, refl, sym, ap, subst, ◌∙◌, arith}
 use Rattle.std.specs.Prelude.{nat_eq, ◌&&◌, ◌||◌, bytes_eq}
 use Rattle.std.specs.List.{list_any}
+use Rattle.foundation.proofs.Comparisons.{eq_of_true}
 use Rattle.arm_ids.specs.Segments.{is_front}
 use Rattle.arm_ids.specs.Parent.{begins}
 use Rattle.arm_ids.specs.declared.id.ResourceId.{ResourceId}
@@ -11,7 +12,7 @@ use Rattle.template_parts.specs.declared.looping.Batches.TheVariants.{Parallel, 
 use Rattle.template_parts.specs.declared.looping.ResourceCopy.{ResourceCopy}
 use Rattle.deploy_cells.specs.Cells.{Step, Position, Cell, deployments}
 use Rattle.deploy_cells.specs.Same.{same_id, same_position, same_texts, same}
-use Rattle.deploy_cells.proofs.SameLemmas.{cell_is, cell_same}
+use Rattle.deploy_cells.proofs.SameLemmas.{cell_is, cell_same, position_is}
 use Rattle.plan_cells.specs.Scopes.{resource_of}
 use Rattle.plan_cells.specs.Meaning.{Deployment}
 use Rattle.plan_cells.specs.Tasks.{Task, enter, leave, put, delete}
@@ -22,8 +23,6 @@ use Rattle.plan_tags.specs.Tags.{Tag, entry, inside, before, root_left, child_of
 use Rattle.plan_tags.specs.Tags.{by_copy, by_instance, first_ones, parent_by, entry_tags, delete_tags, leave_asks}
 use Rattle.plan_tags.specs.Tags.{delete_asks, tags_of, asks_of}
 use Rattle.foundation.proofs.TruthValues.{or_assoc, or_false, and_false_is, or_crossed, both_ways}
-
--- ---- truth values
 
 -- ---- what lists share
 
@@ -310,16 +309,6 @@ module _ (d : Deployment) where
       by_kind Parallel = no_batch p q r t.resource
       by_kind (Serial size) = one_shared (before p r n) (before q t.resource (suc (t.copy / size)))
 
-  numbers_are : (r s : ℕ) → nat_eq r s ≡ true → r ≡ s
-  numbers_are r s e = grind (arith, e)
-
-  positions_are : (p q : Position) → same_position p q ≡ true → p ≡ q
-  positions_are p q e = ap position_in (cell_is (deployments p) (deployments q) e)
-    where
-      position_in : Cell → Position
-      position_in (deployments p) = p
-      position_in _ = []
-
   abbrev copy_at : Position → Step → Option ResourceCopy
   copy_at p s = copy_of d (resource_of d.template p s.resource)
 
@@ -331,8 +320,8 @@ module _ (d : Deployment) where
     where
       same_copy : same_position p q ≡ true → nat_eq s.resource t.resource ≡ true → copy_at q t ≡ Some c
       same_copy a b =
-          ap (λ x. copy_of d (resource_of d.template x t.resource)) (sym (positions_are p q a))
-          ∙ ap (λ r. copy_of d (resource_of d.template p r)) (sym (numbers_are s.resource t.resource b)) ∙ e
+          ap (λ x. copy_of d (resource_of d.template x t.resource)) (sym (position_is p q a))
+          ∙ ap (λ r. copy_of d (resource_of d.template p r)) (sym (eq_of_true s.resource t.resource b)) ∙ e
 
       by_kind : (b : Batches) → c.batches ≡ b
           → shares (by_batch (λ n. n) p s b) (by_copy (λ n. suc n) q t (copy_at q t))

@@ -1,1 +1,10 @@
 pub mod Tags
+pub use Rattle.plan_cells.specs.Known
+pub use Rattle.plan_cells.specs.Meaning
+pub use Rattle.plan_cells.specs.Needs
+pub use Rattle.plan_cells.specs.Resources
+pub use Rattle.plan_cells.specs.Scopes
+pub use Rattle.plan_cells.specs.Sites
+pub use Rattle.plan_cells.specs.Tasks
+pub use Rattle.plan_cells.specs.Titles
+pub use Rattle.plan_cells.specs.Trees

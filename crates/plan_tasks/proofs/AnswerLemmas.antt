@@ -1,8 +1,8 @@
 -- Where rows have values, what they are known to be at the start has them.
 use Rattle.std.proofs.Common.{◌≡◌, ◌⊎◌, inl, inr, ℕ, suc, true, false, true≢false, List, [], ◌∷◌}
 use Rattle.std.proofs.Common.{Option, Some, None, refl, sym, ap, ◌∙◌, arith}
-use Rattle.std.specs.Prelude.{◌||◌, not, nat_lt}
-use Rattle.foundation.proofs.Comparisons.{lt_of_true}
+use Rattle.std.specs.Prelude.{◌||◌, not}
+use Rattle.foundation.proofs.Comparisons.{not_below_zero}
 use Rattle.arm_value.specs.Json.{Json}
 use Rattle.reading.specs.Knowledge.{known, absent, blanked, known_value}
 use Rattle.deploy_cells.specs.Cells.{Cell, parameter, variable, offered, output, count, included, name}
@@ -85,14 +85,10 @@ parent_asked (output p x) e a i = absurd (true≢false (sym a))
 parent_asked (deployments p) e a i = absurd (true≢false (sym a))
 parent_asked (state k) e a i = absurd (true≢false (sym a))
 
--- without a value nothing is admitted
-no_index : (i : ℕ) → nat_lt i 0 ≡ true → ⊥
-no_index i h = let l = lt_of_true i 0 h in omega (arith, l)
-
 never_admitted : (c : Cell) → is_asked c ≡ true → admits c None ≡ true → ⊥
 never_admitted (count p r) a h = true≢false (sym h)
-never_admitted (included p s) a h = no_index s.copy h
-never_admitted (name p s) a h = no_index s.copy h
+never_admitted (included p s) a h = not_below_zero s.copy h
+never_admitted (name p s) a h = not_below_zero s.copy h
 never_admitted (parameter p x) a h = true≢false (sym a)
 never_admitted (variable p x) a h = true≢false (sym a)
 never_admitted (offered p x) a h = true≢false (sym a)

@@ -1,8 +1,10 @@
 -- The keys of instances, and those at which tasks put.
 use Rattle.std.proofs.Common.{◌≡◌, ℕ, zero, suc, ◌+◌, ◌<◌, ◌≤◌, false, List, [], ◌∷◌, ◌++◌, map, length, drop}
 use Rattle.std.proofs.Common.{get_or, Option, Some, None, refl, sym, ap, subst, ◌∙◌, arith, append_assoc}
-use Rattle.std.proofs.lemmas.List.{length-map}
+use Rattle.std.proofs.lemmas.List.{length-map, append-nil}
 use Rattle.std.specs.Prelude.{slice_get, option_map, option_and_then, if◌then◌else◌}
+use Rattle.foundation.proofs.Comparisons.{lt_true}
+use Rattle.foundation.proofs.Lists.{next_item, nothing_left}
 use Rattle.arm_value.specs.Json.{Json}
 use Rattle.arm_ids.specs.declared.id.ResourceId.{ResourceId}
 use Rattle.reading.specs.World.{Each}
@@ -39,7 +41,6 @@ use Rattle.plan_tasks.proofs.TableLemmas.{line_known, line_is}
 use Rattle.plan_tasks.proofs.BodyLemmas.{listed_is}
 use Rattle.plan_tasks.specs.InOrder.{copies_in}
 use Rattle.plan_tasks.proofs.AnswerLemmas.{cells_answered}
-use Rattle.plan_tasks.proofs.ToldLemmas.{lt_is_true}
 
 -- ---- of one instance
 
@@ -167,7 +168,7 @@ module _ (t : Table) where
       cells_answered d _ s.filled s.answered (name (scope_at t f).position (step r i)) refl
       (name_value d (scope_at t f).position (step r i) x)
       (ap (option_map (name_value d (scope_at t f).position (step r i))) is)
-      (lt_is_true i (copies_in q (scope_at t f).position r) h.within)
+      (lt_true i (copies_in q (scope_at t f).position r) h.within)
 
   -- the keys of all tasks are these, and those of the tasks from number i on
   abbrev pub KeysLeft : List ScopeTask → ℕ → List ResourceId → Type 0
@@ -190,17 +191,6 @@ module _ (t : Table) where
   moved no_value k ks = refl
   moved (waits c) k ks = refl
 
-  drop_suc : (xs : List ScopeTask) (i : ℕ) (x : ScopeTask) → i < length xs → x ≡ get_or xs i x
-      → drop i xs ≡ x ∷ drop (suc i) xs
-  drop_suc [] i x h e = absurd (omega (arith, h))
-  drop_suc (y ∷ ys) zero x h e = ap (λ (z : ScopeTask). z ∷ ys) (sym e)
-  drop_suc (y ∷ ys) (suc i) x h e = drop_suc ys i x (omega (arith, h)) e
-
-  drop_here : (xs : List ScopeTask) (i : ℕ) (x : ScopeTask) → i < length xs → x ≡ get_or xs i x
-      → drop i xs ≡ x ∷ drop (i + 1) xs
-  drop_here xs i x h e =
-      drop_suc xs i x h e ∙ ap (λ (j : ℕ). x ∷ drop j xs) (let z : suc i ≡ i + 1 = omega arith in z)
-
   each_at : (P : ScopeTask → Type 0) (xs : List ScopeTask) (i : ℕ) (x : ScopeTask) → Each P xs → i < length xs
       → x ≡ get_or xs i x → P x
   each_at P [] i x a h e = absurd (omega (arith, h))
@@ -216,7 +206,7 @@ module _ (t : Table) where
   put_here all i f r j ks o s n h e k c =
       let v = name_known f r j s n in
       c ∙ ap (λ (xs : List ScopeTask). and_then (told q (put_keys d (tasks_of xs))) (λ ls. value (ks ++ ls)))
-      (drop_here all i (Put f r j) h e)
+      (next_item all i (Put f r j) h e)
       ∙ ap (λ x. and_then x (λ ls. value (ks ++ ls)))
       (put_then d q (scope_at t f).position (step r j) v.0 (tasks_of (drop (i + 1) all)) v.1)
       ∙ ap (λ y. and_then (with_key d q y (told q (put_keys d (tasks_of (drop (i + 1) all)))))
@@ -248,19 +238,13 @@ module _ (t : Table) where
       → x ≡ get_or all i x → x ≡ Enter f → KeysLeft all i ks → KeysLeft all (i + 1) ks
   keys_enter all i f x ks h e p c =
       c ∙ ap (λ (xs : List ScopeTask). and_then (told q (put_keys d (tasks_of xs))) (λ ls. value (ks ++ ls)))
-      (drop_here all i x h e ∙ ap (λ (y : ScopeTask). y ∷ drop (i + 1) all) p)
+      (next_item all i x h e ∙ ap (λ (y : ScopeTask). y ∷ drop (i + 1) all) p)
 
   pub keys_leave : (all : List ScopeTask) (i f : ℕ) (x : ScopeTask) (ks : List ResourceId) → i < length all
       → x ≡ get_or all i x → x ≡ Leave f → KeysLeft all i ks → KeysLeft all (i + 1) ks
   keys_leave all i f x ks h e p c =
       c ∙ ap (λ (xs : List ScopeTask). and_then (told q (put_keys d (tasks_of xs))) (λ ls. value (ks ++ ls)))
-      (drop_here all i x h e ∙ ap (λ (y : ScopeTask). y ∷ drop (i + 1) all) p)
-
-  nothing_left : (xs : List ScopeTask) (i : ℕ) → length xs ≤ i → drop i xs ≡ []
-  nothing_left [] zero h = refl
-  nothing_left [] (suc i) h = refl
-  nothing_left (x ∷ xs) zero h = absurd (omega (arith, h))
-  nothing_left (x ∷ xs) (suc i) h = nothing_left xs i (omega (arith, h))
+      (next_item all i x h e ∙ ap (λ (y : ScopeTask). y ∷ drop (i + 1) all) p)
 
   pub keys_end : (all : List ScopeTask) (i : ℕ) (ks : List ResourceId) → length all ≤ i → KeysLeft all i ks
       → told q (put_keys d (tasks_of all)) ≡ value ks
@@ -268,11 +252,7 @@ module _ (t : Table) where
       c ∙ ap (λ (xs : List ScopeTask). and_then (told q (put_keys d (tasks_of xs))) (λ ls. value (ks ++ ls)))
       (nothing_left all i h)
       ∙ ap (λ x. and_then x (λ ls. value (ks ++ ls))) (is_pure d q [])
-      ∙ ap value (nil_right ks)
-    where
-      nil_right : (xs : List ResourceId) → xs ++ [] ≡ xs
-      nil_right [] = refl
-      nil_right (y ∷ ys) = ap (λ zs. y ∷ zs) (nil_right ys)
+      ∙ ap value (append-nil ks)
 
   -- ---- by the item at an index
 

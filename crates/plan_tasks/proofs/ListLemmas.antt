@@ -1,7 +1,7 @@
 -- Lists of tasks, as they get more.
 use Rattle.std.proofs.Common.{◌≡◌, ℕ, zero, suc, ◌+◌, ◌-◌, ◌<◌, ◌≤◌, Bool, true, false, List, [], ◌∷◌, ◌++◌, map}
 use Rattle.std.proofs.Common.{length, drop, Some, None, refl, sym, ap, subst, ◌∙◌, arith, append_assoc}
-use Rattle.std.proofs.lemmas.List.{length-map, map-append}
+use Rattle.std.proofs.lemmas.List.{length-map, map-append, append-nil}
 use Rattle.std.specs.Prelude.{slice_get, if◌then◌else◌}
 use Rattle.reading.specs.World.{Each}
 use Rattle.reading.specs.Knowledge.{told, value}
@@ -35,10 +35,6 @@ each_more P ts us x e p h = subst (λ (vs : List ScopeTask). Each P vs) (sym e) 
     joined [] h = (p, tt)
     joined (v ∷ vs) h = (h.0, joined vs h.1)
 
-nil_right : (xs : List Task) → xs ++ [] ≡ xs
-nil_right [] = refl
-nil_right (y ∷ ys) = ap (λ zs. y ∷ zs) (nil_right ys)
-
 -- the tasks of an instance
 abbrev pub instance_in_order : Table → ℕ → ℕ → ℕ → Listed → List Task
 instance_in_order t f r i x =
@@ -68,7 +64,7 @@ pub left_away : (t : Table) (f r i : ℕ) (ts : List ScopeTask) (x : Listed)
     → is_in (start_of t) (scope_at t f).position (step r i) ≡ false
     → tasks_in t ts ≡ tasks_in t ts ++ instance_in_order t f r i x
 left_away t f r i ts x e =
-    sym (nil_right (tasks_in t ts))
+    sym (append-nil (tasks_in t ts))
     ∙ ap (λ b. tasks_in t ts ++ (if b
     then body_in_order (start_of t) (scope_at t f).position (step r i) x.content else [])) (sym e)
 
@@ -143,7 +139,7 @@ pub copies_end : (t : Table) (f r i n : ℕ) (all now : List ScopeTask) → n �
     → (x : Listed) → slice_get (scope_at t f).resources r ≡ Some x
     → tasks_in t now ≡ tasks_in t all ++ resource_in_order (start_of t) (scope_at t f).position r x
 copies_end t f r i n all now h c x e =
-    sym (nil_right (tasks_in t now))
+    sym (append-nil (tasks_in t now))
     ∙ ap (λ m. tasks_in t now ++ instances_in_order (start_of t) (scope_at t f).position r
     (λ s. body_in_order (start_of t) (scope_at t f).position s x.content) i m)
     (let z : 0 ≡ n - i = omega (arith, h) in z)
@@ -195,7 +191,7 @@ resources_end t f r n old all now new s there size stop most e g c =
     (arith, there, m)) in
     let at : r ≡ length xs = omega (arith, stop, most, size) in
     let all_done : tasks_in t now ≡ tasks_in t all ++ listed_in_order q p 0 xs =
-    sym (nil_right (tasks_in t now)) ∙ ap (λ ys. tasks_in t now ++ ys) (sym (no_more_resources q p xs))
+    sym (append-nil (tasks_in t now)) ∙ ap (λ ys. tasks_in t now ++ ys) (sym (no_more_resources q p xs))
     ∙ ap (λ j. tasks_in t now ++ listed_in_order q p j (drop j xs)) (sym at) ∙ c in
     pushed t now new (Leave f) g ∙ ap (λ ys. ys ++ leave p ∷ []) all_done
     ∙ ap (λ ys. (ys ++ listed_in_order q p 0 xs) ++ leave p ∷ []) (pushed t old all (Enter f) e)
@@ -232,5 +228,3 @@ all_listed t ts s e =
     root =
         ap (scope_in_order (start_of t) []) template_is
         ∙ ap (λ p. scope_in_order (start_of t) p (scope_at t 0).template) (sym s.laid.root)
-
--- ---- results

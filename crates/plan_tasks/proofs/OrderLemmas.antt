@@ -3,6 +3,7 @@ use Rattle.std.proofs.Common.{◌≡◌, ℕ, zero, suc, ◌+◌, List, [], ◌�
 use Rattle.std.proofs.Common.{None}
 use Rattle.std.proofs.Common.{refl, sym, ap, ◌∙◌, arith, append_assoc}
 use Rattle.std.specs.Prelude.{slice_get}
+use Rattle.foundation.proofs.Lists.{got_next}
 use Rattle.template_tree.specs.Tree.{TemplateTree, template, ResourceTree, resource, Trees, no_resources, a_resource}
 use Rattle.deploy_cells.specs.Cells.{Position}
 use Rattle.plan_cells.specs.Known.{Table}
@@ -63,14 +64,9 @@ module _ (q : Table) (p : Position) where
 
 -- ---- one resource, and one instance, after another
 
-drop_here : (xs : List Listed) (r : ℕ) (x : Listed) → slice_get xs r ≡ Some x → drop r xs ≡ x ∷ drop (suc r) xs
-drop_here [] r x e = let f : None ≡ Some x = e in absurd (cc)
-drop_here (y ∷ ys) zero x e = let f : y ≡ x = cc in ap (λ z. z ∷ ys) f
-drop_here (y ∷ ys) (suc r) x e = drop_here ys r x e
-
 pub next_resource : (q : Table) (p : Position) (xs : List Listed) (r : ℕ) (x : Listed) → slice_get xs r ≡ Some x
     → listed_in_order q p r (drop r xs) ≡ resource_in_order q p r x ++ listed_in_order q p (suc r) (drop (suc r) xs)
-next_resource q p xs r x e = ap (listed_in_order q p r) (drop_here xs r x e)
+next_resource q p xs r x e = ap (listed_in_order q p r) (got_next xs r x e)
 
 pub no_more_resources : (q : Table) (p : Position) (xs : List Listed)
     → listed_in_order q p (length xs) (drop (length xs) xs) ≡ []

@@ -2,7 +2,7 @@
 use Rattle.std.proofs.Common.{◌≡◌, inl, inr, ℕ, zero, suc, ◌+◌, ◌<◌, Bool, true, false, true≢false, List, [], ◌∷◌}
 use Rattle.std.proofs.Common.{length, get_or, Option}
 use Rattle.std.proofs.Common.{Some, None, refl, sym, ap, subst, ◌∙◌, arith}
-use Rattle.std.proofs.lemmas.List.{length-map}
+use Rattle.std.proofs.lemmas.List.{length-map, get_or_default}
 use Rattle.std.specs.Prelude.{slice_get, option_map, option_and_then, MatchOption, if◌then◌else◌}
 use Rattle.reading.specs.Knowledge.{known_value}
 use Rattle.template_tree.specs.Tree.{TemplateTree}
@@ -251,13 +251,8 @@ line_there P o j e h = subst (λ x. MatchOption x (Unit {0}) P) e h
 pub no_line : (P : Type 0) (o : Option ℕ) → o ≡ None → MatchOption o P (λ _. Unit {0}) → P
 no_line P o e h = subst (λ x. MatchOption x P (λ _. Unit {0})) e h
 
-get_any : {A : Type 0} (xs : List A) (i : ℕ) (d e : A) → i < length xs → get_or xs i d ≡ get_or xs i e
-get_any [] i d e h = absurd (omega (arith, h))
-get_any (x ∷ xs) zero d e h = refl
-get_any (x ∷ xs) (suc i) d e h = get_any xs i d e (omega (arith, h))
-
 pub line_is : (ls : List Line) (j : ℕ) (l : Line) → j < length ls → l ≡ get_or ls j l → line_at ls j ≡ l
-line_is ls j l h e = get_any ls j _ l h ∙ sym e
+line_is ls j l h e = get_or_default ls j _ l h ∙ sym e
 
 -- whether the row of a line is answered
 pub row_answered : (t : Table) (j : ℕ) (l : Line) (b : Bool) → j < length t.lines.items → l ≡ get_or t.lines.items j l

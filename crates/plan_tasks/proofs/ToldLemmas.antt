@@ -1,7 +1,8 @@
 -- Where counts and conditions have values, the tasks that are told are those in their order.
 use Rattle.std.proofs.Common.{◌≡◌, ℕ, zero, suc, ◌+◌, ◌<◌, Bool, true, false, List, [], ◌∷◌, ◌++◌, length, Option, Some}
 use Rattle.std.proofs.Common.{None, refl, sym, ap, ◌∙◌, arith}
-use Rattle.std.specs.Prelude.{nat_lt, slice_get, option_map, option_and_then, if◌then◌else◌}
+use Rattle.std.specs.Prelude.{slice_get, option_map, option_and_then, if◌then◌else◌}
+use Rattle.foundation.proofs.Comparisons.{lt_true}
 use Rattle.arm_value.specs.Json.{Json}
 use Rattle.reading.specs.Reading.{onward, pure, read, continued}
 use Rattle.reading.specs.Knowledge.{known, value, told, by_entry, and_then, blanked, known_value}
@@ -24,9 +25,6 @@ use Rattle.plan_tasks.specs.InOrder.{tree_in_order, body_in_order}
 use Rattle.plan_tasks.proofs.OrderLemmas.{tree_length}
 use Rattle.arm_value.specs.Kinds.{is_true}
 use Rattle.plan_cells.proofs.TaskLemmas.{get_left, get_right}
-
-pub lt_is_true : (i n : ℕ) → i < n → nat_lt i n ≡ true
-lt_is_true i n l = grind (arith, l)
 
 module _ (q : Table) where
   -- ---- readings one after another
@@ -134,7 +132,7 @@ module _ (d : Deployment) (q : Table) (answered : AreAnswered d q) where
   unfolding raw
   has_condition p r j y e l =
       answered (included p (step r j)) refl (included_value d p (step r j) y)
-      (ap (option_map (included_value d p (step r j))) e) (lt_is_true j (copies_in q p r) l)
+      (ap (option_map (included_value d p (step r j))) e) (lt_true j (copies_in q p r) l)
 
   first_of : (p : Position) (t : TemplateTree) (r : ℕ) (y : Listed) (ys : List Listed) → IsPart p t r (y ∷ ys)
       → slice_get (resources_in t) r ≡ Some y

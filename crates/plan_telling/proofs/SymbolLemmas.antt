@@ -7,8 +7,8 @@ use Rattle.reading.specs.World.{Each}
 use Rattle.arm_value.specs.View.{json}
 use Rattle.arm_eval.specs.Titles as titles
 use Rattle.deploy_cells.specs.Cells.{step}
-use Rattle.plan_cells.specs.Scopes.{template_at}
-use Rattle.plan_cells.specs.Sites.{symbol_by, symbols_in, title_in, listed_at_scope}
+use Rattle.plan_sight.specs.Scopes.{template_at}
+use Rattle.plan_sight.specs.Sites.{symbol_by, symbols_in, title_in, listed_at_scope}
 use Rattle.plan_table.specs.declared.frame.Instance.{Instance}
 use Rattle.plan_table.specs.declared.frame.Frame.{Frame}
 use Rattle.plan_table.specs.declared.listed.Listed.{Listed}

@@ -18,11 +18,10 @@ use Rattle.template_tree.specs.View.{template_tree}
 use Rattle.deploy_cells.specs.Cells.{Position, Cell, state}
 use Rattle.deploy_cells.specs.Followed.{followed}
 use Rattle.deploy_cells.specs.Guarded.{Reads}
-use Rattle.plan_cells.specs.Scopes.{template_at, owner, own_place}
-use Rattle.plan_cells.specs.Sites as sites
-use Rattle.plan_cells.specs.Sites.{value_of, looked_up, listed_at_scope, symbols_in, titles_at, surroundings}
-use Rattle.plan_cells.specs.Sites.{reading_at}
-use Rattle.plan_filling.specs.Rows.{status_of, table, known_by}
+use Rattle.plan_sight.specs.Scopes.{template_at, owner, own_place}
+use Rattle.plan_sight.specs.Sites as sites
+use Rattle.plan_sight.specs.Sites.{value_of, looked_up, listed_at_scope, symbols_in, titles_at, surroundings, reading_at}
+use Rattle.plan_table.specs.Rows.{status_of, table, known_by}
 use Rattle.plan_table.specs.declared.table.Table.{Table}
 use Rattle.plan_table.specs.declared.frame.Frame.{Frame}
 use Rattle.plan_table.specs.declared.line.Line.{Line}

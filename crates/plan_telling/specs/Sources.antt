@@ -9,8 +9,8 @@ use Rattle.arm_eval.specs.Outputs.{content_value, a_copy}
 use Rattle.template_tree.specs.View.{template_tree}
 use Rattle.deploy_cells.specs.Guarded.{Reads}
 use Rattle.deploy_cells.specs.Followed.{followed}
-use Rattle.plan_cells.specs.Sites as sites
-use Rattle.plan_cells.specs.Sites.{looked_up, reading_at, reading_in}
+use Rattle.plan_sight.specs.Sites as sites
+use Rattle.plan_sight.specs.Sites.{looked_up, reading_at, reading_in}
 use Rattle.plan_table.specs.declared.table.Table.{Table}
 use Rattle.plan_table.specs.Whole.{whole_of}
 use Rattle.plan_table.specs.Found.{scope_at}

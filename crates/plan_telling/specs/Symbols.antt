@@ -3,8 +3,8 @@ use Rattle.std.specs.Prelude.{◌≡◌, List, [], ◌∷◌, map, Option, Some,
 use Rattle.reading.specs.World.{Each}
 use Rattle.arm_eval.specs.Titles as titles
 use Rattle.template_tree.specs.Tree.{TemplateTree}
-use Rattle.plan_cells.specs.Scopes.{template_at}
-use Rattle.plan_cells.specs.Sites.{symbols_in, listed_at_scope}
+use Rattle.plan_sight.specs.Scopes.{template_at}
+use Rattle.plan_sight.specs.Sites.{symbols_in, listed_at_scope}
 use Rattle.plan_table.specs.Opened.{Opened, step_of}
 use Rattle.plan_table.specs.Whole.{whole_of}
 use Rattle.plan_sight.specs.Ready.{IsReady}

@@ -8,7 +8,7 @@ ghost use Rattle.arm_env.specs.Look.{Fact, Looking};
 ghost use Rattle.reading.specs.Knowledge.{Told, told, waits};
 ghost use Rattle.deploy_cells.specs.Cells as cells;
 ghost use Rattle.deploy_cells.specs.Cells.{state};
-ghost use Rattle.plan_cells.specs.Sites.{named_by_texts};
+ghost use Rattle.plan_sight.specs.Sites.{named_by_texts};
 ghost use Rattle.plan_table.specs.declared.table.Table.{Table};
 ghost use Rattle.plan_table.specs.Found.{scope_at};
 ghost use Rattle.plan_table.specs.Whole.{whole_of};

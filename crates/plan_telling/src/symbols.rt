@@ -2,7 +2,7 @@
 ghost use Rattle.std.specs.Prelude.{◌≡◌, ◌++◌, IfOk, Some, is_some, map, option_map};
 ghost use Rattle.arm_value.specs.View.{json};
 ghost use Rattle.arm_eval.specs.Words.{listed_in};
-ghost use Rattle.plan_cells.specs.Sites.{symbol_by, symbols_in, title_in};
+ghost use Rattle.plan_sight.specs.Sites.{symbol_by, symbols_in, title_in};
 ghost use Rattle.plan_table.specs.Listed.{listed_of};
 ghost use Rattle.plan_telling.specs.Symbols.{symbolic, if_symbolic};
 

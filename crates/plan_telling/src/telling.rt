@@ -4,7 +4,7 @@ ghost use Rattle.arm_value.specs.View.{json};
 ghost use Rattle.arm_eval.specs.Titles.{titled};
 ghost use Rattle.arm_eval.specs.Words.{listed_in};
 ghost use Rattle.reading.specs.Reading.{through};
-ghost use Rattle.plan_cells.specs.Sites.{titles_at, surroundings};
+ghost use Rattle.plan_sight.specs.Sites.{titles_at, surroundings};
 ghost use Rattle.plan_table.specs.Found.{scope_at};
 ghost use Rattle.plan_table.specs.Whole.{whole_of};
 ghost use Rattle.plan_sight.specs.Ready.{told_in};

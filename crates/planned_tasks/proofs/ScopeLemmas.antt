@@ -2,6 +2,8 @@
 use Rattle.std.proofs.Common.{◌≡◌, inl, inr, ℕ, zero, suc, ◌+◌, Bool, true, false, List, [], ◌∷◌, ◌++◌}
 use Rattle.std.proofs.Common.{Option, Some, None, refl, sym, subst, ◌∙◌}
 use Rattle.std.specs.Prelude.{option_and_then, if◌then◌else◌}
+use Rattle.std.proofs.lemmas.Option.{same_Some}
+use Rattle.plan_cells.proofs.TaskLemmas.{some_true}
 use Rattle.arm_value.specs.Json.{Json, bool}
 use Rattle.arm_value.specs.Kinds.{is_true}
 use Rattle.reading.specs.Reading.{pure, read, continued}
@@ -17,11 +19,7 @@ use Rattle.plan_cells.specs.Tasks as tasks
 use Rattle.plan_cells.specs.Tasks.{Task, enter, leave, put, delete, where_included, instance_tasks, instances_tasks}
 use Rattle.plan_cells.specs.Tasks.{all_instances, template_tasks, trees_tasks, tree_tasks, body_tasks}
 use Rattle.plan_cells.proofs.ListLemmas.{has_joined}
-use Rattle.history_laws.proofs.OneWorld.{some_true}
 use Rattle.history_starts.proofs.Listed.{both_of, scope_list}
-
-same_list : {A : Type 0} (a b : A) → Some a ≡ Some b → a ≡ b
-same_list a b e = cc
 
 module _ (w : World) where
   -- the task is one of a scope
@@ -46,7 +44,7 @@ module _ (w : World) where
 
   nothing_read : (ts : List Task) → value_in w (pure []) ≡ Some ts → AreOfScopes ts
   unfolding value_in
-  nothing_read ts e = subst AreOfScopes (same_list [] ts e) (λ t h. absurd h)
+  nothing_read ts e = subst AreOfScopes (same_Some [] ts e) (λ t h. absurd h)
 
   by_cell : (c : Cell) (o : Option Json) (f : Json → Reads (List Task)) (ts : List Task) → w c ≡ o
       → option_and_then (λ v. value_in w (f v)) o ≡ Some ts
@@ -97,7 +95,7 @@ module _ (w : World) where
   one_put : (p : Position) (s : Step) (ts : List Task) → w (included p s) ≡ Some (bool true)
       → value_in w (pure (put p s ∷ [])) ≡ Some ts → AreOfScopes ts
   unfolding value_in
-  one_put p s ts i e = subst AreOfScopes (same_list (put p s ∷ []) ts e) (one_good (put p s) i)
+  one_put p s ts i e = subst AreOfScopes (same_Some (put p s ∷ []) ts e) (one_good (put p s) i)
 
   mutual
     pub of_template : (t : TemplateTree) (p : Position) (ts : List Task) → value_in w (template_tasks p t) ≡ Some ts

@@ -79,6 +79,10 @@ const NO_VALUE: &str = r#"{§,"parameters":{"p":{"type":"object","defaultValue":
 {§,"resources":[{¶,"name":"m","properties":{«,"template":{§,"parameters":{"p":{"type":"object","defaultValue":{}}},
 "variables":{"v":"[parameters('p').x]"},"resources":[]}}}]}
 > NoValue /resources/0/properties/template/variables/v
+
+{§,"resources":[{¶,"name":"m","properties":{«,"template":{§,"resources":[],
+"outputs":{"o":{"type":"int","value":"[div(1, 0)]"}}}}}]}
+> tasks enter / enter /0.0/ leave /0.0/ leave /
 "#;
 
 const LIMITS: &str = r#"{§,"resources":[{¤,"name":"[format('x{0}', copyIndex())]",
@@ -87,6 +91,9 @@ const LIMITS: &str = r#"{§,"resources":[{¤,"name":"[format('x{0}', copyIndex()
 
 {§,"resources":[{¤,"name":"[format('x{0}', copyIndex())]",
 "copy":{"name":"l","count":"[add(9223372036854775806, 1)]"}}]}
+> Limit Count 9223372036854775807
+
+{§,"resources":[{¤,"name":"[format('x{0}', copyIndex())]","copy":{"name":"l","count":9223372036854775807}}]}
 > Limit Count 9223372036854775807
 
 {§,"resources":[{¤,"name":"[format('x{0}', copyIndex())]","copy":{"name":"l","count":"[add(799, 1)]"}},
@@ -121,6 +128,13 @@ const ONE_KEY: &str = r#"{§,"resources":[{¤,"name":"x"},{¤,"name":"X"}]}
 
 {§,"resources":[{¤,"name":"x"},{¤,"name":"x","condition":false}]}
 > tasks enter / put /0.0 leave /
+
+{§,"parameters":{"p":{"type":"bool","defaultValue":true}},"resources":[
+{¤,"name":"x","condition":"[parameters('p')]"},{¤,"name":"x","condition":"[not(parameters('p'))]"}]}
+> tasks enter / put /0.0 leave /
+
+{§,"resources":[{¤,"name":"x","condition":true},{¤,"name":"x","condition":"[equals(1, 1)]"}]}
+> SameKey /resources/0 /resources/1
 
 {§,"resources":[{¶,"name":"m","properties":{«,"template":{§,"resources":[
 {¶,"name":"m","properties":{«,"template":{§,"resources":[]}}}]}}}]}
@@ -158,6 +172,9 @@ const RULES: &str =
 > Bind /resources/0/copy/count WrongType count
 
 {§,"resources":[{¤,"name":"x","copy":{"name":"l","count":"[sub(0, 1)]"}}]}
+> Bind /resources/0/copy/count OutOfBounds count
+
+{§,"resources":[{¤,"name":"x","copy":{"name":"l","count":-1}}]}
 > Bind /resources/0/copy/count OutOfBounds count
 
 {§,"resources":[{¤,"name":"[add(1, 1)]"}]}
@@ -240,6 +257,9 @@ const TWO_KEYS: &str =
 const SYMBOLS: &str =
     r#"{§,"languageVersion":"2.0","resources":{"s":{¤,"name":"x"},"t":{¤,"name":"y","dependsOn":["x"]}}}
 > UnknownDependency /resources/t/dependsOn/0
+
+{§,"languageVersion":"2.0","resources":{"s":{¤,"name":"x","dependsOn":["nope"]}}}
+> UnknownDependency /resources/s/dependsOn/0
 
 {§,"languageVersion":"2.0","resources":{"s":{¤,"name":"x"},"t":{¤,"name":"y","dependsOn":["s","S"]}}}
 > UnknownDependency /resources/t/dependsOn/1

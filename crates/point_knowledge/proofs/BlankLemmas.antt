@@ -42,7 +42,7 @@ use Rattle.point_rows.specs.Rows.{known_now}
 use Rattle.point_rows.proofs.RowsNowLemmas.{apart_by, apart_back}
 use Rattle.point_rows.proofs.StateLemmas.{no_line}
 use Rattle.point_knowledge.specs.Steps.{IsBlank}
-use Rattle.point_knowledge.proofs.StartLemmas.{from_start}
+use Rattle.deploy_histories.proofs.StartLemmas.{from_start}
 
 -- a condition of an output, or an output
 abbrev pub is_given : Cell → Bool

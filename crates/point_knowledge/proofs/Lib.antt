@@ -1,3 +1,2 @@
-mod StartLemmas
 pub mod BlankLemmas
 pub mod StepLemmas

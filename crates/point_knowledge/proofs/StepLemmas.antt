@@ -2,6 +2,7 @@
 use Rattle.std.proofs.Common.{◌≡◌, ◌⊎◌, inl, inr, ℕ, zero, suc, ◌<◌, Bool, true, false, true≢false, List, [], ◌∷◌, ◌++◌}
 use Rattle.std.proofs.Common.{map, length, Option, Some, None, refl, sym, ap, subst, ◌∙◌, arith}
 use Rattle.std.specs.Prelude.{option_map, slice_get, slice_set, if◌then◌else◌}
+use Rattle.plan_cells.proofs.KnownLemmas.{same_entry}
 use Rattle.arm_value.specs.Json.{Json}
 use Rattle.arm_value.specs.View.{json}
 use Rattle.arm_value.specs.declared.value.Value.{Value}
@@ -39,12 +40,6 @@ use Rattle.point_rows.specs.Rows.{status_told, state_row, settled, rows_by, line
 use Rattle.point_rows.specs.Rows.{IsEntrySpot}
 use Rattle.point_knowledge.specs.Steps.{IsEntryOf, AddsEntry, AddsValue, IsStateThen}
 use Rattle.point_knowledge.proofs.BlankLemmas.{is_given, given_or_state}
-
-entry_is : (o u : Option Json) → entry_of o ≡ entry_of u → o ≡ u
-entry_is (Some v) (Some w) e = cc
-entry_is (Some v) None e = absurd (cc)
-entry_is None (Some w) e = absurd (cc)
-entry_is None None e = refl
 
 -- rows that say the same of a cell, or say this of the one cell
 module _ (at c : Cell) (k : Known Json) where
@@ -113,7 +108,7 @@ module _ (x : Planned) (p : Progress) (t : Table) (l m : Later) (s : StateAt) (s
       subst (λ (d : Cell). IsKnown (meaning x.deployment) (at_point (course x) (point x p.status)) d o) (sym q.0)
       (subst (λ (u : Option Json). IsKnown (meaning x.deployment) (at_point (course x) (point x p.status)) (state
       s.key) u)
-      (entry_is (option_map json s.state) o (sym q.1 ∙ e))
+      (same_entry (option_map json s.state) o (sym q.1 ∙ e))
       (is_outright (state s.key) (option_map json s.state) then_known.is_known))
 
   hides_more : (v : ℕ) (task : Task) (c : Cell) → slice_get x.tasks v ≡ Some task
@@ -253,7 +248,7 @@ module _ (x : Planned) (p : Progress) (t : Table) (l m : Later) (j : ℕ) (a : E
   known_next c u e (inr q) =
       subst (λ (d : Cell). IsKnown (meaning x.deployment) (at_point (course x) (point x p.status)) d u) (sym q.0)
       (subst (λ (y : Option Json). IsKnown (meaning x.deployment) (at_point (course x) (point x p.status)) at y)
-      (entry_is o u (sym q.1 ∙ e)) known_at)
+      (same_entry o u (sym q.1 ∙ e)) known_at)
 
   hides_next : (i : ℕ) (task : Task) (c : Cell) → slice_get x.tasks i ≡ Some task
       → is_given_by x.deployment (start_world x.known) task c ≡ true → done_status (p.status i) ≡ false → Next c

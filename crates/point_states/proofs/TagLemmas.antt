@@ -2,17 +2,13 @@
 use Rattle.std.proofs.Common.{◌≡◌, inl, inr, List, [], ◌∷◌, ◌++◌, map, drop, Option, Some, None, refl, sym, ap, subst}
 use Rattle.std.proofs.Common.{◌∙◌}
 use Rattle.std.specs.Prelude.{slice_get, option_map, option_and_then}
-use Rattle.arm_value.specs.Json.{Json}
 use Rattle.arm_ids.specs.declared.id.ResourceId.{ResourceId}
-use Rattle.reading.specs.Reading.{Reading, done, pure, onward, continued}
 use Rattle.reading.specs.World.{value_in}
-use Rattle.reading.proofs.Parts.{value_in-continued}
 use Rattle.tag_places.specs.Places.{Tag}
 use Rattle.key_tags.specs.KeyCodes.{key_code}
-use Rattle.deploy_cells.specs.Cells.{Step, step, Position, Cell, name, World}
+use Rattle.deploy_cells.specs.Cells.{Step, step, Position, World}
 use Rattle.plan_cells.specs.Children.{Has}
 use Rattle.plan_cells.specs.Desired.{kinds}
-use Rattle.plan_cells.specs.Meaning.{Deployment}
 use Rattle.plan_cells.specs.Start.{start_world}
 use Rattle.plan_cells.specs.Tasks.{Task, enter, put, leave, delete, key_by, put_keys, deletes_in}
 use Rattle.plan_table.specs.Opened.{Opened, opened_at}
@@ -21,68 +17,9 @@ use Rattle.plan_numbers.specs.Task as code
 use Rattle.plan_numbers.specs.Task.TheVariants as planned
 use Rattle.plan_numbers.specs.Numbers.{key_tag, put_tags}
 use Rattle.deploy_histories.specs.Planned.{Planned, IsPlanned}
-use Rattle.history_laws.proofs.Puts.{deletes_alone}
+use Rattle.history_laws.proofs.Puts.{deletes_alone, FirstKey, first_key}
 use Rattle.history_starts.proofs.Start.{the_list}
 use Rattle.point_states.specs.Lookups.{tag_in}
-
-same_list : {A : Type 0} (a b : A) → Some a ≡ Some b → a ≡ b
-same_list a b e = cc
-
--- ---- the key of the first put, and those of the others
-
-module _ (d : Deployment) (w : World) where
-  abbrev after_key : List Task → ResourceId → Reading Cell Json (List ResourceId)
-  after_key ts k = continued (put_keys d ts) (λ ks. pure (k ∷ ks))
-
-  abbrev after_name : Position → Step → List Task → Json → Reading Cell Json (List ResourceId)
-  after_name p s ts j = continued (done (key_by d.place (kinds d p s.resource) j)) (after_key ts)
-
-  record FirstKey (p : Position) (s : Step) (ts : List Task) (ks : List ResourceId) : Type 0 where
-    title : Json
-    key : ResourceId
-    more : List ResourceId
-    has_name : w (name p s) ≡ Some title
-    is_key : key_by d.place (kinds d p s.resource) title ≡ Some key
-    is : ks ≡ key ∷ more
-    others : value_in w (put_keys d ts) ≡ Some more
-
-  by_more : (p : Position) (s : Step) (ts : List Task) (ks : List ResourceId) (j : Json) (k : ResourceId)
-      → w (name p s) ≡ Some j → key_by d.place (kinds d p s.resource) j ≡ Some k → (o : Option (List ResourceId))
-      → value_in w (put_keys d ts) ≡ o → option_and_then (λ xs. value_in w (pure (k ∷ xs))) o ≡ Some ks
-      → FirstKey p s ts ks
-  unfolding value_in
-  by_more p s ts ks j k a b None c e = let f : None ≡ Some ks = e in absurd (cc)
-  by_more p s ts ks j k a b (Some xs) c e = record {
-    title = j;
-    key = k;
-    more = xs;
-    has_name = a;
-    is_key = b;
-    is = sym (same_list (k ∷ xs) ks e);
-    others = c;
-  }
-
-  by_key : (p : Position) (s : Step) (ts : List Task) (ks : List ResourceId) (j : Json) → w (name p s) ≡ Some j
-      → (o : Option ResourceId) → key_by d.place (kinds d p s.resource) j ≡ o
-      → value_in w (onward o (after_key ts)) ≡ Some ks → FirstKey p s ts ks
-  unfolding value_in
-  by_key p s ts ks j a None b e = let f : None ≡ Some ks = e in absurd (cc)
-  by_key p s ts ks j a (Some k) b e =
-      by_more p s ts ks j k a b (value_in w (put_keys d ts)) refl
-      (sym (value_in-continued Cell Json (List ResourceId) (List ResourceId) w (put_keys d ts)
-      (λ xs. pure (k ∷ xs))) ∙ e)
-
-  by_name : (p : Position) (s : Step) (ts : List Task) (ks : List ResourceId) (o : Option Json) → w (name p s) ≡ o
-      → value_in w (onward o (after_name p s ts)) ≡ Some ks → FirstKey p s ts ks
-  unfolding value_in continued
-  by_name p s ts ks None a e = let f : None ≡ Some ks = e in absurd (cc)
-  by_name p s ts ks (Some j) a e =
-      by_key p s ts ks j a (key_by d.place (kinds d p s.resource) j) refl e
-
-  first_key : (p : Position) (s : Step) (ts : List Task) (ks : List ResourceId)
-      → value_in w (put_keys d (put p s ∷ ts)) ≡ Some ks → FirstKey p s ts ks
-  unfolding value_in continued
-  first_key p s ts ks e = by_name p s ts ks (w (name p s)) refl e
 
 -- ---- all tags
 

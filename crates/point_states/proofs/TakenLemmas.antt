@@ -1,10 +1,11 @@
 -- The states that are taken are known at the point.
 use Rattle.std.proofs.Common.{◌≡◌, inl, inr, ℕ, zero, suc, Bool, true, false, true≢false, List, [], ◌∷◌}
-use Rattle.std.proofs.Common.{map, bytes_eq, Option, Some, None, refl, sym, ap, subst, ◌∙◌}
+use Rattle.std.proofs.Common.{map, Option, Some, None, refl, sym, ap, subst, ◌∙◌}
 use Rattle.std.specs.Prelude.{slice_get, option_map, option_and_then, Result, Ok, Err, IfOk, if◌then◌else◌}
 use Rattle.std.specs.declared.alloc.AllocError.{AllocError}
 use Rattle.std.specs.List.{list_any}
 use Rattle.std.proofs.lemmas.Slice.Eq.{bytes_eq-Decides}
+use Rattle.std.proofs.lemmas.Option.{same_Some}
 use Rattle.foundation.proofs.Words.{swapped}
 use Rattle.arm_value.specs.Json.{Json}
 use Rattle.arm_value.specs.View.{json}
@@ -114,12 +115,9 @@ module _ (x : Planned) (k : ResourceId) where
         (of_scope a.at a.instance (listed_task x.tasks u (put a.at a.instance) (e ∙ ap Some a.is))) in
         let l = key_of_state (key_in x.deployment (start_world x.known) a.at a.instance) k a.has_key in
         let same : h.key ≡ k
-        = one h.key l.0 (sym (ap (option_and_then (task.key_by x.deployment.place _)) h.has_name ∙ h.is_key) ∙ l.1.0)
+        = same_Some h.key l.0 (sym (ap (option_and_then (task.key_by x.deployment.place _)) h.has_name ∙ h.is_key) ∙ l.1.0)
         ∙ l.1.1 in
         has_any k x.keys (subst (λ (z : ResourceId). Has z x.keys) same h.listed)
-      where
-        one : (a b : ResourceId) → Some a ≡ Some b → a ≡ b
-        one a b e = cc
 
     key_put : list_any (same_id k) x.keys ≡ true → putter x k ≡ None → ⊥
     key_put e none =
@@ -187,13 +185,10 @@ done_put x h legal u t k e f d =
     let o = done_of ((progress h).status u) d in
     let z = (kept_always anything x h legal (all_given x at_opening h)).done u o.0 o.1 in
     let a = put_with x k t f in
-    let same : z.task ≡ put a.at a.instance = one z.task t (sym z.is_task ∙ e) ∙ a.is in
+    let same : z.task ≡ put a.at a.instance = same_Some z.task t (sym z.is_task ∙ e) ∙ a.is in
     let l = left_state x a.at a.instance z.body o.0
     (subst (λ (y : Task). IsLeft anything x y z.body o.0) same z.is_left) in
     (l.0, o.1 ∙ ap is_done l.1)
-  where
-    one : (a b : Task) → Some a ≡ Some b → a ≡ b
-    one a b e = cc
 
 -- ---- what came of a look
 

@@ -1,8 +1,9 @@
 -- What is seen stays so, and a task of which all values are seen is ready.
-use Rattle.std.proofs.Common.{◌≡◌, ◌⊎◌, inl, inr, ℕ, Bool, true, false, true≢false, List, [], ◌∷◌, Option, Some, None}
-use Rattle.std.proofs.Common.{refl, sym, ap, subst, ◌∙◌}
-use Rattle.std.specs.Prelude.{◌||◌, slice_get}
+use Rattle.std.proofs.Common.{◌≡◌, inl, inr, ℕ, Bool, true, false, true≢false, List, [], ◌∷◌, Option, Some, None}
+use Rattle.std.proofs.Common.{refl, sym, subst, ◌∙◌}
+use Rattle.std.specs.Prelude.{slice_get}
 use Rattle.std.specs.List.{list_any}
+use Rattle.std.proofs.lemmas.Bool.{or_cases}
 use Rattle.arm_value.specs.Json.{Json}
 use Rattle.reading.specs.World.{reads_in, Each}
 use Rattle.reading.specs.Knowledge.{Known, missing, Told, value, no_value, waits, told, blanked, IsThere, IsFinal}
@@ -17,14 +18,13 @@ use Rattle.plan_cells.specs.Tasks.{Task}
 use Rattle.plan_cells.specs.Reads.{is_given_by}
 use Rattle.plan_cells.specs.Children.{Has}
 use Rattle.plan_cells.proofs.PointLemmas.{widens}
-use Rattle.deploy_histories.specs.Planned.{Planned, course}
-use Rattle.deploy_histories.specs.Events.{Event, Status, is_waiting, Progress, done_status, IsDone, after_all}
-use Rattle.deploy_histories.specs.Points.{point}
-use Rattle.deploy_histories.specs.Values.{Part, TaskValue, task_values, reads_from, needs_by_values, body_of}
-use Rattle.deploy_histories.specs.Readiness.{Fault, fault_or, first_fault, needs_first, needs_now, readiness, ready}
-use Rattle.deploy_histories.specs.Readiness.{IsReadyWith}
-use Rattle.deploy_histories.specs.Legal.{IsLegalFrom}
-use Rattle.deploy_histories.proofs.ReadinessLemmas.{says_ready}
+use Rattle.history_laws.specs.Planned.{Planned, course}
+use Rattle.history_laws.specs.Events.{Event, is_waiting, Progress, done_status, IsDone, after_all}
+use Rattle.history_laws.specs.Points.{point}
+use Rattle.history_laws.specs.Values.{Part, TaskValue, task_values, reads_from, needs_by_values, body_of}
+use Rattle.history_laws.specs.Readiness.{Fault, fault_or, first_fault, needs_first, readiness, ready, IsReadyWith}
+use Rattle.history_laws.specs.Legal.{IsLegalFrom}
+use Rattle.history_laws.proofs.ReadinessLemmas.{says_ready}
 use Rattle.history_laws.proofs.Steps.{all_stay_done, still_done, points_later}
 use Rattle.point_values.specs.Seen.{IsSeen}
 
@@ -68,10 +68,6 @@ module _ (x : Planned) (p : Progress) (t : Table) (es : List Event) (seen : IsSe
 
 -- ---- a task with values that are seen
 
-one_of : (a b : Bool) → (a || b) ≡ true → (a ≡ true) ⊎ (b ≡ true)
-one_of true b e = inl refl
-one_of false b e = inr e
-
 module _ {A : Type 0} (f : A → Bool) (P : A → Type 0) where
   pub record IsOne : Type 0 where
     pub one : A
@@ -80,7 +76,7 @@ module _ {A : Type 0} (f : A → Bool) (P : A → Type 0) where
 
   any_each : (cs : List A) → list_any f cs ≡ true → Each P cs → IsOne
   any_each [] e h = absurd (true≢false (sym e))
-  any_each (c ∷ cs) e h = elim (one_of (f c) (list_any f cs) e) [
+  any_each (c ∷ cs) e h = elim (or_cases (f c) (list_any f cs) e) [
     | inl g ↦ record { one = c; passes = g; has = h.0 }
     | inr g ↦ any_each cs g h.1
   ]
@@ -88,7 +84,7 @@ module _ {A : Type 0} (f : A → Bool) (P : A → Type 0) where
 module _ {A : Type 0} (f : A → Bool) where
   any_has : (xs : List A) → list_any f xs ≡ true → (a : A) × (Has a xs × (f a ≡ true))
   any_has [] e = absurd (true≢false (sym e))
-  any_has (x ∷ xs) e = elim (one_of (f x) (list_any f xs) e) [
+  any_has (x ∷ xs) e = elim (or_cases (f x) (list_any f xs) e) [
     | inl g ↦ (x, (inl refl, g))
     | inr g ↦ let r = any_has xs g in (r.0, (inr r.1.0, r.1.1))
   ]
@@ -144,7 +140,7 @@ module _ (x : Planned) (p : Progress) (t : Table) (seen : IsSeen x p t) (u : ℕ
   ready_with = record {
     is_free = record {
       waits_still = still;
-      needs_done = λ v other is need. elim (one_of (needs_first x task other) (needs_by_values x t task other) need) [
+      needs_done = λ v other is need. elim (or_cases (needs_first x task other) (needs_by_values x t task other) need) [
         | inl g ↦ done_first v other is g
         | inr g ↦ by_values v other is g
       ];

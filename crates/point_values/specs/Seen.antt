@@ -6,9 +6,9 @@ use Rattle.plan_cells.specs.Known.{Table}
 use Rattle.plan_cells.specs.Start.{start_world}
 use Rattle.plan_cells.specs.Tasks.{Task}
 use Rattle.plan_cells.specs.Reads.{is_given_by}
-use Rattle.deploy_histories.specs.Planned.{Planned}
-use Rattle.deploy_histories.specs.Events.{Status, Progress, done_status}
-use Rattle.deploy_histories.specs.Points.{IsKnownThen}
+use Rattle.history_laws.specs.Planned.{Planned}
+use Rattle.history_laws.specs.Events.{Status, Progress, done_status}
+use Rattle.history_laws.specs.Points.{IsKnownThen}
 
 -- the table has nothing of the state at a key where a task puts that is not done, nor of the outputs of a scope that
 -- was not left

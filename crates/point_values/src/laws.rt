@@ -2,11 +2,11 @@
 ghost use Rattle.std.specs.Prelude.{◌≡◌, ℕ, true, List, None, Some, slice_get};
 ghost use Rattle.plan_cells.specs.Known.{Table};
 ghost use Rattle.plan_cells.specs.Tasks.{Task};
-ghost use Rattle.deploy_histories.specs.Planned.{Planned};
-ghost use Rattle.deploy_histories.specs.Events.{Event, Progress, IsDone, is_waiting, after_all};
-ghost use Rattle.deploy_histories.specs.Values.{task_values, body_of};
-ghost use Rattle.deploy_histories.specs.Readiness.{first_fault, needs_first, readiness, ready};
-ghost use Rattle.deploy_histories.specs.Legal.{IsLegalFrom};
+ghost use Rattle.history_laws.specs.Planned.{Planned};
+ghost use Rattle.history_laws.specs.Events.{Event, Progress, IsDone, is_waiting, after_all};
+ghost use Rattle.history_laws.specs.Values.{task_values, body_of};
+ghost use Rattle.history_laws.specs.Readiness.{first_fault, needs_first, readiness, ready};
+ghost use Rattle.history_laws.specs.Legal.{IsLegalFrom};
 ghost use Rattle.point_values.specs.Seen.{IsSeen};
 
 /// What is seen at a point is seen at each later point.

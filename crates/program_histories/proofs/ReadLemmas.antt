@@ -1,9 +1,10 @@
 -- What a task of a template reads for a value in a desired state, it reads by what is known when it is ready.
 use Rattle.std.proofs.Common.{◌≡◌, inl, inr, ℕ, Bool, true, false, true≢false, List, [], ◌∷◌, ◌++◌, map, Option, Some}
 use Rattle.std.proofs.Common.{None, refl, sym, ap, ◌∙◌, subst}
-use Rattle.std.proofs.lemmas.Option.{none-some}
+use Rattle.std.proofs.lemmas.Option.{none-some, same_Some}
 use Rattle.std.specs.Prelude.{◌||◌, option_map, option_and_then, if◌then◌else◌}
 use Rattle.std.specs.List.{list_any}
+use Rattle.std.proofs.lemmas.Bool.{or_right}
 use Rattle.arm_value.specs.Json.{Json}
 use Rattle.arm_value.specs.Kinds.{is_true}
 use Rattle.reading.specs.Reading.{done, pure, continued}
@@ -36,13 +37,6 @@ use Rattle.deploy_histories.specs.Values.{outputs_of, body_reading, task_values,
 use Rattle.history_laws.proofs.Included.{start_is}
 use Rattle.history_laws.proofs.OneWorld.{named_parameter, named_variable, named_output}
 use Rattle.emitted_needs.specs.Needs.{IsReadingOf, IsOutputReading, ReadsFrom}
-
-same_reading : (a b : Reads Json) → Some a ≡ Some b → a ≡ b
-same_reading a b e = cc
-
-or_right : (p q : Bool) → q ≡ true → (p || q) ≡ true
-or_right true q f = refl
-or_right false q f = f
 
 any_true : {A : Type 0} (test : A → Bool) (xs : List A) (a : A) → Has a xs → test a ≡ true → list_any test xs ≡ true
 any_true test [] a h e = absurd h
@@ -102,7 +96,7 @@ module _ (x : Planned) (w : World) (c : Cell) where
   ruled_reads f (Some r) s e h =
       there_reads (ruled d f r)
       (first_read r (λ j. done (if_meets d (f j) j))
-      (subst (λ (q : Reads Json). IsRead c (reads_in w q)) (sym (same_reading r s e)) h))
+      (subst (λ (q : Reads Json). IsRead c (reads_in w q)) (sym (same_Some r s e)) h))
 
   parameter_plain : (q : Position) (y : List ℕ) (s : Reads Json) → raw d (parameter q y) ≡ Some s
       → IsRead c (reads_in w s) → IsRead c (reads_in w (plain d (parameter q y)))
@@ -208,15 +202,12 @@ module _ (x : Planned) (w : World) (c : Cell) where
         ap (λ (a : Bool). if a then value_in w (plain d e) else Some None) (sym f)
         ∙ (sym (guarded_value w e (plain d e)) ∙ world e)
 
-    same_value : (a b : Option Json) → Some a ≡ Some b → a ≡ b
-    same_value a b e = cc
-
     -- a cell that is true has its own value
     true_is_plain : (e : Cell) (b : Bool) → is_admitted w e ≡ b → is_true (w e) ≡ true
         → value_in w (plain d e) ≡ Some (w e)
     true_is_plain e true f g = world_is e true f
     true_is_plain e false f g =
-        absurd (true≢false (sym g ∙ ap is_true (sym (same_value None (w e) (world_is e false f)))))
+        absurd (true≢false (sym g ∙ ap is_true (sym (same_Some None (w e) (world_is e false f)))))
 
     leave_read : (q : Position) (y : List ℕ) (s : Reads Json) → IsOutputReading d w s q y → IsRead c (reads_in w s)
         → IsReadFor (leave q)

@@ -1,6 +1,7 @@
 -- A task that starts has all that it needs.
 use Rattle.std.proofs.Common.{◌≡◌, ◌⊎◌, inl, inr, ℕ, Bool, true, false, List, Some, refl, ap, ◌∙◌, subst}
-use Rattle.std.specs.Prelude.{◌||◌, slice_get}
+use Rattle.std.specs.Prelude.{slice_get}
+use Rattle.std.proofs.lemmas.Bool.{or_left, or_right}
 use Rattle.arm_value.specs.Json.{Json, null}
 use Rattle.reading.specs.Knowledge.{value}
 use Rattle.plan_cells.specs.Plan.{Need, IsListed, AreNeeds}
@@ -31,14 +32,6 @@ started_by x p (answer u a) i m s = absurd s
 started_by x p (back u) i m s = absurd s
 started_by x p crash i m s = absurd s
 
-either_first : (a b : Bool) → a ≡ true → (a || b) ≡ true
-either_first true b e = refl
-either_first false b e = absurd cc
-
-either_last : (a b : Bool) → b ≡ true → (a || b) ≡ true
-either_last true b e = refl
-either_last false b e = e
-
 module _ (x : Planned) (ns : List Need) (all : AreNeeds x.deployment x.known x.tasks ns) (i j : ℕ) (a b : Task)
     (first : slice_get x.tasks i ≡ Some a) (second : slice_get x.tasks j ≡ Some b) where
   -- a need that is listed was told at the start
@@ -51,6 +44,6 @@ module _ (x : Planned) (ns : List Need) (all : AreNeeds x.deployment x.known x.t
       → IsReadyWith x k.known p i a body → IsListed (i, j) ns ⊎ (needs_by_values x k.known a b ≡ true) → IsDone p j
   done_first p t body k r (inl l) =
       r.is_free.needs_done j b second
-      (either_first (needs_first x a b) (needs_by_values x k.known a b) (listed_first l))
+      (or_left (needs_first x a b) (needs_by_values x k.known a b) (listed_first l))
   done_first p t body k r (inr l) =
-      r.is_free.needs_done j b second (either_last (needs_first x a b) (needs_by_values x k.known a b) l)
+      r.is_free.needs_done j b second (or_right (needs_first x a b) (needs_by_values x k.known a b) l)

@@ -2,7 +2,7 @@
 use Rattle.std.specs.Prelude.{ℕ, List}
 use Rattle.arm_ids.specs.Held.{HeldResource}
 use Rattle.template_parameters.specs.Binding.{BoundMeaning}
-use Rattle.template_parts.specs.declared.mode.Form.TheVariants.{One}
+use Rattle.template_parts.specs.declared.mode.Form.{Form}
 use Rattle.template_tree.specs.Tree.{TemplateTree}
 use Rattle.template_tree.specs.View.{template_tree}
 use Rattle.template_tree.specs.declared.resource.Template.{Template}
@@ -21,19 +21,20 @@ use Rattle.program_laws.specs.Programs.{IsCounterpart, IsProgramOf}
 -- the template of a program is deployed as the program
 abbrev pub EmittedProgramsAreDeployed : Type 0
 EmittedProgramsAreDeployed =
-    (p : Program) (c : Checked) (t : Template) (d : SourceProgram) (bound : List (List ℕ × BoundMeaning))
-    (held : List HeldResource) → IsProgramOf p c d → IsEmission p c t → IsBinding d (template_tree t) bound
-    → HoldsResources (held_state held) → IsDeployed One d (template_tree t) bound held
+    (z : Form) (p : Program) (c : Checked) (t : Template) (d : SourceProgram) (bound : List (List ℕ × BoundMeaning))
+    (held : List HeldResource) → IsProgramOf z p c d → IsEmission z p c t → IsBinding d (template_tree t) bound
+    → HoldsResources (held_state held) → IsDeployed z d (template_tree t) bound held
 
 -- the names of its symbols differ
 abbrev pub EmittedProgramsHaveSymbols : Type 0
-EmittedProgramsHaveSymbols = (p : Program) (c : Checked) (d : SourceProgram) → IsProgramOf p c d → HaveSymbols d
+EmittedProgramsHaveSymbols =
+    (z : Form) (p : Program) (c : Checked) (d : SourceProgram) → IsProgramOf z p c d → HaveSymbols d
 
 -- each desired state of the template is that of a world that satisfies the program, and each such world gives one
 pub record DesiredStatesAreOfPrograms : Type 0 where
-  pub forth : (d : SourceProgram) (u : TemplateTree) (bound : List (List ℕ × BoundMeaning)) (held : List HeldResource)
-      → IsDeployed One d u bound held → (v : World) → template.Satisfies (deployed d u bound) held v
-      → (w : World) × IsCounterpart d held v w
-  pub back : (d : SourceProgram) (u : TemplateTree) (bound : List (List ℕ × BoundMeaning)) (held : List HeldResource)
-      → IsDeployed One d u bound held → (v w : World) → IsCounterpart d held v w
+  pub forth : (z : Form) (d : SourceProgram) (u : TemplateTree) (bound : List (List ℕ × BoundMeaning))
+      (held : List HeldResource) → IsDeployed z d u bound held → (v : World)
+      → template.Satisfies (deployed d u bound) held v → (w : World) × IsCounterpart z d held v w
+  pub back : (z : Form) (d : SourceProgram) (u : TemplateTree) (bound : List (List ℕ × BoundMeaning))
+      (held : List HeldResource) → IsDeployed z d u bound held → (v w : World) → IsCounterpart z d held v w
       → template.Satisfies (deployed d u bound) held v

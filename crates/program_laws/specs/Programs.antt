@@ -1,7 +1,7 @@
 -- The meaning of a program that is read and checked, and the worlds that desired states of its template stand for.
 use Rattle.std.specs.Prelude.{◌≡◌, List}
 use Rattle.arm_ids.specs.Held.{HeldResource}
-use Rattle.template_parts.specs.declared.mode.Form.TheVariants.{One}
+use Rattle.template_parts.specs.declared.mode.Form.{Form}
 use Rattle.deploy_cells.specs.Cells.{Cell, World}
 use Rattle.cell_renaming.specs.Renaming.{IsRenamable, renamed}
 use Rattle.plan_cells.specs.Desired.{held_state}
@@ -16,15 +16,15 @@ use Rattle.source_worlds.specs.Numbers.{numbering}
 use Rattle.bicep_emit.specs.Programs.{HasNoFault, IsCheckedAs, IsLoaded, files_in_form}
 
 -- the program is what `load` and `check` returned, at a place without a slash in its subscription and its group
-pub record IsProgramOf (p : Program) (c : Checked) (d : SourceProgram) : Type 0 where
+pub record IsProgramOf (z : Form) (p : Program) (c : Checked) (d : SourceProgram) : Type 0 where
   pub loaded : IsLoaded p
   pub checked : IsCheckedAs p c
   pub none : HasNoFault p
-  pub files : d.files ≡ files_in_form One (files_of p) (files_view c.resolved)
+  pub files : d.files ≡ files_in_form z (files_of p) (files_view c.resolved)
   pub place : IsPlainPlace d.place
 
 -- the world satisfies the program, and is a world of its template once its cells have the numbers of the template
-pub record IsCounterpart (d : SourceProgram) (held : List HeldResource) (v w : World) : Type 0 where
+pub record IsCounterpart (z : Form) (d : SourceProgram) (held : List HeldResource) (v w : World) : Type 0 where
   pub satisfies : source.Satisfies d (held_state held) w
-  pub renamable : IsRenamable (numbering One d.files) w
-  pub same : (e : Cell) → renamed (numbering One d.files) w e ≡ v e
+  pub renamable : IsRenamable (numbering z d.files) w
+  pub same : (e : Cell) → renamed (numbering z d.files) w e ≡ v e

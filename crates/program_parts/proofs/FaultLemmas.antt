@@ -7,7 +7,7 @@ use Rattle.file_templates.specs.Faults.{IsBatchFault, IsFileFault}
 use Rattle.file_templates.specs.Texts.{text_of}
 use Rattle.file_templates.specs.declared.fault.EmitFault.{EmitFault}
 use Rattle.program_parts.specs.Faults.{IsMemoryFault, IsProgramFault}
-use Rattle.program_parts.specs.Files.{IsPair}
+use Rattle.program_parts.specs.Programs.{IsPair}
 
 pub refused : {A : Type 0} (P : EmitFault → Type 0) (res : Result A EmitFault) (x : EmitFault) → res ≡ Err x → P x
     → IfErr res P

@@ -1,7 +1,8 @@
 -- What is measured of the files of a program, by their numbers.
-use Rattle.std.proofs.Common.{◌≡◌, ◌≤◌, ◌+◌, inr, ℕ, zero, suc, List, [], ◌∷◌, length, None, Some, Result, Ok, Err, refl}
-use Rattle.std.proofs.Common.{sym, ap, ◌∙◌, subst, arith}
+use Rattle.std.proofs.Common.{◌≡◌, ◌≤◌, ◌+◌, inr, ℕ, zero, suc, List, [], ◌∷◌, length, None, Some, Result, Ok, Err}
+use Rattle.std.proofs.Common.{refl, sym, ap, ◌∙◌, subst, arith}
 use Rattle.std.specs.Prelude.{slice_get, slice_index_or, IfErr}
+use Rattle.std.proofs.lemmas.Option.{slice_get_past}
 use Rattle.measured_trees.specs.Extremes.{Extremes, nothing}
 use Rattle.measured_trees.specs.Measures.{IsOf}
 use Rattle.measured_trees.specs.declared.measure.Measure.{Measure}
@@ -23,11 +24,6 @@ next_taken ps x ms i p m n e h =
 of_none : IsOf nothing unmeasured
 of_none = record { longest = refl; deepest = refl; depth = refl }
 
-past : {A : Type 0} (xs : List A) (n : ℕ) → length xs ≤ n → slice_get xs n ≡ None
-past [] n le = refl
-past (x ∷ xs) zero le = absurd (omega (arith, le))
-past (x ∷ xs) (suc n) le = past xs n (omega (arith, le))
-
 -- where all are measured, the others take nothing
 from_all : (ps : List FileParts) (x : ℕ → Extremes) (k : ℕ) (ms : List Measure)
     → ((n : ℕ) → length ms ≤ n → slice_get ps (k + n) ≡ None) → AllFrom (IsTaken ps x) k ms → (n : ℕ)
@@ -47,7 +43,7 @@ pub all_taken : (ps : List FileParts) (x : ℕ → Extremes) (ms : List Measure)
 all_taken ps x ms le h n =
     let none : (i : ℕ) → 0 + i ≡ i = λ i. omega arith in
     subst (λ i. IsOf (taken (slice_get ps i) x) (slice_index_or ms n unmeasured)) (none n)
-    (from_all ps x 0 ms (λ i more. ap (slice_get ps) (none i) ∙ past ps i (omega (arith, le, more))) h n)
+    (from_all ps x 0 ms (λ i more. ap (slice_get ps) (none i) ∙ slice_get_past ps i (omega (arith, le, more))) h n)
 
 -- ---- depths
 

@@ -5,6 +5,7 @@ use Rattle.std.specs.Prelude.{option_map, slice_get, IfOk}
 use Rattle.std.specs.declared.alloc.Global.{Global}
 use Rattle.std.specs.declared.vec.Vec.{Vec}
 use Rattle.foundation.proofs.Options.{same_some}
+use Rattle.template_parts.specs.declared.mode.Form.{Form}
 use Rattle.bicep_program.specs.Program.{ProgramFile, program_file}
 use Rattle.bicep_program.specs.Sources.{IsReadAs}
 use Rattle.bicep_program.specs.declared.file.SourceFile.{SourceFile as Text}
@@ -19,7 +20,7 @@ use Rattle.file_templates.specs.Parts.{ArePartsFor}
 use Rattle.file_templates.specs.Texts.{HasLoops, text_of}
 use Rattle.file_templates.specs.declared.fault.EmitFault.{EmitFault}
 use Rattle.file_templates.specs.declared.file.FileParts.{FileParts}
-use Rattle.program_parts.specs.Files.{IsPair, IsRead}
+use Rattle.program_parts.specs.Programs.{IsPair, IsRead}
 use Rattle.program_parts.specs.Parts.{AreOrders, AreParts, HasLast, HaveOneMoreOrder, HaveOneMorePart, IsOrderAt}
 use Rattle.program_parts.specs.Parts.{IsPartAt}
 use Rattle.program_parts.proofs.ItemLemmas.{with_next, more_by_one}
@@ -65,10 +66,10 @@ module _ (ss : List Text) (rs : List ResolvedFile) where
     is_order (Ok o) order loops = record { text = x; file = r; pair = p; order = order; loops = loops }
     is_order (Err e) order loops = tt
 
-    pub is_part : (res : Result FileParts EmitFault) → IfOk res (ArePartsFor (text_of x) r rs)
-        → IfOk res (IsPartAt ss rs k)
-    is_part (Ok o) parts = record { text = x; file = r; pair = p; parts = parts }
-    is_part (Err e) parts = tt
+    pub is_part : (z : Form) (res : Result FileParts EmitFault) → IfOk res (ArePartsFor z (text_of x) r rs)
+        → IfOk res (IsPartAt z ss rs k)
+    is_part z (Ok o) parts = record { text = x; file = r; pair = p; parts = parts }
+    is_part z (Err e) parts = tt
 
   pub more_orders : (os : List FileOrder) → AreOrders ss rs os → (o : FileOrder) → IsOrderAt ss rs (length os) o
       → (res : Result (Vec FileOrder Global) EmitFault) → IfOk res (λ v. HasLast os o v.items)
@@ -76,8 +77,8 @@ module _ (ss : List Text) (rs : List ResolvedFile) where
   more_orders os h o at (Ok v) e = (with_next (IsOrderAt ss rs) os v.items o h at e, more_by_one os v.items o e)
   more_orders os h o at (Err x) e = tt
 
-  pub more_parts : (ps : List FileParts) → AreParts ss rs ps → (p : FileParts) → IsPartAt ss rs (length ps) p
-      → (res : Result (Vec FileParts Global) EmitFault) → IfOk res (λ v. HasLast ps p v.items)
-      → IfOk res (HaveOneMorePart ss rs ps)
-  more_parts ps h p at (Ok v) e = (with_next (IsPartAt ss rs) ps v.items p h at e, more_by_one ps v.items p e)
-  more_parts ps h p at (Err x) e = tt
+  pub more_parts : (z : Form) (ps : List FileParts) → AreParts z ss rs ps → (p : FileParts)
+      → IsPartAt z ss rs (length ps) p → (res : Result (Vec FileParts Global) EmitFault)
+      → IfOk res (λ v. HasLast ps p v.items) → IfOk res (HaveOneMorePart z ss rs ps)
+  more_parts z ps h p at (Ok v) e = (with_next (IsPartAt z ss rs) ps v.items p h at e, more_by_one ps v.items p e)
+  more_parts z ps h p at (Err x) e = tt

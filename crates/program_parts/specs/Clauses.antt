@@ -5,7 +5,7 @@ use Rattle.bicep_names.specs.declared.kind.Kind.{Kind}
 pub use Rattle.std.specs.Prelude.{IfOk, IfErr, IfSome, OnOk}
 pub use Rattle.program_parts.specs.Faults.{HasLimitFault, IsBeyondNone, IsMemoryFault, IsOfBeyond, IsProgramFault}
 pub use Rattle.program_parts.specs.Faults.{IsRefused, IsWholeFault}
-pub use Rattle.program_parts.specs.Files.{IsAt, IsRead, IsReadWith}
+pub use Rattle.program_parts.specs.Programs.{IsAt, IsRead, IsReadWith}
 pub use Rattle.program_parts.specs.Measures.{AreAllMeasures, AreMeasured, AreMoreMeasures, IsInnerMeasure, IsInside}
 pub use Rattle.program_parts.specs.Measures.{IsMeasureAt, IsMeasured, IsModuleMeasure, IsPartMeasure, IsWholeMeasure}
 pub use Rattle.program_parts.specs.Measures.{IsWholeWithin}

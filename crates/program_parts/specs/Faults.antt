@@ -14,7 +14,7 @@ use Rattle.file_templates.specs.Texts.{text_of}
 use Rattle.file_templates.specs.declared.fault.EmitFault.{EmitFault}
 use Rattle.file_templates.specs.declared.fault.EmitFault.TheVariants as fault
 use Rattle.file_templates.specs.declared.file.FileParts.{FileParts}
-use Rattle.program_parts.specs.Files.{IsPair}
+use Rattle.program_parts.specs.Programs.{IsPair}
 use Rattle.program_parts.specs.Measures.{program_extremes}
 
 abbrev pub IsRefused : {R : Type 0} → EmitFault → Result R EmitFault → Type 0

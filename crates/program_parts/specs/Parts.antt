@@ -2,6 +2,7 @@
 use Rattle.std.specs.Prelude.{◌≡◌, ◌++◌, ℕ, suc, List, [], ◌∷◌, length}
 use Rattle.std.specs.declared.alloc.Global.{Global}
 use Rattle.std.specs.declared.vec.Vec.{Vec}
+use Rattle.template_parts.specs.declared.mode.Form.{Form}
 use Rattle.bicep_program.specs.declared.file.SourceFile.{SourceFile as Text}
 use Rattle.resolved_program.specs.declared.resolved.ResolvedFile.{ResolvedFile}
 use Rattle.file_templates.specs.Orders.{IsOrderFor}
@@ -9,7 +10,7 @@ use Rattle.file_templates.specs.FileOrder.{FileOrder}
 pub use Rattle.file_templates.specs.Parts.{ArePartsFor, extremes_of}
 use Rattle.file_templates.specs.Texts.{HasLoops, text_of}
 use Rattle.file_templates.specs.declared.file.FileParts.{FileParts}
-use Rattle.program_parts.specs.Files.{IsPair}
+use Rattle.program_parts.specs.Programs.{IsPair}
 
 -- each item is that of its number, from a number on
 abbrev pub AllFrom : {A : Type 0} → (ℕ → A → Type 0) → ℕ → List A → Type 0
@@ -49,27 +50,27 @@ AreAllOrders ss rs v = AreOrdersOfAll ss rs v.items
 
 -- ---- parts
 
--- the parts of the file of a number
-pub record IsPartAt (ss : List Text) (rs : List ResolvedFile) (k : ℕ) (p : FileParts) : Type 0 where
+-- the parts of the file of a number, for a form
+pub record IsPartAt (z : Form) (ss : List Text) (rs : List ResolvedFile) (k : ℕ) (p : FileParts) : Type 0 where
   pub text : Text
   pub file : ResolvedFile
   pub pair : IsPair ss rs k text file
-  pub parts : ArePartsFor (text_of text) file rs p
+  pub parts : ArePartsFor z (text_of text) file rs p
 
 -- the parts of the first files
-abbrev pub AreParts : List Text → List ResolvedFile → List FileParts → Type 0
-AreParts ss rs ps = AllFrom (IsPartAt ss rs) 0 ps
+abbrev pub AreParts : Form → List Text → List ResolvedFile → List FileParts → Type 0
+AreParts z ss rs ps = AllFrom (IsPartAt z ss rs) 0 ps
 
 -- the order is that of the next file
 abbrev pub IsNextOrder : List Text → List ResolvedFile → List FileParts → FileOrder → Type 0
 IsNextOrder ss rs ps o = IsOrderAt ss rs (length ps) o
 
-abbrev pub HaveOneMorePart : List Text → List ResolvedFile → List FileParts → Vec FileParts Global → Type 0
-HaveOneMorePart ss rs ps v = AreParts ss rs v.items × (length v.items ≡ suc (length ps))
+abbrev pub HaveOneMorePart : Form → List Text → List ResolvedFile → List FileParts → Vec FileParts Global → Type 0
+HaveOneMorePart z ss rs ps v = AreParts z ss rs v.items × (length v.items ≡ suc (length ps))
 
 -- the parts of all files
-abbrev pub ArePartsOfAll : List Text → List ResolvedFile → List FileParts → Type 0
-ArePartsOfAll ss rs ps = AreParts ss rs ps × (length ps ≡ length rs)
+abbrev pub ArePartsOfAll : Form → List Text → List ResolvedFile → List FileParts → Type 0
+ArePartsOfAll z ss rs ps = AreParts z ss rs ps × (length ps ≡ length rs)
 
-abbrev pub AreAllParts : List Text → List ResolvedFile → Vec FileParts Global → Type 0
-AreAllParts ss rs v = ArePartsOfAll ss rs v.items
+abbrev pub AreAllParts : Form → List Text → List ResolvedFile → Vec FileParts Global → Type 0
+AreAllParts z ss rs v = ArePartsOfAll z ss rs v.items

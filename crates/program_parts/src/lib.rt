@@ -10,6 +10,9 @@ mod measures;
 mod parts;
 
 pub use file_templates::laws::parts_within_the_limits_can_be_filled;
-pub use file_templates::{EmitFault, FileOrder, FileParts, file_template};
+pub use file_templates::{
+    EmitFault, FileOrder, FileParts, checked_files_have_kinds, file_template,
+    outputs_are_of_the_program, whole_templates_are_emitted,
+};
 pub use measures::{module_number, whole_limits};
 pub use parts::{file_orders, program_parts};

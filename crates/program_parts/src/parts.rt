@@ -5,6 +5,7 @@ use bicep_program::SourceFile;
 use file_templates::{EmitFault, FileOrder, FileParts, file_loops, file_parts};
 use resolved_program::ResolvedFile;
 use std::alloc::Global;
+use template_parts::Form;
 
 // The fault; the part is dropped.
 fn refuse<T: Drop, R: Drop>(fault: EmitFault, _part: T) -> Result<R, EmitFault>
@@ -121,6 +122,7 @@ pub fn file_orders(
 // The parts of the file of a number, with its text.
 fn part_by<'a>(
     alloc: Global,
+    form: Form,
     sources: &[SourceFile],
     files: &'a [ResolvedFile],
     source: &SourceFile,
@@ -129,11 +131,11 @@ fn part_by<'a>(
 ) -> Result<FileParts<'a>, EmitFault>
     requires read { spec.IsReadWith sources.now files.now number source.now }
     requires order { spec.IsOrderAt sources.now files.now number order.now }
-    ensures part { spec.IfOk result (spec.IsPartAt sources.now files.now number) }
+    ensures part { spec.IfOk result (spec.IsPartAt form sources.now files.now number) }
     ensures fault { spec.IfErr result (spec.IsProgramFault sources.now files.now) }
 {
     match file_at(files, number) {
-        Some(file) => file_parts(alloc, source, file, files, order),
+        Some(file) => file_parts(alloc, form, source, file, files, order),
         None => Err(EmitFault::OutOfMemory),
     }
 }
@@ -141,6 +143,7 @@ fn part_by<'a>(
 // The parts of the file of a number.
 fn part_at<'a>(
     alloc: Global,
+    form: Form,
     sources: &[SourceFile],
     files: &'a [ResolvedFile],
     order: &'a FileOrder,
@@ -148,11 +151,11 @@ fn part_at<'a>(
 ) -> Result<FileParts<'a>, EmitFault>
     requires read { spec.IsRead sources.now files.now }
     requires order { spec.IsOrderAt sources.now files.now number order.now }
-    ensures part { spec.IfOk result (spec.IsPartAt sources.now files.now number) }
+    ensures part { spec.IfOk result (spec.IsPartAt form sources.now files.now number) }
     ensures fault { spec.IfErr result (spec.IsProgramFault sources.now files.now) }
 {
     match source_at(sources, number) {
-        Some(source) => part_by(alloc, sources, files, source, order, number),
+        Some(source) => part_by(alloc, form, sources, files, source, order, number),
         None => Err(EmitFault::OutOfMemory),
     }
 }
@@ -160,6 +163,7 @@ fn part_at<'a>(
 // The parts of the first files with those of the next one.
 fn with_part<'a>(
     alloc: Global,
+    form: Form,
     sources: &[SourceFile],
     files: &'a [ResolvedFile],
     order: &'a FileOrder,
@@ -167,11 +171,11 @@ fn with_part<'a>(
 ) -> Result<Vec<FileParts<'a>>, EmitFault>
     requires read { spec.IsRead sources.now files.now }
     requires order { spec.IsNextOrder sources.now files.now parts.items order.now }
-    requires parts { spec.AreParts sources.now files.now parts.items }
-    ensures more { spec.IfOk result (spec.HaveOneMorePart sources.now files.now parts.entry.items) }
+    requires parts { spec.AreParts form sources.now files.now parts.items }
+    ensures more { spec.IfOk result (spec.HaveOneMorePart form sources.now files.now parts.entry.items) }
     ensures fault { spec.IfErr result (spec.IsProgramFault sources.now files.now) }
 {
-    match part_at(alloc, sources, files, order, parts.as_slice().len()) {
+    match part_at(alloc, form, sources, files, order, parts.as_slice().len()) {
         Ok(part) => with_last(parts, part),
         Err(fault) => refuse(fault, parts),
     }
@@ -180,6 +184,7 @@ fn with_part<'a>(
 // The parts of all files, in a list that is empty before.
 fn parts_in<'a>(
     alloc: Global,
+    form: Form,
     sources: &[SourceFile],
     files: &'a [ResolvedFile],
     orders: &'a [FileOrder],
@@ -188,12 +193,12 @@ fn parts_in<'a>(
     requires read { spec.IsRead sources.now files.now }
     requires orders { spec.AreOrdersOfAll sources.now files.now orders.now }
     requires empty { spec.IsEmpty empty.items }
-    ensures parts { spec.IfOk result (spec.AreAllParts sources.now files.now) }
+    ensures parts { spec.IfOk result (spec.AreAllParts form sources.now files.now) }
     ensures fault { spec.IfErr result (spec.IsProgramFault sources.now files.now) }
 {
     let mut all = empty;
     for order in orders {
-        match with_part(alloc, sources, files, order, all) {
+        match with_part(alloc, form, sources, files, order, all) {
             Ok(more) => all = more,
             Err(fault) => return Err(fault),
         }
@@ -201,8 +206,8 @@ fn parts_in<'a>(
     Ok(all)
 }
 
-/// What the templates of all files of a checked program are made of, by the numbers of the files. `orders` is what
-/// `file_orders` returned.
+/// What the templates of all files of a checked program are made of in a form, by the numbers of the files. `orders`
+/// is what `file_orders` returned.
 ///
 /// # Errors
 ///
@@ -210,14 +215,15 @@ fn parts_in<'a>(
 /// - `OutOfMemory`.
 pub fn program_parts<'a>(
     alloc: Global,
+    form: Form,
     sources: &[SourceFile],
     files: &'a [ResolvedFile],
     orders: &'a [FileOrder],
 ) -> Result<Vec<FileParts<'a>>, EmitFault>
     requires read { spec.IsRead sources.now files.now }
     requires orders { spec.AreOrdersOfAll sources.now files.now orders.now }
-    ensures parts { spec.IfOk result (spec.AreAllParts sources.now files.now) }
+    ensures parts { spec.IfOk result (spec.AreAllParts form sources.now files.now) }
     ensures fault { spec.IfErr result (spec.IsProgramFault sources.now files.now) }
 {
-    parts_in(alloc, sources, files, orders, Vec::new(alloc))
+    parts_in(alloc, form, sources, files, orders, Vec::new(alloc))
 }

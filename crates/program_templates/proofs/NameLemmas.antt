@@ -2,6 +2,7 @@
 use Rattle.std.proofs.Common.{◌≡◌, ℕ, List, [], map, Option, Some, None, refl, sym, ap, ◌∙◌, subst}
 use Rattle.arm_value.specs.Look.{fold}
 use Rattle.std.specs.Prelude.{option_map, slice_get}
+use Rattle.std.proofs.lemmas.Option.{slice_get-map}
 use Rattle.foundation.proofs.Options.{same_some}
 use Rattle.foundation.specs.Options.{or_else}
 use Rattle.bicep_found.specs.Found.{found}
@@ -19,9 +20,9 @@ use Rattle.bicep_types.specs.Faults.{HasFault}
 use Rattle.bicep_types.specs.declared.fault.CheckFault.{CheckFault}
 use Rattle.bicep_types.specs.declared.fault.CheckFault.TheVariants as fault
 use Rattle.sound_values.proofs.FoundLemmas.{of_mapped, first_none, second_none}
-use Rattle.symbol_names.proofs.NameLemmas.{names_differ, mapped_get}
-use Rattle.emitted_templates.specs.Found.{Differ}
-use Rattle.emitted_templates.specs.Lists as listed
+use Rattle.symbol_names.proofs.NameLemmas.{names_differ}
+use Rattle.file_limits.specs.Found.{Differ}
+use Rattle.file_limits.specs.Lists as listed
 
 no_place : (o : Option ℕ) → ((at : ℕ) → o ≡ Some at → ⊥) → o ≡ None
 no_place None h = refl
@@ -35,8 +36,8 @@ output_is (Some n) x e = (n, (refl, same_some e))
 
 outputs_apart : (ns : List Named) → repeated_output ns ≡ None → Differ listed.output_text (map output_text ns)
 outputs_apart ns e n m x y g h k =
-    let a = output_is (slice_get ns n) x (ap (option_map listed.output_text) (sym (mapped_get output_text ns n)) ∙ g) in
-    let b = output_is (slice_get ns m) y (ap (option_map listed.output_text) (sym (mapped_get output_text ns m)) ∙ h) in
+    let a = output_is (slice_get ns n) x (ap (option_map listed.output_text) (sym (slice_get-map output_text ns n)) ∙ g) in
+    let b = output_is (slice_get ns m) y (ap (option_map listed.output_text) (sym (slice_get-map output_text ns m)) ∙ h) in
     names_differ [] ns e n m a.0 b.0 a.1.0 b.1.0 (ap fold a.1.1 ∙ k ∙ sym (ap fold b.1.1))
 
 module _ (files : List ProgramFile) (rs : List ResolvedFileTree) (h : IsResolved files rs)

@@ -1,6 +1,6 @@
 -- What holds of templates of programs.
 use Rattle.std.specs.Prelude.{◌≡◌, ℕ, List, Option, Some, slice_get}
-use Rattle.template_parts.specs.declared.mode.Form.TheVariants.{One}
+use Rattle.template_parts.specs.declared.mode.Form.{Form}
 use Rattle.template_parts.specs.declared.parameter.Parameter.{Parameter}
 use Rattle.template_tree.specs.Tree.{TemplateTree, Header, template, ResourceTree, trees}
 use Rattle.plan_cells.specs.Resources.{Nested, nested_at}
@@ -11,25 +11,26 @@ use Rattle.bicep_types.specs.Faults.{HasFault}
 use Rattle.bicep_types.specs.declared.fault.CheckFault.{CheckFault}
 use Rattle.bicep_meaning.specs.Files.{SourceFile}
 use Rattle.source_worlds.specs.Numbers.{in_template, symbol_of}
-use Rattle.emitted_templates.specs.Files.{IsEmitted}
-use Rattle.emitted_templates.specs.Built.{Templates, template_of, AreBuilt}
-use Rattle.emitted_templates.specs.Seen.{Shape, file_in}
+use Rattle.file_limits.specs.Files.{IsEmitted}
+use Rattle.file_limits.specs.Built.{Templates, template_of, AreBuilt}
+use Rattle.file_limits.specs.Seen.{Shape, file_in}
 use Rattle.parameter_rules.specs.Files.{IsParameterAt}
-use Rattle.emitted_templates.specs.Lists.{AreRules, rule_at}
+use Rattle.file_limits.specs.Lists.{AreRules, rule_at}
+pub use Rattle.file_limits.specs.Laws.{FilesWithinLimitsFit, TemplatesHaveMetadata, TemplatesHaveParts}
 use Rattle.program_templates.specs.Kinds.{HasKinds, NamesDiffer}
 use Rattle.program_templates.specs.Whole.{IsWhole}
 
 -- a template of the main file with those of all modules in it is that of the program
 abbrev pub WholeTemplatesAreEmitted : Type 0
 WholeTemplatesAreEmitted =
-    (files : List SourceFile) (u : TemplateTree) → IsWhole files 0 u → IsEmitted One files u
+    (z : Form) (files : List SourceFile) (u : TemplateTree) → IsWhole z files 0 u → IsEmitted z files u
 
 -- the template of a nested deployment is the one that was given for its module
 abbrev pub NestedTemplatesAreGiven : Type 0
 NestedTemplatesAreGiven =
-    (s : Shape) (us : Templates) (h : Header) (rs : List ResourceTree)
-    → AreBuilt s us (in_template One (file_in s)) rs → (m n : ℕ) (x : Nested)
-    → nested_at (template h (trees rs)) m ≡ Some x → symbol_of One (file_in s) m ≡ Some n
+    (z : Form) (s : Shape) (us : Templates) (h : Header) (rs : List ResourceTree)
+    → AreBuilt z s us (in_template z (file_in s)) rs → (m n : ℕ) (x : Nested)
+    → nested_at (template h (trees rs)) m ≡ Some x → symbol_of z (file_in s) m ≡ Some n
     → template_of us n ≡ Some x.template
 
 -- the symbols of a file are of the kinds of their declarations

@@ -1,5 +1,5 @@
 -- The plain state, as it is made.
-use Rattle.std.proofs.Common.{◌≡◌, ◌≤◌, ℕ, Bool, true, false, ◌&&◌, ◌||◌, List, [], ◌++◌, chars, codes, IsUtf8, cond}
+use Rattle.std.proofs.Common.{◌≡◌, ◌≤◌, ℕ, Bool, true, false, ◌&&◌, ◌||◌, List, [], ◌++◌, chars, codes, IsUtf8}
 use Rattle.std.proofs.Common.{Some, None, option_and_then, Result, Ok, Err, IfOk, refl, sym, ap, ap₂, ◌∙◌, arith}
 use Rattle.std.proofs.Common.{true≢false, bytes_eq, subst}
 use Rattle.std.proofs.lemmas.Str.{chars-append, chars-nil, IsUtf8-from_ascii}
@@ -23,7 +23,7 @@ use Rattle.provider_trait.specs.Plain.{stored_properties, state_named, plain_sta
 use Rattle.foundation.proofs.AsciiWords.{word, ascii_word}
 use Rattle.provider_trait.proofs.NestLemmas.{put_body, members_nest, found_nests}
 use Rattle.arm_value.proofs.TreeLemmas.{put_nests, members-pairs}
-use Rattle.foundation.proofs.Choices.{cond_false}
+use Rattle.foundation.proofs.Choices.{cond_false, cond_true}
 
 pub copied_members : {E : Type 0} (r : Result (List Member) E) (ms : List Member) (j : Json) → j ≡ object (pairs ms)
     → IfOk r (λ v. v ≡ ms) → IfOk r (λ v. v ≡ members_of j)
@@ -54,20 +54,16 @@ pub look_none : (body : Json) (first second : List ℕ) → None ≡ look first 
     → option_and_then (look second) (look first body) ≡ None
 look_none body first second e = ap (option_and_then (look second)) (sym e)
 
-yes : {A : Type 0} (b : Bool) (x y : A) → b ≡ true → cond b x y ≡ x
-yes true x y e = refl
-yes false x y e = absurd (true≢false (sym e))
-
 -- which of the four codes holds
 pub first_code : (kind name : List ℕ) (body : Json) → has_wrong_properties body ≡ true
     → refusal kind name body ≡ Some (codes "InvalidProperties")
 unfolding refusal
-first_code kind name body a = yes (has_wrong_properties body) _ _ a
+first_code kind name body a = cond_true (has_wrong_properties body) _ _ a
 
 pub second_code : (kind name : List ℕ) (body : Json) → has_wrong_properties body ≡ false
     → lacks_location kind body ≡ true → refusal kind name body ≡ Some (codes "LocationRequired")
 unfolding refusal
-second_code kind name body a b = cond_false (has_wrong_properties body) _ _ a ∙ yes (lacks_location kind body) _ _ b
+second_code kind name body a b = cond_false (has_wrong_properties body) _ _ a ∙ cond_true (lacks_location kind body) _ _ b
 
 pub third_code : (kind name : List ℕ) (body : Json) → has_wrong_properties body ≡ false
     → lacks_location kind body ≡ false → lacks_sku kind body ≡ true
@@ -75,7 +71,7 @@ pub third_code : (kind name : List ℕ) (body : Json) → has_wrong_properties b
 unfolding refusal
 third_code kind name body a b c =
     cond_false (has_wrong_properties body) _ _ a ∙ cond_false (lacks_location kind body) _ _ b
-    ∙ yes (lacks_sku kind body) _ _ c
+    ∙ cond_true (lacks_sku kind body) _ _ c
 
 pub fourth_code : (kind name : List ℕ) (body : Json) → has_wrong_properties body ≡ false
     → lacks_location kind body ≡ false → lacks_sku kind body ≡ false → has_wrong_name kind name ≡ true
@@ -84,7 +80,7 @@ unfolding refusal
 fourth_code kind name body a b c d =
     cond_false (has_wrong_properties body) _ _ a ∙ cond_false (lacks_location kind body) _ _ b
     ∙ cond_false (lacks_sku kind body) _ _ c
-    ∙ yes (has_wrong_name kind name) _ _ d
+    ∙ cond_true (has_wrong_name kind name) _ _ d
 
 pub no_code : (kind name : List ℕ) (body : Json) → has_wrong_properties body ≡ false
     → lacks_location kind body ≡ false → lacks_sku kind body ≡ false → has_wrong_name kind name ≡ false

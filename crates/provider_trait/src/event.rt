@@ -1,7 +1,7 @@
 // What happens in a deployment.
 
 use crate::answer::Answer;
-use arm_value::{ListOf, Value};
+use arm_value::Value;
 
 /// What happens in a deployment. Tasks and workers are named by their numbers.
 #[derive(Drop)]
@@ -19,6 +19,3 @@ pub enum Event {
     /// The service stopped and started again.
     Crash,
 }
-
-/// A history: what happened, oldest first.
-pub type Events = ListOf<Event>;

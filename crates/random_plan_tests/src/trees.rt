@@ -9,7 +9,7 @@ use std::rt::HostRuntime;
 use std::test::Fail;
 
 const HELD: &str = r#"< /subscriptions/s/resourceGroups/g/providers/a.b/c/z-r0
-< /subscriptions/s/resourceGroups/g/providers/a.b/c/Z-R1
+< /subscriptions/s/resourceGroups/g/providers/a.b/c/Z-r1
 < /subscriptions/s/resourceGroups/g/providers/a.b/c/z-r1/d/c
 < /subscriptions/s/resourceGroups/g/providers/a.b/c/zi0-r1
 < /subscriptions/s/resourceGroups/g/providers/a.b/c/o

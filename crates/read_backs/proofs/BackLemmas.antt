@@ -1,13 +1,14 @@
 -- A value whose texts have characters alone is made of its data again.
-use Rattle.std.proofs.Common.{◌≡◌, ℕ, ℤ, pos, negsuc, List, [], ◌∷◌, chars, encode_utf8_all, Option, Some, refl, sym, ap, ap₂}
+use Rattle.std.proofs.Common.{◌≡◌, ℕ, ℤ, pos, negsuc, List, [], ◌∷◌, chars, Option, refl, sym, ap, ap₂}
 use Rattle.std.proofs.Common.{◌∙◌}
+use Rattle.std.proofs.lemmas.Option.{same_Some}
 use Rattle.arm_value.specs.Fault.{Gives}
 use Rattle.arm_value.specs.Json.{Json, null, bool, int, text, array, object, Row, no_items, item, Pairs, no_pairs, pair}
 use Rattle.arm_value.specs.Reading.{data_of, row_data, pairs_data}
 use Rattle.serde_json.specs.Data as d
 use Rattle.serde_json.specs.Data.{Data}
 use Rattle.serde_json.specs.Find.{of_integer}
-use Rattle.read_backs.specs.Characters.{IsText, HasCharacters, RowHasCharacters, PairsHaveCharacters}
+use Rattle.read_backs.specs.Characters.{HasCharacters, RowHasCharacters, PairsHaveCharacters}
 
 abbrev integer_of : d.Num → ℤ
 integer_of (d.unsigned n) = pos n
@@ -54,9 +55,6 @@ mutual
       ap (λ (x : List ℕ). pair x (back (data_of j)) (members_back (pairs_data ms))) h.0
       ∙ ap₂ (pair k) (is_back j h.1) (pairs_back ms h.2)
 
-one_data : (a b : Data) → Some a ≡ Some b → a ≡ b
-one_data a b e = cc
-
 pub once : (read : Option Data) (j k : Json) → HasCharacters j → HasCharacters k → Gives read j → Gives read k → j ≡ k
 once read j k h i g l =
-    sym (is_back j h) ∙ ap back (one_data (data_of j) (data_of k) (sym g.0 ∙ l.0)) ∙ is_back k i
+    sym (is_back j h) ∙ ap back (same_Some (data_of j) (data_of k) (sym g.0 ∙ l.0)) ∙ is_back k i

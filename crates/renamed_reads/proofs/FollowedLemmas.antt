@@ -1,9 +1,8 @@
 -- Readings that follow others, and the cells of a reading that reads no marked cell.
 use Rattle.std.proofs.Common.{◌≡◌, Bool, true, false, Option, Some, refl, ap, ◌∙◌}
-use Rattle.std.proofs.lemmas.Bool.{true≢false}
-use Rattle.std.specs.Prelude.{◌||◌}
-use Rattle.reading.specs.Reading.{Reading, done, ask, continued}
-use Rattle.reading.specs.World.{value_in, reads_in, Each}
+use Rattle.foundation.proofs.TruthValues.{or_left, or_right}
+use Rattle.reading.specs.Reading.{Reading, done, ask}
+use Rattle.reading.specs.World.{reads_in, Each}
 use Rattle.deploy_cells.specs.Followed.{followed}
 use Rattle.bicep_emission.specs.Alike.{seen_in, after}
 use Rattle.bicep_emission.proofs.SeenLemmas.{then_seen, seen-continued}
@@ -21,19 +20,11 @@ module _ (C D J K A : Type 0) (w : D → Option K) (m : D → Bool) (v : C → O
       ∙ ap (λ t. then_seen t (λ o. seen_in w m (followed h (k o)))) e.0
       ∙ ap (after (n c)) (seen-followed (k (v c)) e.1)
 
-left_false : (a b : Bool) → (a || b) ≡ false → a ≡ false
-left_false true b e = absurd (true≢false e)
-left_false false b e = refl
-
-right_false : (a b : Bool) → (a || b) ≡ false → b ≡ false
-right_false true b e = absurd (true≢false e)
-right_false false b e = e
-
 module _ (C J A : Type 0) (v : C → Option J) (n : C → Bool) where
   pub reads-unmarked : (r : Reading C J A) → (seen_in v n r).1 ≡ false → Each (λ c. n c ≡ false) (reads_in v r)
   unfolding reads_in seen_in
   reads-unmarked (done o) e = tt
   reads-unmarked (ask c k) e = (
-    right_false (seen_in v n (k (v c))).1 (n c) e,
-    reads-unmarked (k (v c)) (left_false (seen_in v n (k (v c))).1 (n c) e),
+    or_right (seen_in v n (k (v c))).1 (n c) e,
+    reads-unmarked (k (v c)) (or_left (seen_in v n (k (v c))).1 (n c) e),
   )

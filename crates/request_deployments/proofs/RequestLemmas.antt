@@ -37,7 +37,7 @@ use Rattle.template_deployments.specs.Deploying.{AreReady, CameOut, IsRefusedWit
 use Rattle.template_deployments.specs.Refusals.{IsRefusal}
 use Rattle.template_parts.specs.declared.given.GivenValue.{GivenValue}
 use Rattle.request_deployments.specs.Deployed.{MayDeployBytes, TellsTree, IsUntroubled, place_in}
-use Rattle.request_deployments.proofs.StatusLemmas.{one, nine, of_given, of_run}
+use Rattle.request_deployments.proofs.StatusLemmas.{one, nine, not_tree, of_given, of_run}
 use Rattle.request_deployments.specs.Given.{MayDeployPlaced, request_with, IsRefusedRead, IsPlanRead, IsBadName}
 use Rattle.request_deployments.specs.Given.{IsRefusedGiven, IsPlanGiven}
 use Rattle.request_deployments.specs.Refused.{IsRefused}
@@ -220,7 +220,8 @@ untroubled may told faults calls old new o d bytes given c = of c.came
     t = terms (λ r. IsBadName d r ⊎ IsRefusedGiven bytes d given r) (IsPlanGiven bytes d given) (place_in d)
 
     of : Came t (around may told faults calls old new o) o → IsUntroubled o
-    of (inl down) = if_ok t.IsRefusal (λ r. ¬ (r.status ≡ 4)) o.report (of_given d bytes given) down.says
+    of (inl down) =
+        if_ok t.IsRefusal (λ r. ¬ (r.status ≡ 4)) o.report (λ r h. not_tree r (of_given d bytes given r h)) down.says
     of (inr ran) =
         if_ok (SaysRun (t.named ran.run.planned) t.name ran.run.ending) (λ r. ¬ (r.status ≡ 4)) o.report
         (of_run (t.named ran.run.planned) t.name ran.run.ending) ran.says

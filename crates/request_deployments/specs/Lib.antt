@@ -6,3 +6,8 @@ pub mod Clauses
 pub use Rattle.template_deployments.specs.Came
 pub use Rattle.template_deployments.specs.Deploying
 pub use Rattle.template_deployments.specs.Tells
+pub use Rattle.run_reports.specs.Deployments
+pub use Rattle.run_reports.specs.Past
+pub use Rattle.run_reports.specs.Reported
+pub use Rattle.run_reports.specs.Sides
+pub use Rattle.run_reports.specs.declared.outcome.Outcome

@@ -1,7 +1,7 @@
 -- Files that are resolved one after another.
 use Rattle.std.proofs.Common.{◌≡◌, ℕ, ◌+◌, List, [], ◌∷◌, ◌++◌, length, map, Some, None, refl, sym, ap, subst}
 use Rattle.std.proofs.Common.{◌∙◌}
-use Rattle.std.proofs.lemmas.List.{map-append, append_assoc, length-append}
+use Rattle.std.proofs.lemmas.List.{map-append, append_assoc, length-append, append-nil}
 use Rattle.bicep_found.specs.Found.{found, unknown}
 use Rattle.bicep_found.specs.declared.stop.Stop.{Stop}
 use Rattle.bicep_found.specs.declared.stop.Stop.TheVariants as stop
@@ -53,11 +53,7 @@ lost os all rest n rs k stop.OutOfMemory h e f = tt
 -- after the last
 pub all_found : (os : List OutputNames) (all : List NamedTree) (rs : List ResolvedFileTree) → IsSoFar os all [] rs
     → map (resolved_named os) all ≡ map (λ r. found r) rs
-all_found os all rs h = sym h.so_far ∙ none_after (map (λ r. found r) rs)
-  where
-    none_after : {A : Type 0} (xs : List A) → xs ++ [] ≡ xs
-    none_after [] = refl
-    none_after (x ∷ xs) = ap (λ ys. x ∷ ys) (none_after xs)
+all_found os all rs h = sym h.so_far ∙ append-nil (map (λ r. found r) rs)
 
 pub at_rest : (os : List OutputNames) (all rest left : List NamedTree) (rs : List ResolvedFileTree)
     → IsSoFar os all rest rs → rest ≡ left → IsSoFar os all left rs

@@ -8,6 +8,7 @@ use bicep_program::{Program, load};
 use bicep_types::{Checked, check};
 use std::alloc::{AllocError, Global};
 use std::test::Fail;
+use template_parts::Form;
 
 /// The answer; the part is dropped.
 pub fn letting_go<T: Drop, R>(answer: R, _part: T) -> R {
@@ -66,13 +67,18 @@ fn refused<T: Drop>(part: T) -> Outcome {
     letting_go(Outcome::Refused, part)
 }
 
-// The bytes of the template of a program that is read and checked.
-fn bytes_of(alloc: Global, program: &Program, checked: &Checked) -> Result<Bytes, EmitFault>
+// The bytes of the template, in a form, of a program that is read and checked.
+fn bytes_of(
+    alloc: Global,
+    program: &Program,
+    checked: &Checked,
+    form: Form,
+) -> Result<Bytes, EmitFault>
     requires loaded { spec.IsLoaded program.now }
     requires checked { spec.IsCheckedAs program.now checked.now }
     requires none { spec.HasNoFault program.now }
 {
-    match emit(alloc, program, checked) {
+    match emit(alloc, program, checked, form) {
         Ok(template) => {
             let bytes = build_bytes(alloc, &template);
             letting_go(bytes, template)
@@ -82,29 +88,29 @@ fn bytes_of(alloc: Global, program: &Program, checked: &Checked) -> Result<Bytes
 }
 
 // What a program becomes that is read.
-fn emitted(alloc: Global, program: &Program) -> Outcome
+fn emitted(alloc: Global, program: &Program, form: Form) -> Outcome
     requires { spec.IsLoaded program.now }
 {
     match check(alloc, program) {
         Ok(checked) => {
-            let bytes = bytes_of(alloc, program, &checked);
+            let bytes = bytes_of(alloc, program, &checked, form);
             letting_go(of_bytes(bytes), checked)
         }
         Err(fault) => refused(fault),
     }
 }
 
-/// What the program of these files becomes. The main file comes first. Each other file comes after a line as
-/// `--- modules/network.bicep`.
+/// What the program of these files becomes in a form. The main file comes first. Each other file comes after a line
+/// as `--- modules/network.bicep`.
 ///
 /// # Errors
 ///
 /// There is no memory.
-pub fn outcome_of(alloc: Global, program: &str) -> Result<Outcome, AllocError> {
+pub fn outcome_of(alloc: Global, program: &str, form: Form) -> Result<Outcome, AllocError> {
     let mut tree = folder(alloc, program)?;
     match load(alloc, &mut tree, "main.bicep") {
         Ok(program) => {
-            let outcome = emitted(alloc, &program);
+            let outcome = emitted(alloc, &program, form);
             Ok(letting_go(outcome, (program, tree)))
         }
         Err(fault) => Ok(refused((fault, tree))),
@@ -131,13 +137,14 @@ pub fn write_outcome(out: &mut String, outcome: &Outcome) -> Result<(), AllocErr
     }
 }
 
-/// What the program of these files becomes, as a text: the template, the limit that it is beyond, or `refused`.
+/// What the program of these files becomes in a form, as a text: the template, the limit that it is beyond, or
+/// `refused`.
 ///
 /// # Errors
 ///
 /// There is no memory.
-pub fn outcome_text(alloc: Global, program: &str) -> Result<String, Fail> {
-    let outcome = outcome_of(alloc, program)?;
+pub fn outcome_text(alloc: Global, program: &str, form: Form) -> Result<String, Fail> {
+    let outcome = outcome_of(alloc, program, form)?;
     let mut out = String::new(alloc);
     let written = write_outcome(&mut out, &outcome);
     letting_go(written, outcome)?;

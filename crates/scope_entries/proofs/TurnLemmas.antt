@@ -1,5 +1,6 @@
 -- What telling a line once comes to, by what is told of its cell.
 use Rattle.std.proofs.Common.{◌≡◌, ℕ, ◌<◌, Bool, true, false, length, Some, None, inr, refl, sym, subst, arith}
+use Rattle.std.proofs.lemmas.Option.{same_Some}
 use Rattle.reading.specs.Knowledge.{waits, absent}
 use Rattle.deploy_cells.specs.Cells.{Cell, state}
 use Rattle.arm_ids.specs.declared.id.ResourceId.{ResourceId}
@@ -83,9 +84,6 @@ module _ (t : Table) (l : Later) (f j : ℕ) (ready : IsReady t) (there : f < le
 
 -- ---- a line that has an entry, or is told to have no value
 
-same_turn : (r s : Turn) → Some r ≡ Some s → r ≡ s
-same_turn r s e = cc
-
 pub is_vacant : (on : Bool) (e : Entry) (j : ℕ) → kept_turn on e j ≡ None → e ≡ entry.Missing
 is_vacant on entry.Missing j h = refl
 is_vacant on (entry.Value v) j h = absurd (cc)
@@ -105,11 +103,11 @@ module _ (t : Table) (l : Later) (f j : ℕ) (ready : IsReady t) (there : f < le
   pub kept_turns : (on : Bool) (e : Entry) → entry_at l.entries.items j ≡ e → (r : Turn) → kept_turn on e j ≡ Some r
       → IsTurn on t l l f j r
   kept_turns on (entry.Value v) e r h =
-      subst (IsTurn on t l l f j) (same_turn turn.Kept r h)
+      subst (IsTurn on t l l f j) (same_Some turn.Kept r h)
       (settled_decided on t l (line_cell t j)
       (kept_settled t j ready own.listed (own_is_entry t f j own) l told v e))
   kept_turns on entry.Away e r h =
       let a = kept_absent t j ready own.listed (own_is_entry t f j own) l told e in
-      subst (IsTurn on t l l f j) (same_turn (nothing_turn on j) r h)
+      subst (IsTurn on t l l f j) (same_Some (nothing_turn on j) r h)
       (absent_turns t l l f j ready there own on (λ q. a) (λ q. refl) a.is_absent)
   kept_turns on entry.Missing e r h = absurd (cc)

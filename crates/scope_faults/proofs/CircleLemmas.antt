@@ -5,6 +5,7 @@ use Rattle.std.proofs.lemmas.List.{drop_all, append_assoc, append-nil}
 use Rattle.std.proofs.Math.Seq.{drop-cons}
 use Rattle.std.specs.Prelude.{slice_set, if◌then◌else◌, Result, Ok, Err, IfOk}
 use Rattle.std.specs.declared.alloc.AllocError.{AllocError}
+use Rattle.foundation.proofs.Comparisons.{is_or_lt}
 use Rattle.arm_value.specs.Json.{Json}
 use Rattle.arm_value.specs.View.{json}
 use Rattle.arm_value.specs.declared.value.Value.{Value}
@@ -467,20 +468,10 @@ module _ (t : Table) (m : Later) (js : List ℕ) where
   none_next i None h e = h
   none_next i (Some x) h e = absurd (cc)
 
-  last_or_before : (k i : ℕ) → k < i + 1 → (k ≡ i) ⊎ (k < i)
-  last_or_before zero zero h = inl refl
-  last_or_before zero (suc i) h = inr (omega arith)
-  last_or_before (suc k) zero h = absurd (omega (arith, h))
-  last_or_before (suc k) (suc i) h = next (last_or_before k i (omega (arith, h)))
-    where
-      next : (k ≡ i) ⊎ (k < i) → (suc k ≡ suc i) ⊎ (suc k < suc i)
-      next (inl q) = inl (ap suc q)
-      next (inr q) = inr (omega (arith, q))
-
   pub none_more : (i : ℕ) (o : Option Lack) → IsLineLack t m (line_cell t (get_or js i 0)) o → o ≡ None → NoneBefore i
       → NoneBefore (i + 1)
   none_more i o h e before k b =
-      elim (last_or_before k i b) [
+      elim (is_or_lt k i b) [
         | inl q ↦ subst (λ (n : ℕ). NeverWaits t m (line_cell t (get_or js n 0))) (sym q) (none_next i o h e)
         | inr q ↦ before k q
       ]

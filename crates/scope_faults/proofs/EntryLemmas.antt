@@ -1,8 +1,9 @@
 -- The first parameter or variable of a scope that has no value, and its fault.
-use Rattle.std.proofs.Common.{◌≡◌, ◌⊎◌, inl, inr, ℕ, zero, suc, ◌+◌, ◌<◌, ◌≤◌, Bool, true, false, List, [], ◌∷◌}
+use Rattle.std.proofs.Common.{◌≡◌, inl, inr, ℕ, zero, suc, ◌+◌, ◌<◌, ◌≤◌, Bool, true, false, List, [], ◌∷◌}
 use Rattle.std.proofs.Common.{length, get_or, Option, Some, None, refl, sym, ap, subst, ◌∙◌, arith}
 use Rattle.std.specs.Prelude.{Result, Ok, Err, IfOk, is_none, option_map}
 use Rattle.std.specs.declared.alloc.AllocError.{AllocError}
+use Rattle.foundation.proofs.Comparisons.{is_or_lt}
 use Rattle.arm_value.specs.Json.{Json}
 use Rattle.arm_value.specs.View.{json}
 use Rattle.arm_value.specs.declared.value.Value.{Value}
@@ -66,16 +67,6 @@ module _ (t : Table) (l : Later) (js : List ℕ) where
   pub valued_begins : ValuedBefore 0
   valued_begins k h = absurd (omega (arith, h))
 
-  last_or_before : (k i : ℕ) → k < i + 1 → (k ≡ i) ⊎ (k < i)
-  last_or_before zero zero h = inl refl
-  last_or_before zero (suc i) h = inr (omega arith)
-  last_or_before (suc k) zero h = absurd (omega (arith, h))
-  last_or_before (suc k) (suc i) h = next (last_or_before k i (omega (arith, h)))
-    where
-      next : (k ≡ i) ⊎ (k < i) → (suc k ≡ suc i) ⊎ (suc k < suc i)
-      next (inl q) = inl (ap suc q)
-      next (inr q) = inr (omega (arith, q))
-
   valued_by : (c : Cell) (b : Bool) → b ≡ true → IsValued t l c b → HasValue t l c
   valued_by c true e h = h
   valued_by c false e h = absurd (cc)
@@ -87,7 +78,7 @@ module _ (t : Table) (l : Later) (js : List ℕ) where
   pub valued_more : (i : ℕ) (b : Bool) → b ≡ true → IsValued t l (line_cell t (get_or js i 0)) b → ValuedBefore i
       → ValuedBefore (i + 1)
   valued_more i b e h before k g =
-      elim (last_or_before k i g) [
+      elim (is_or_lt k i g) [
         | inl q ↦
             subst (λ (n : ℕ). HasValue t l (line_cell t (get_or js n 0))) (sym q)
             (valued_by (line_cell t (get_or js i 0)) b e h)

@@ -1,8 +1,9 @@
 -- The first output of a scope that has no value, and its fault.
-use Rattle.std.proofs.Common.{◌≡◌, ◌⊎◌, inl, inr, ℕ, zero, suc, ◌+◌, ◌<◌, ◌≤◌, Bool, true, false, List, [], ◌∷◌}
+use Rattle.std.proofs.Common.{◌≡◌, inl, inr, ℕ, zero, suc, ◌+◌, ◌<◌, ◌≤◌, Bool, true, false, List, [], ◌∷◌}
 use Rattle.std.proofs.Common.{length, get_or, Option, Some, None, refl, sym, ap, subst, ◌∙◌, arith}
 use Rattle.std.specs.Prelude.{Result, Ok, Err, IfOk, codes, option_and_then}
 use Rattle.std.specs.declared.alloc.AllocError.{AllocError}
+use Rattle.foundation.proofs.Comparisons.{is_or_lt}
 use Rattle.arm_value.specs.Json.{Json}
 use Rattle.arm_value.specs.View.{json}
 use Rattle.arm_value.specs.declared.value.Value.{Value}
@@ -81,19 +82,9 @@ lack_not_nothing t u lack.OutOfMemory h q = h
 
 -- ---- one output after another
 
-last_or_before : (k i : ℕ) → k < i + 1 → (k ≡ i) ⊎ (k < i)
-last_or_before zero zero h = inl refl
-last_or_before zero (suc i) h = inr (omega arith)
-last_or_before (suc k) zero h = absurd (omega (arith, h))
-last_or_before (suc k) (suc i) h = next (last_or_before k i (omega (arith, h)))
-  where
-    next : (k ≡ i) ⊎ (k < i) → (suc k ≡ suc i) ⊎ (suc k < suc i)
-    next (inl q) = inl (ap suc q)
-    next (inr q) = inr (omega (arith, q))
-
 one_more : (P : ℕ → Type 0) (i : ℕ) → P i → ((k : ℕ) → k < i → P k) → (k : ℕ) → k < i + 1 → P k
 one_more P i h before k b =
-    elim (last_or_before k i b) [
+    elim (is_or_lt k i b) [
       | inl q ↦ subst P (sym q) h
       | inr q ↦ before k q
     ]

@@ -3,6 +3,7 @@ use Rattle.std.proofs.Common.{◌≡◌, ℕ, zero, suc, ◌<◌, Bool, true, fa
 use Rattle.std.proofs.Common.{length, drop, get_or, Some, refl, sym, ap, subst, ◌∙◌, arith}
 use Rattle.std.specs.Prelude.{slice_set, if◌then◌else◌}
 use Rattle.std.proofs.lemmas.List.{drop_all, length-map}
+use Rattle.foundation.proofs.Lists.{next_after}
 use Rattle.arm_value.specs.Json.{bool}
 use Rattle.arm_value.specs.View.{json}
 use Rattle.reading.specs.World.{Each}
@@ -222,11 +223,6 @@ each_item P (y ∷ ys) (suc i) n h e a = each_item P ys i n (omega (arith, h)) e
 
 -- ---- what is left of the list
 
-drop_at : (ns : List Noted) (i : ℕ) (n : Noted) → i < length ns → n ≡ get_or ns i n → drop i ns ≡ n ∷ drop (suc i) ns
-drop_at [] i n h e = absurd (omega (arith, h))
-drop_at (y ∷ ys) zero n h e = ap (λ (z : Noted). z ∷ ys) (sym e)
-drop_at (y ∷ ys) (suc i) n h e = drop_at ys i n (omega (arith, h)) e
-
 length_more : (ys : List Noted) (n : Noted) → length (ys ++ n ∷ []) ≡ suc (length ys)
 length_more [] n = refl
 length_more (y ∷ ys) n = ap suc (length_more ys n)
@@ -234,7 +230,7 @@ length_more (y ∷ ys) n = ap suc (length_more ys n)
 pub left_here : (ns ys : List Noted) (n : Noted) → length ys < length ns → n ≡ get_or ns (length ys) n
     → drop (length ys) ns ≡ n ∷ drop (length (ys ++ n ∷ [])) ns
 left_here ns ys n h e =
-    drop_at ns (length ys) n h e ∙ ap (λ (k : ℕ). n ∷ drop k ns) (sym (length_more ys n))
+    next_after ns (length ys) n h e ∙ ap (λ (k : ℕ). n ∷ drop k ns) (sym (length_more ys n))
 
 pub left_gone : (ns ys : List Noted) → map (λ (n : Noted). n) ys ≡ ns → drop (length ys) ns ≡ []
 left_gone ns ys e =

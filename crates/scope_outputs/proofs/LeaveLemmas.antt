@@ -1,7 +1,9 @@
 -- What is known at a point once an output of a scope that was left is kept.
 use Rattle.std.proofs.Common.{◌≡◌, ◌⊎◌, inl, inr, ℕ, ◌<◌, Bool, true, false, true≢false, List, [], ◌∷◌, ◌++◌, map}
 use Rattle.std.proofs.Common.{length, Option, Some, None, refl, sym, ap, subst, ◌∙◌}
-use Rattle.std.specs.Prelude.{slice_get, slice_set, ◌||◌, if◌then◌else◌}
+use Rattle.std.specs.Prelude.{slice_get, slice_set, if◌then◌else◌}
+use Rattle.std.proofs.lemmas.Bool.{or_right}
+use Rattle.plan_cells.proofs.KnownLemmas.{same_entry}
 use Rattle.arm_value.specs.Json.{Json, bool}
 use Rattle.arm_value.specs.View.{json}
 use Rattle.arm_value.specs.declared.value.Value.{Value}
@@ -11,9 +13,9 @@ use Rattle.reading.proofs.Growth.{told_still}
 use Rattle.deploy_cells.specs.Cells.{Position, Cell, parent, admits, parameter, variable, offered, output, count}
 use Rattle.deploy_cells.specs.Cells.{included, name, deployments, state, World}
 use Rattle.deploy_cells.specs.Guarded.{told_where}
-use Rattle.deploy_cells.specs.Same.{same, same_position}
+use Rattle.deploy_cells.specs.Same.{same}
 use Rattle.deploy_cells.proofs.CellLemmas.{guarded_told}
-use Rattle.deploy_cells.proofs.SameLemmas.{cell_is, cell_same}
+use Rattle.deploy_cells.proofs.SameLemmas.{cell_is, cell_same, position_is, position_same}
 use Rattle.plan_cells.specs.Known.{by_others, entry_of, entry_told, IsKnown, is_told}
 use Rattle.plan_cells.specs.Meaning.{Deployment, meaning, plain}
 use Rattle.plan_cells.specs.Start as start
@@ -49,18 +51,6 @@ use Rattle.scope_entries.proofs.ThereNowLemmas.{line_there}
 use Rattle.scope_entries.proofs.GoesLemmas.{told_entry_on, entry_set, length_set}
 use Rattle.scope_outputs.specs.Outputs.{position_of, IsOffered, IsLeft, IsKept, Leaves}
 use Rattle.scope_outputs.proofs.GivenLemmas.{after_rows, lines_given}
-
-position_is : (p q : Position) → same_position p q ≡ true → p ≡ q
-position_is p q e = let both : deployments p ≡ deployments q = cell_is (deployments p) (deployments q) e in cc
-
-position_itself : (p : Position) → same_position p p ≡ true
-position_itself p = cell_same (deployments p)
-
-entry_is : (o u : Option Json) → entry_of o ≡ entry_of u → o ≡ u
-entry_is (Some v) (Some w) e = cc
-entry_is (Some v) None e = absurd (cc)
-entry_is None (Some w) e = absurd (cc)
-entry_is None None e = refl
 
 no_entry : (os : List Opened) (s : Spot) (p : Position) (x : List ℕ) → IsEntrySpot s → cell_of os s ≡ offered p x → ⊥
 no_entry os (Parameter f n) p x i e = cc
@@ -106,10 +96,6 @@ giver_leaves d w (leave p) q c h g = ap leave (same_output p q c g h)
 
 -- ---- a scope that was left
 
-or_true : (a b : Bool) → b ≡ true → (a || b) ≡ true
-or_true true b e = refl
-or_true false b e = e
-
 leave_of : (q : Position) (t : Task) → is_leave_of q t ≡ true → t ≡ leave q
 leave_of q (enter p) e = absurd (cc)
 leave_of q (put p s) e = absurd (cc)
@@ -119,7 +105,7 @@ leave_of q (leave p) e = ap leave (sym (position_is q p e))
 module _ (x : Planned) (p : Progress) (q : Position) (left : IsLeft x p q) where
   leaver_done : (o : Option ℕ) → leaver x q ≡ o → is_done_at p.status o ≡ true
   leaver_done None e =
-      absurd (true≢false (sym (position_itself q)
+      absurd (true≢false (sym (position_same q)
       ∙ none_is (λ i t. is_leave_of q t) x.tasks e left.number (leave q) left.is_task))
   leaver_done (Some u) e =
       let f = first_is (λ i t. is_leave_of q t) x.tasks u e in
@@ -129,7 +115,7 @@ module _ (x : Planned) (p : Progress) (q : Position) (left : IsLeft x p q) where
       → start.output_access (course x) (point x p.status) r c ≡ by_others
   seen_left [] c e = refl
   seen_left (s ∷ r) c e =
-      ap if_seen (or_true (is_there (x.known c)) (is_done_at p.status (leaver x (s ∷ r)))
+      ap if_seen (or_right (is_there (x.known c)) (is_done_at p.status (leaver x (s ∷ r)))
       (subst (λ (z : Position). is_done_at p.status (leaver x z) ≡ true) (sym e) (leaver_done (leaver x q) refl)))
 
 -- ---- one output
@@ -246,7 +232,7 @@ module _ (t : Table) (f : ℕ) (ready : IsReady t) (x : List ℕ) (j : ℕ) (e :
           → same (offered q x) d ≡ z → (if z then known b else known_now t l d) ≡ entry_of u → Knows d u
       all_known b h d u true s g =
           subst (λ (c : Cell). Knows c u) (cell_is (offered q x) d s)
-          (subst (λ (o : Option Json). Knows (offered q x) o) (entry_is (Some b) u g) (knows_condition b h))
+          (subst (λ (o : Option Json). Knows (offered q x) o) (same_entry (Some b) u g) (knows_condition b h))
       all_known b h d u false s g = seen.known_then d u g
 
       -- what is told of the output by what is known with the condition
@@ -279,10 +265,10 @@ module _ (t : Table) (f : ℕ) (ready : IsReady t) (x : List ℕ) (j : ℕ) (e :
           → known_by (Some (condition_status b)) ≡ entry_of o → Knows (offered q x) o
       given_condition entry.Missing h o g = absurd h
       given_condition (entry.Value v) h o g =
-          subst (λ (u : Option Json). Knows (offered q x) u) (entry_is (Some (bool true)) o g)
+          subst (λ (u : Option Json). Knows (offered q x) u) (same_entry (Some (bool true)) o g)
           (knows_condition (bool true) h.0)
       given_condition entry.Away h o g =
-          subst (λ (u : Option Json). Knows (offered q x) u) (entry_is (Some (bool false)) o g)
+          subst (λ (u : Option Json). Knows (offered q x) u) (same_entry (Some (bool false)) o g)
           (knows_condition (bool false) h)
 
       given_output : (b : Entry) → IsOffered t l f x b → (o : Option Json)
@@ -312,9 +298,9 @@ module _ (t : Table) (f : ℕ) (ready : IsReady t) (x : List ℕ) (j : ℕ) (e :
           → known_now t m c ≡ missing
       hides_next v task c has given undone (inl h) = h ∙ seen.hides v task c has given undone
       hides_next v task c has given undone (inr (inl h)) =
-          absurd (not_hidden v task c has given undone (ap (is_output_of q) h.0 ∙ position_itself q))
+          absurd (not_hidden v task c has given undone (ap (is_output_of q) h.0 ∙ position_same q))
       hides_next v task c has given undone (inr (inr h)) =
-          absurd (not_hidden v task c has given undone (ap (is_output_of q) h.0 ∙ position_itself q))
+          absurd (not_hidden v task c has given undone (ap (is_output_of q) h.0 ∙ position_same q))
 
       still_seen : IsSeen y p (known_now t m)
       still_seen = record {

@@ -1,6 +1,7 @@
 -- Outputs that are told one after another.
 use Rattle.std.proofs.Common.{◌≡◌, inl, inr, ℕ, zero, suc, ◌+◌, ◌<◌, ◌≤◌, List, [], ◌∷◌, ◌++◌, length, drop, refl}
 use Rattle.std.proofs.Common.{sym, ap, subst, ◌∙◌, arith, append_assoc}
+use Rattle.std.proofs.lemmas.List.{append-nil}
 use Rattle.plan_cells.specs.Children.{Has}
 use Rattle.plan_table.specs.declared.table.Table.{Table}
 use Rattle.plan_table.specs.Lines.{name_at}
@@ -23,10 +24,6 @@ names_gone [] zero h = refl
 names_gone [] (suc i) h = refl
 names_gone (x ∷ xs) zero h = absurd (omega (arith, h))
 names_gone (x ∷ xs) (suc i) h = names_gone xs i (omega (arith, h))
-
-nil_right : (ns : List Noted) → ns ++ [] ≡ ns
-nil_right [] = refl
-nil_right (n ∷ ns) = ap (λ (ms : List Noted). n ∷ ms) (nil_right ns)
 
 drop_zero : (xs : List (List ℕ)) → drop 0 xs ≡ xs
 drop_zero [] = refl
@@ -57,5 +54,5 @@ module _ (t : Table) (l : Later) (f : ℕ) where
   pub noted_ends : (ns : List Noted) (i : ℕ) → length (names_of t f) ≤ i → NotedLeft t l f ns i
       → AreNoted t l f (names_of t f) ns
   noted_ends ns i h left =
-      subst (AreNoted t l f (names_of t f)) (nil_right ns)
+      subst (AreNoted t l f (names_of t f)) (append-nil ns)
       (left [] (subst (λ (xs : List (List ℕ)). AreNoted t l f xs []) (sym (names_gone (names_of t f) i h)) tt))

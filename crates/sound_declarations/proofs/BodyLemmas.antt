@@ -33,8 +33,8 @@ use Rattle.bicep_declared.specs.Declarations.{BodyTree}
 use Rattle.bicep_declared.specs.Declare.{body_of, plain_body, body_if, body_each, body_each_if}
 use Rattle.bicep_resolved.specs.Source.{field_named}
 use Rattle.bicep_emission.specs.Emittable.{IsEmittable, IsValue, IsReach}
-use Rattle.emitted_trees.specs.EmittedTrees.{has_copy}
-use Rattle.emitted_trees.specs.Sound.{allowed, IsSound, AreSoundMembers, IsSoundValue}
+use Rattle.sound_values.specs.EmittedTrees.{has_copy}
+use Rattle.sound_values.specs.Sound.{allowed, IsSound, AreSoundMembers, IsSoundValue}
 use Rattle.sound_values.specs.FewHoles.{HasFewHoles, MembersHaveFew, ValueHasFew}
 use Rattle.sound_values.proofs.FoundLemmas.{of_mapped, of_both, first_none, second_none}
 use Rattle.sound_values.proofs.NameLemmas.{not_copy}

@@ -20,7 +20,7 @@ use Rattle.bicep_declared.specs.Declare.{outputs_declared, declared_file, some_p
 use Rattle.bicep_declared.specs.Declare.{some_resource, some_module, some_output, file}
 use Rattle.bicep_declared.specs.Sites.{declarations_of}
 use Rattle.bicep_emission.specs.Emittable.{IsEmittable}
-use Rattle.emitted_trees.specs.Sound.{allowed, IsSound, IsSoundValue}
+use Rattle.sound_values.specs.Sound.{allowed, IsSound, IsSoundValue}
 use Rattle.bicep_numbers.proofs.FoundLemmas.{all-append}
 use Rattle.sound_values.specs.FewHoles.{ValueHasFew}
 use Rattle.sound_values.proofs.FoundLemmas.{of_mapped, of_both, same_found}

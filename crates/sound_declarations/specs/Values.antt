@@ -6,8 +6,8 @@ use Rattle.bicep_resolved.specs.Source as s
 use Rattle.bicep_declared.specs.Declarations.{BodyTree, DeclaredTree, DeclaredFileTree}
 use Rattle.bicep_declared.specs.Declarations as d
 use Rattle.bicep_emission.specs.Emittable.{IsEmittable}
-use Rattle.emitted_trees.specs.EmittedTrees.{has_copy}
-use Rattle.emitted_trees.specs.Sound.{IsSound, IsSoundValue, allowed}
+use Rattle.sound_values.specs.EmittedTrees.{has_copy}
+use Rattle.sound_values.specs.Sound.{IsSound, IsSoundValue, allowed}
 
 -- what a resource or a module runs over, and its condition
 abbrev pub IsLoopSound : Option LoopTree → Type 0

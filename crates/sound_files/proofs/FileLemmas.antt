@@ -40,7 +40,7 @@ use Rattle.bicep_types.proofs.FileLemmas.{all_declared}
 use Rattle.bicep_meaning.specs.Files.{SourceFile}
 use Rattle.declaration_laws.specs.Sound.{IsSound}
 use Rattle.ordered_emissions.specs.Orders.{IsPaired, IsOrderOf}
-use Rattle.sound_values.proofs.FoundLemmas.{of_mapped, of_both, first_none, second_none}
+use Rattle.sound_declarations.proofs.FoundLemmas.{of_mapped, of_both, first_none, second_none}
 use Rattle.sound_declarations.specs.Few.{FileHasFew}
 use Rattle.sound_files.specs.Files.{IsFileOf}
 use Rattle.sound_declarations.specs.Values.{AreValuesSound}

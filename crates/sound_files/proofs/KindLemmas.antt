@@ -1,8 +1,9 @@
 -- The whole types of the resources of a file without faults.
 use Rattle.std.proofs.Common.{◌≡◌, inl, inr, ◌<◌, ◌≤◌, ℕ, zero, suc, ◌+◌, List, [], ◌∷◌, ◌++◌, length, map}
 use Rattle.std.proofs.Common.{Option, Some, None, refl, sym, ap, ap₂, ◌∙◌, subst, arith, length-append}
-use Rattle.std.proofs.lemmas.Option.{none-some, same_Some}
+use Rattle.std.proofs.lemmas.Option.{none-some, same_Some, slice_get_within}
 use Rattle.std.specs.Prelude.{slice_get, option_map, option_and_then}
+use Rattle.foundation.proofs.Lists.{got_last}
 use Rattle.bicep_misplaced.specs.Types.{divided}
 use Rattle.bicep_names.specs.declared.kind.Kind.{Kind}
 use Rattle.bicep_names.specs.declared.kind.Kind.TheVariants as k
@@ -13,9 +14,9 @@ use Rattle.bicep_declared.specs.Declarations as d
 use Rattle.bicep_placed.specs.Kinds.{around, path_of, kind_in, kind_by, known, whole_kind, whole_kinds_after}
 use Rattle.bicep_meaning.specs.Files.{SourceFile, Typed, around_kind, divided_or, read_type, type_by, type_text}
 use Rattle.bicep_meaning.specs.Files.{type_within}
-use Rattle.emitted_declarations.specs.ChildTypes.{IsChildType}
+use Rattle.declaration_laws.specs.ChildTypes.{IsChildType}
 use Rattle.declaration_laws.specs.Sound.{IsResourceType}
-use Rattle.sound_files.proofs.ListLemmas.{Grows, grows_by, last_at, last_or, there, within}
+use Rattle.sound_files.proofs.ListLemmas.{Grows, grows_by, last_or, there}
 use Rattle.sound_files.proofs.LineLemmas.{Path, Line, LinedFrom}
 use Rattle.sound_files.proofs.TextLemmas.{IsWholeType, whole_type, part_type, child_type, nested_type}
 
@@ -86,11 +87,11 @@ next_type : (before : List Path) (types : List (List ℕ)) (o : Option ℕ) (p :
     → AreKnown before types → Line before o p → Next types o p
 next_type before types None None l h e = record {
   type = λ t g. absurd (none-some t g);
-  typed = λ all g. g (length types) [] (last_at types []);
+  typed = λ all g. g (length types) [] (got_last types []);
 }
 next_type before types None (Some t) l h e = record {
   type = λ u g. (whole_type t e).type;
-  typed = λ all g. record { is = g (length types) (kind_in t) (last_at types (kind_in t)); whole = whole_type t e };
+  typed = λ all g. record { is = g (length types) (kind_in t) (got_last types (kind_in t)); whole = whole_type t e };
 }
 next_type before types (Some m) None l h e = absurd e
 next_type before types (Some m) (Some t) l h e =
@@ -104,9 +105,9 @@ next_type before types (Some m) (Some t) l h e =
         up = a.0;
         is_up = g m a.0 (grows_by types ((known (slice_get types m) ++ 47 ∷ kind_in t) ∷ []) m a.0 a.1.0);
         is =
-            g (length types) _ (last_at types (known (slice_get types m) ++ 47 ∷ kind_in t))
+            g (length types) _ (got_last types (known (slice_get types m) ++ 47 ∷ kind_in t))
             ∙ ap (λ w. Some w) same;
-        before = within types m a.0 a.1.0;
+        before = slice_get_within types m a.0 a.1.0;
         type = own;
         child = child_type a.0 (kind_in t) a.1.1 (part_type t e.0);
       };
@@ -121,7 +122,7 @@ next_known before types p w l h f m t e =
       | inr g ↦ (
         w,
         (
-          ap (λ j. slice_get (types ++ w ∷ []) j) (g.0 ∙ l) ∙ last_at types w,
+          ap (λ j. slice_get (types ++ w ∷ []) j) (g.0 ∙ l) ∙ got_last types w,
           f t g.1,
         ),
       )

@@ -5,6 +5,7 @@ use Rattle.std.proofs.Common.{refl, sym, ap}
 use Rattle.std.proofs.Common.{subst, ◌∙◌}
 use Rattle.std.proofs.lemmas.List.{append-nil, append_assoc, map-append}
 use Rattle.std.specs.Prelude.{option_to_list, slice_get, if◌then◌else◌}
+use Rattle.foundation.proofs.Lists.{got_last}
 use Rattle.bicep_tree.specs.Tree.{ResourceTree, BodyTree, ObjectTree, MemberTree, MemberTrees, DeclarationTree}
 use Rattle.bicep_tree.specs.Tree.{FileTree}
 use Rattle.bicep_tree.specs.Tree as tree
@@ -22,8 +23,8 @@ use Rattle.bicep_declared.specs.Declare.{some_resource, some_module}
 use Rattle.bicep_declared.specs.Sites.{declarations_of}
 use Rattle.bicep_declared.specs.Sites as sites
 use Rattle.bicep_placed.specs.Kinds.{around, path_of}
-use Rattle.sound_values.proofs.FoundLemmas.{of_mapped, of_both, same_found, first_none, second_none}
-use Rattle.sound_files.proofs.ListLemmas.{Grows, grows_by, last_at}
+use Rattle.sound_declarations.proofs.FoundLemmas.{of_mapped, of_both, same_found, first_none, second_none}
+use Rattle.sound_files.proofs.ListLemmas.{Grows, grows_by}
 
 -- the type text of a resource; anything else has none
 abbrev pub Path : Type 0
@@ -138,7 +139,7 @@ last_resource ss ts t text e h = record {
       ap (λ (qs : List Path). slice_get qs (length ss))
       (one_path ts t ∙ ap (λ xs. written_paths ts ++ xs) e)
       ∙ ap (λ n. slice_get (written_paths ts ++ Some text ∷ []) n) (as_many [] ss (written_paths ts) h)
-      ∙ last_at (written_paths ts) (Some text);
+      ∙ got_last (written_paths ts) (Some text);
 }
 
 still : (ts us : List DeclarationTree) (k : ℕ) → Grows (written_paths ts) (written_paths us)

@@ -13,10 +13,6 @@ grows_by [] zs m x e = absurd (none-some x e)
 grows_by (y ∷ xs) zs zero x e = e
 grows_by (y ∷ xs) zs (suc m) x e = grows_by xs zs m x e
 
-pub last_at : {A : Type 0} (xs : List A) (x : A) → slice_get (xs ++ x ∷ []) (length xs) ≡ Some x
-last_at [] x = refl
-last_at (y ∷ xs) x = last_at xs x
-
 pub last_or : {A : Type 0} (xs : List A) (x : A) (m : ℕ) (y : A) → slice_get (xs ++ x ∷ []) m ≡ Some y
     → (slice_get xs m ≡ Some y) ⊎ ((m ≡ length xs) × (x ≡ y))
 last_or [] x zero y e = inr (refl, same_Some x y e)
@@ -37,8 +33,3 @@ pub there : {A : Type 0} (xs : List A) (n : ℕ) → n < length xs → There xs 
 there [] n h = absurd (omega (arith, h))
 there (x ∷ xs) zero h = record { item = x; is = refl }
 there (x ∷ xs) (suc n) h = let t = there xs n (omega (arith, h)) in record { item = t.item; is = t.is }
-
-pub within : {A : Type 0} (xs : List A) (n : ℕ) (x : A) → slice_get xs n ≡ Some x → n < length xs
-within [] n x e = absurd (none-some x e)
-within (y ∷ xs) zero x e = omega arith
-within (y ∷ xs) (suc n) x e = let h = within xs n x e in omega (arith, h)

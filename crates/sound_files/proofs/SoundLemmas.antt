@@ -4,7 +4,7 @@ use Rattle.std.proofs.Common.{refl, sym}
 use Rattle.std.proofs.Common.{ap, ◌∙◌, subst, arith, codes, map, ◌++◌, ◌<◌}
 use Rattle.std.specs.Prelude.{◌&&◌, not, bytes_eq, slice_get, option_map, option_and_then, if◌then◌else◌}
 use Rattle.std.specs.List.{AllByRecursion}
-use Rattle.std.proofs.lemmas.Option.{none-some, same_Some}
+use Rattle.std.proofs.lemmas.Option.{none-some, same_Some, slice_get_within}
 use Rattle.foundation.specs.Options.{or_else}
 use Rattle.bicep_tree.specs.declared.leaf.Quoted.{Quoted}
 use Rattle.bicep_resolved.specs.declared.leaf.Target.TheVariants as t
@@ -30,11 +30,11 @@ use Rattle.bicep_meaning.specs.Files.{SourceFile, declaration, inside, below}
 use Rattle.bicep_resolved.specs.Source.{field_named}
 use Rattle.bicep_meaning.specs.Files.{below_value, fields_parent, inside_or, around_kind, parent, type_of}
 use Rattle.bicep_emission.specs.Emittable.{IsValue}
-use Rattle.emitted_declarations.specs.ChildTypes.{IsChildType}
+use Rattle.declaration_laws.specs.ChildTypes.{IsChildType}
 use Rattle.declaration_laws.specs.Sound.{IsResourceType, IsSound}
-use Rattle.sound_values.proofs.FoundLemmas.{first_none, second_none}
+use Rattle.sound_declarations.proofs.FoundLemmas.{first_none, second_none}
 use Rattle.sound_declarations.specs.Values.{IsLoopSound, IsConditionSound}
-use Rattle.sound_files.proofs.ListLemmas.{There, there, within}
+use Rattle.sound_files.proofs.ListLemmas.{There, there}
 use Rattle.sound_files.proofs.TextLemmas.{child_segments, no_parent as not_child}
 use Rattle.sound_declarations.proofs.BodyLemmas.{BodyGood, link_named}
 use Rattle.sound_declarations.proofs.DeclaredLemmas.{IsGood, IsPlainEmittable}
@@ -286,7 +286,7 @@ module _ (f : SourceFile) (h : Checked f.symbols f.declared)
   -- the type of a resource, where it is known
   kind_is : (n : ℕ) (a : List ℕ) → slice_get types n ≡ Some a → (type_of f n).kind ≡ a
   kind_is n a e =
-      type_is f types h.typed h.pairs n (subst (λ j. n < j) h.typed.count (within types n a e)) ∙ ap known e
+      type_is f types h.typed h.pairs n (subst (λ j. n < j) h.typed.count (slice_get_within types n a e)) ∙ ap known e
 
   child_is : (n m : ℕ) (a b : List ℕ) → slice_get types n ≡ Some a → slice_get types m ≡ Some b → IsChildType a b
       → IsChildType (type_of f n).kind (type_of f m).kind
@@ -296,7 +296,7 @@ module _ (f : SourceFile) (h : Checked f.symbols f.declared)
 
   -- the symbol of a declaration
   symbol_at : (n : ℕ) (x : DeclaredTree) → declaration f n ≡ Some x → There f.symbols n
-  symbol_at n x e = there f.symbols n (subst (λ j. n < j) (sym h.pairs) (within f.declared.declarations n x e))
+  symbol_at n x e = there f.symbols n (subst (λ j. n < j) (sym h.pairs) (slice_get_within f.declared.declarations n x e))
 
   typed_at : (n : ℕ) (x : DeclaredTree) (e : declaration f n ≡ Some x)
       → IsTyped types n (around (symbol_at n x e).item.2) (path_of x)
@@ -340,7 +340,7 @@ module _ (f : SourceFile) (h : Checked f.symbols f.declared)
   inside_is n m e =
       let a = symbol_around (slice_get f.symbols n) m
       (inside_by (option_and_then around_kind (files.symbol_kind f n)) (declaration f n) m e) in
-      let x = there f.declared.declarations n (subst (λ j. n < j) h.pairs (within f.symbols n a.symbol a.is)) in
+      let x = there f.declared.declarations n (subst (λ j. n < j) h.pairs (slice_get_within f.symbols n a.symbol a.is)) in
       nested_by n m (path_of x.item)
       (subst (λ o. IsTyped types n o (path_of x.item)) (same_around a.symbol.2 ∙ a.around_is)
       (h.typed.typed n a.symbol x.item a.is x.is))
@@ -370,7 +370,7 @@ module _ (f : SourceFile) (h : Checked f.symbols f.declared)
   upper n m q None g w c =
       absurd (not_child (kind_in q.text) (ap (λ o. is_child (known o) (kind_in q.text)) (sym g) ∙ c) w.whole.filled)
   upper n m q (Some a) g w c =
-      let lt = subst (λ j. m < j) h.typed.count (within types m a g) in
+      let lt = subst (λ j. m < j) h.typed.count (slice_get_within types m a g) in
       let z = there f.symbols m lt in
       let x = there f.declared.declarations m (subst (λ j. m < j) h.pairs lt) in
       upper_by n m (around z.item.2) (path_of x.item) q (h.typed.typed m z.item x.item z.is x.is) w c

@@ -14,11 +14,11 @@ use Rattle.arm_ids.specs.Segments.{segments, is_slash, is_empty, has_slash}
 use Rattle.arm_ids.proofs.SegmentLemmas.{segments-fold, any_empty-fold}
 use Rattle.arm_ids.proofs.TextLemmas.{some_segment}
 use Rattle.bicep_misplaced.specs.Types.{divided, is_undivided}
-use Rattle.bicep_type_texts.specs.Texts.{is_blank, is_type, is_deployments, is_whole, is_whole_by, is_segment, is_part}
+use Rattle.bicep_type_texts.specs.Texts.{is_type, is_deployments, is_whole, is_whole_by, is_segment, is_part}
 use Rattle.bicep_type_texts.specs.Texts.{is_part_by}
 use Rattle.bicep_placed.specs.Kinds.{kind_in, kind_by, is_folded_front, is_child}
 use Rattle.bicep_emission.proofs.MadeLemmas.{one_segment}
-use Rattle.emitted_declarations.specs.ChildTypes.{IsChildType}
+use Rattle.declaration_laws.specs.ChildTypes.{IsChildType}
 use Rattle.declaration_laws.specs.Sound.{IsResourceType}
 
 -- ---- whole types
@@ -35,9 +35,9 @@ whole_by : (text : List ℕ) (o : Option (List ℕ × List ℕ)) → is_whole_by
 unfolding is_type is_deployments
 whole_by text None e = absurd cc
 whole_by text (Some q) e =
-    let a = both (is_type q.0) (not (is_deployments q.0) && not (is_blank q.1)) e in
+    let a = both (is_type q.0) (not (is_deployments q.0) && not (is_empty q.1)) e in
     let t = both (nat_le 2 (length (segments q.0))) (not (list_any is_empty (segments q.0))) a.0 in
-    let n = both (not (is_deployments q.0)) (not (is_blank q.1)) a.1 in
+    let n = both (not (is_deployments q.0)) (not (is_empty q.1)) a.1 in
     record {
       filled = of_not (list_any is_empty (segments q.0)) t.1;
       type = record {
@@ -73,14 +73,14 @@ not_slashed (c ∷ cs) e = slash_step c cs (not_slashed cs) (c == 47) refl e
 part_by : (text : List ℕ) (o : Option (List ℕ × List ℕ)) → is_part_by text o ≡ true
     → is_segment (kind_by text o) ≡ true
 part_by text None e = e
-part_by text (Some q) e = (both (is_segment q.0) (not (is_blank q.1)) e).0
+part_by text (Some q) e = (both (is_segment q.0) (not (is_empty q.1)) e).0
 
 -- the type in the type text of a nested resource is one segment
 pub part_type : (text : List ℕ) → is_part text ≡ true → has_slash (kind_in text) ≡ false
 part_type text e =
     let kind = kind_in text in
     not_slashed kind
-    ((both (is_undivided (divided 47 kind)) (not (is_blank kind)) (part_by text (divided 64 text) e)).0)
+    ((both (is_undivided (divided 47 kind)) (not (is_empty kind)) (part_by text (divided 64 text) e)).0)
 
 onto_front : (x : ℕ) (p : List ℕ) (ps qs rs : List (List ℕ)) → rs ≡ p ∷ ps
     → onto_first x (rs ++ qs) ≡ onto_first x rs ++ qs

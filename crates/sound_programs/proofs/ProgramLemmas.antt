@@ -17,7 +17,7 @@ use Rattle.sound_declarations.specs.Values.{AreValuesSound}
 use Rattle.sound_files.specs.Files.{IsFileOf}
 use Rattle.sound_files.proofs.FileLemmas.{sound_file, sound_values}
 use Rattle.file_words.proofs.FileLemmas.{few_holes}
-use Rattle.emitted_programs.specs.Sound.{IsSoundFile, IsSoundProgram}
+use Rattle.emitted_needs.specs.Sound.{IsSoundFile, IsSoundProgram}
 use Rattle.sound_programs.specs.Files.{AreFilesOf}
 use Rattle.sound_programs.proofs.ValueLemmas.{file_sound}
 

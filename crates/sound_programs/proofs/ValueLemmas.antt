@@ -21,7 +21,7 @@ use Rattle.declaration_laws.specs.Sound as declarations
 use Rattle.emitted_trees.specs.EmittedTrees.{has_copy}
 use Rattle.emitted_trees.specs.Sound.{names, Differ, IsSound, AreSoundMembers, IsSoundValue, allowed}
 use Rattle.sound_declarations.specs.Values.{IsBodySound, IsDeclaredSound, AreValuesSound}
-use Rattle.emitted_programs.specs.Sound.{IsSoundFile}
+use Rattle.emitted_needs.specs.Sound.{IsSoundFile}
 
 -- ---- fields
 

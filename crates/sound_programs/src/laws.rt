@@ -8,7 +8,7 @@ ghost use Rattle.bicep_types.specs.Faults.{HasFault};
 ghost use Rattle.bicep_types.specs.declared.fault.CheckFault.{CheckFault as Fault};
 ghost use Rattle.bicep_meaning.specs.Instances.{SourceProgram};
 ghost use Rattle.bicep_emission.specs.Answered.{IsPlainPlace};
-ghost use Rattle.emitted_programs.specs.Sound.{IsSoundProgram};
+ghost use Rattle.emitted_needs.specs.Sound.{IsSoundProgram};
 ghost use Rattle.emitted_needs.specs.Symbols.{HaveSymbols};
 ghost use Rattle.sound_programs.specs.Files.{AreFilesOf};
 

@@ -1,15 +1,16 @@
 -- Names of members that differ, and names that are not `copy`.
-use Rattle.std.proofs.Common.{◌≡◌, ◌≢◌, ℕ, Bool, true, false, true≢false, ◌||◌, List, [], ◌∷◌, ◌++◌, Option, Some, None}
+use Rattle.std.proofs.Common.{◌≡◌, ◌≢◌, ℕ, Bool, true, false, true≢false, List, [], ◌∷◌, ◌++◌, Option, Some, None}
 use Rattle.std.proofs.Common.{refl, sym, ap, ◌∙◌, codes}
 use Rattle.std.specs.Prelude.{bytes_eq, if◌then◌else◌}
 use Rattle.std.specs.List.{AllByRecursion}
+use Rattle.foundation.proofs.TruthValues.{nor, or_left, or_right}
 use Rattle.foundation.proofs.Words.{eq_word, itself}
 use Rattle.arm_value.specs.Look.{fold, is_same_folded}
 use Rattle.arm_expr.specs.Brackets as brackets
 use Rattle.name_set.specs.Names.{is_listed}
 use Rattle.bicep_tree.specs.Offset.{label_offset}
 use Rattle.bicep_tree.specs.Symbol.{label_text}
-use Rattle.bicep_tree.specs.Tree.{MemberTree, MemberTrees}
+use Rattle.bicep_tree.specs.Tree.{MemberTrees}
 use Rattle.bicep_tree.specs.Tree as tree
 use Rattle.bicep_members.specs.Labels.{repeated_from}
 use Rattle.bicep_misplaced.specs.Words.{is_copy, copying}
@@ -29,26 +30,14 @@ record IsOther (before : List (List ℕ)) (x y : List ℕ) : Type 0 where
   among : is_listed before y ≡ false
   same : bytes_eq y x ≡ false
 
-or_false : (a b : Bool) → (a || b) ≡ false → b ≡ false
-or_false true b e = absurd cc
-or_false false b e = e
-
-or_first : (a b : Bool) → (a || b) ≡ false → a ≡ false
-or_first true b e = absurd cc
-or_first false b e = refl
-
-or_both : (a b : Bool) → a ≡ false → b ≡ false → (a || b) ≡ false
-or_both true b e f = absurd cc
-or_both false b e f = f
-
 split : (before : List (List ℕ)) (x y : List ℕ) → is_listed (before ++ x ∷ []) y ≡ false → IsOther before x y
-split [] x y e = record { among = refl; same = or_first (bytes_eq y x) false e }
+split [] x y e = record { among = refl; same = or_left (bytes_eq y x) false e }
 split (z ∷ before) x y e =
-    let h = split before x y (or_false (bytes_eq y z) (is_listed (before ++ x ∷ []) y) e) in
+    let h = split before x y (or_right (bytes_eq y z) (is_listed (before ++ x ∷ []) y) e) in
     record {
       among =
-          or_both (bytes_eq y z) (is_listed before y)
-          (or_first (bytes_eq y z) (is_listed (before ++ x ∷ []) y) e) h.among;
+          nor (bytes_eq y z) (is_listed before y)
+          (or_left (bytes_eq y z) (is_listed (before ++ x ∷ []) y) e) h.among;
       same = h.same;
     }
 
@@ -95,7 +84,7 @@ unfolding copying
 copy_by name true e h =
     let g : name ≡ codes "copy" = eq_word name (codes "copy") e in
     absurd (true≢false (sym (itself (fold (codes "copy"))) ∙ ap (λ n. bytes_eq (fold n) (fold (codes "copy"))) (sym g)
-    ∙ or_first (is_same_folded name (codes "copy")) false h))
+    ∙ or_left (is_same_folded name (codes "copy")) false h))
 copy_by name false e h = refl
 
 -- a name that is no `copy` in any letters is none in these

@@ -1,7 +1,8 @@
 -- Values of files without faults are sound, by the tree of their expressions.
-use Rattle.std.proofs.Common.{◌≡◌, ◌||◌, ℕ, Bool, true, false, true≢false, List, [], ◌∷◌, Option, Some, None}
+use Rattle.std.proofs.Common.{◌≡◌, ℕ, Bool, true, false, true≢false, List, [], ◌∷◌, Option, Some, None}
 use Rattle.std.proofs.Common.{refl, sym, ap, ◌∙◌, subst}
 use Rattle.std.specs.Prelude.{if◌then◌else◌}
+use Rattle.foundation.proofs.TruthValues.{nor, or_right}
 use Rattle.foundation.specs.Options.{or_else}
 use Rattle.arm_value.specs.Look.{fold}
 use Rattle.arm_ids.proofs.SegmentLemmas.{fold-fold}
@@ -16,7 +17,7 @@ use Rattle.bicep_tree.specs.declared.leaf.LoopNames.{LoopNames}
 use Rattle.bicep_tree.specs.declared.leaf.Name.{Name}
 use Rattle.bicep_tree.specs.Offset.{function_offset, label_offset}
 use Rattle.bicep_tree.specs.Symbol.{label_text}
-use Rattle.bicep_tree.specs.Tree.{Tree, Trees, Holes, ObjectTree, MemberTree, MemberTrees}
+use Rattle.bicep_tree.specs.Tree.{Tree, Trees, Holes, MemberTrees}
 use Rattle.bicep_tree.specs.Tree as tree
 use Rattle.bicep_resolved.specs.declared.leaf.Selector.TheVariants as selector
 use Rattle.bicep_resolved.specs.declared.leaf.Target.{Target}
@@ -42,11 +43,10 @@ use Rattle.bicep_misplaced.specs.Words.{is_bad_name, is_copy}
 use Rattle.bicep_misplaced.specs.Expressions.{inner, bad_label, each_at, bad_in, bad_in_all, bad_in_holes}
 use Rattle.bicep_misplaced.specs.Expressions.{bad_in_members, bad_in_member, bad_in_value}
 use Rattle.bicep_misplaced.specs.Files.{bad_in_whole}
-use Rattle.bicep_emission.specs.Emittable.{IsEmittable, AreEmittable, AreHoles, AreMembers, IsValue, IsReach}
-use Rattle.bicep_emission.proofs.SpelledLemmas.{same_called_by_files}
+use Rattle.emitted_trees.specs.Emittable.{IsEmittable, AreEmittable, AreHoles, AreMembers, IsValue, IsReach}
+use Rattle.emitted_trees.proofs.SpelledLemmas.{same_called_by_files}
 use Rattle.emitted_trees.specs.EmittedTrees.{has_copy}
-use Rattle.emitted_trees.specs.Sound.{Loops, allowed, not_allowed, names, Differ, IsSound, AreSound, AreSoundMembers}
-use Rattle.emitted_trees.specs.Sound.{IsSoundValue}
+use Rattle.emitted_trees.specs.Sound.{Loops, allowed, not_allowed, names, Differ, IsSound, AreSound, AreSoundMembers, IsSoundValue}
 use Rattle.sound_values.specs.FewHoles.{HasFewHoles, AllHaveFew, HolesHaveFew, MembersHaveFew, ValueHasFew}
 use Rattle.sound_values.proofs.FoundLemmas.{of_mapped, of_then, of_both, first_none, second_none}
 use Rattle.sound_values.proofs.FoundLemmas.{same_found}
@@ -479,19 +479,11 @@ module _ (sc : Scope) where
   label_by l true at e h = absurd cc
   label_by l false at e h = e
 
-  or_second : (a b : Bool) → (a || b) ≡ false → b ≡ false
-  or_second true b e = absurd cc
-  or_second false b e = e
-
   label_is : (l : _) → bad_label spot.Field l ≡ None → brackets.is_copy (label_text l) ≡ false
   label_is l h =
       not_copy (label_text l)
-      (or_second (brackets.is_bracketed (label_text l)) (is_copy (label_text l))
+      (or_right (brackets.is_bracketed (label_text l)) (is_copy (label_text l))
       (label_by l (is_bad_name spot.Field (label_text l)) (label_offset l) refl h))
-
-  no_more : (a b : Bool) → a ≡ false → b ≡ false → (a || b) ≡ false
-  no_more true b e f = absurd cc
-  no_more false b e f = f
 
   mutual
     pub field_sound : (e : Tree) (ls : List LoopNames) (x : SourceTree) → bad_in spot.Field e ≡ None
@@ -563,7 +555,7 @@ module _ (sc : Scope) where
         (record {
           sound = (a, c.sound);
           copies =
-              no_more (brackets.is_copy (label_text l)) (has_copy g.part.1)
+              nor (brackets.is_copy (label_text l)) (has_copy g.part.1)
               (label_is l (first_none (bad_label spot.Field l) (bad_in_value spot.Field v) b1)) c.copies;
         })
     field_members (tree.and_member (tree.child ds q) ms) ls ps b r h few = absurd cc

@@ -2,7 +2,7 @@
 use Rattle.std.specs.Prelude.{◌≤◌, ◌^◌}
 use Rattle.bicep_resolved.specs.Source.{SourceTree, SourceTrees, PieceTrees, PropertyTrees, ReachTree, ValueTree}
 use Rattle.bicep_resolved.specs.Source as s
-use Rattle.bicep_emission.specs.Emittable.{count}
+use Rattle.emitted_trees.specs.Emittable.{count}
 
 abbrev mutual
   pub HasFewHoles : SourceTree → Type 0

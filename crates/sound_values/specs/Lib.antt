@@ -1,1 +1,3 @@
 pub mod FewHoles
+pub use Rattle.emitted_trees.specs.EmittedTrees
+pub use Rattle.emitted_trees.specs.Sound

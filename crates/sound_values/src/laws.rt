@@ -1,6 +1,6 @@
 //! What holds of the values of files without faults. A law has no body: its contract is the law.
 ghost use Rattle.std.specs.Prelude.{◌≡◌, List, None};
-ghost use Rattle.bicep_emission.specs.Emittable.{IsEmittable};
+ghost use Rattle.emitted_trees.specs.Emittable.{IsEmittable};
 ghost use Rattle.bicep_found.specs.Found.{found};
 ghost use Rattle.bicep_members.specs.Parts.{repeated_in, repeated_in_value};
 ghost use Rattle.bicep_misplaced.specs.declared.spot.Spot.TheVariants as spot;

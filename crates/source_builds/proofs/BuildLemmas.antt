@@ -27,27 +27,27 @@ use Rattle.resolved_program.specs.View.{files_view}
 use Rattle.serde_json.specs.Data.{depth}
 use Rattle.source_builds.specs.Builds.{IsBuilt}
 use Rattle.source_builds.specs.Refusals.{HasEmitFault, emit_report, IsNotBuilt}
-use Rattle.source_builds.specs.Clauses.{BuiltOr, IsBuiltChecked, IsRefusedChecked, IsRefusedLoaded, HasBuiltChecked}
+use Rattle.source_builds.specs.Clauses.{BuiltOr, IsUnemittedAs, IsRefusedLoaded, HasBuiltChecked}
 use Rattle.source_builds.specs.Clauses.{HasBuiltProgram, IsLoadedAndChecked, IsEmittedAs, IsRefusedBy, IsEmitReport}
 use Rattle.source_builds.specs.Clauses.{TellsTree, IsUntroubled}
-use Rattle.source_builds.proofs.StatusLemmas.{one, nine, lexical, syntactic, of_loaded_refusal}
+use Rattle.source_builds.proofs.StatusLemmas.{IsRuled, one, nine, not_tree, lexical, syntactic, of_loaded_refusal}
 use Rattle.source_builds.specs.declared.building.NotBuilt.{NotBuilt}
 use Rattle.source_builds.specs.declared.building.NotBuilt.TheVariants.{Refused, OutOfMemory}
 use Rattle.template_parts.specs.declared.mode.Form.{Form}
-use Rattle.template_parts.specs.declared.mode.Form.TheVariants.{One}
 use Rattle.template_tree.specs.View.{template_tree}
 use Rattle.template_tree.specs.declared.resource.Template.{Template}
 
 -- the template may be written
-pub may_be_written : (p : Program) (c : Checked) (t : Template) → IsEmission p c t → CanBeWritten (template_tree t)
-may_be_written p c t e = record { keeps = e.keeps; nests = e.nests }
+pub may_be_written : (form : Form) (p : Program) (c : Checked) (t : Template) → IsEmission form p c t
+    → CanBeWritten (template_tree t)
+may_be_written form p c t e = record { keeps = e.keeps; nests = e.nests }
 
 -- the bytes of a template, or why there are none
-pub bytes_emitted : (p : Program) (c : Checked) (t : Template) (r s : Result (List ℕ) EmitFault) → s ≡ r
-    → IsEmission p c t → IfOk r (IsBytesOf t) → IfErr r (IsBytesFault t) → IsEmittedAs p c s
-bytes_emitted p c t r s same e ok err = subst (IsEmittedAs p c) (sym same) (of r ok err)
+pub bytes_emitted : (form : Form) (p : Program) (c : Checked) (t : Template) (r s : Result (List ℕ) EmitFault) → s ≡ r
+    → IsEmission form p c t → IfOk r (IsBytesOf t) → IfErr r (IsBytesFault t) → IsEmittedAs form p c s
+bytes_emitted form p c t r s same e ok err = subst (IsEmittedAs form p c) (sym same) (of r ok err)
   where
-    of : (r : Result (List ℕ) EmitFault) → IfOk r (IsBytesOf t) → IfErr r (IsBytesFault t) → IsEmittedAs p c r
+    of : (r : Result (List ℕ) EmitFault) → IfOk r (IsBytesOf t) → IfErr r (IsBytesFault t) → IsEmittedAs form p c r
     of (Ok bytes) ok err = (t, (e, ok))
     of (Err f) ok err = inr (t, (e, err))
 
@@ -68,23 +68,23 @@ pub report_same : (P : Report → Type 0) (report same : Result Report AllocErro
 report_same P report same e h = subst (λ (x : Result Report AllocError). IfOk x P) (sym e) h
 
 pub emit_refused : (p : Program) (c : Checked) (main : List ℕ) (form : Form) (f : EmitFault)
-    (report : Result Report AllocError) (n : NotBuilt) → HasEmitFault p c f → IsEmitReport main f report
+    (report : Result Report AllocError) (n : NotBuilt) → HasEmitFault form p c f → IsEmitReport main f report
     → IsRefusedBy report n → HasBuiltChecked p c main form (Err n)
 emit_refused p c main form f report n h e is =
-    or_refused (IsBuiltChecked p c form) (IsRefusedChecked p c main form) report n
-    (report_as (IsRefusedChecked p c main form) (emit_report main f)
-    (inl (record { fault = f; holds = h; report = refl })) report e) is
+    or_refused (λ bytes. IsEmittedAs form p c (Ok bytes)) (IsUnemittedAs form p c main) report n
+    (report_as (IsUnemittedAs form p c main) (emit_report main f) (record { fault = f; holds = h; report = refl })
+    report e) is
 
 -- ---- the bytes of a program that is loaded and checked
 
 is_built : (folder : Folder) (p : Program) (c : Checked) (main : List ℕ) (form : Form) (bytes : List ℕ)
-    → IsLoadedAndChecked p c → IsProgram folder (chars main) (files_of p) → IsBuiltChecked p c form bytes
+    → IsLoadedAndChecked p c → IsProgram folder (chars main) (files_of p) → IsEmittedAs form p c (Ok bytes)
     → IsBuilt folder main form bytes
 is_built folder p c main form bytes l is b =
-    let e = b.1.1.0 in
-    let w = b.1.1.1 in
-    subst (λ (z : Form). IsBuilt folder main z bytes) (sym b.0) (record {
-      sources = files_in_form One (files_of p) (files_view c.resolved);
+    let e = b.1.0 in
+    let w = b.1.1 in
+    record {
+      sources = files_in_form form (files_of p) (files_view c.resolved);
       program = record {
         files = files_of p;
         resolved = files_view c.resolved;
@@ -93,7 +93,7 @@ is_built folder p c main form bytes l is b =
         faultless = l.faultless;
         are_sources = refl;
       };
-      template = template_tree b.1.0;
+      template = template_tree b.0;
       emitted = e.emitted;
       are_bytes = record {
         value = w.value;
@@ -102,23 +102,22 @@ is_built folder p c main form bytes l is b =
         described = w.described;
       };
       text = (w.value, (w.reads, within w.value (subst (λ (j : Json). nesting j ≤ 120) (sym w.is) e.nests), w.whole));
-    })
+    }
   where
     within : (j : Json) → nesting j ≤ 120 → depth (data_of j) ≤ 120
     within j h = omega (arith, h, depth-data_of j)
 
 is_refused : (folder : Folder) (p : Program) (c : Checked) (main : List ℕ) (form : Form) (r : Report)
-    → IsLoadedAndChecked p c → IsProgram folder (chars main) (files_of p) → IsRefusedChecked p c main form r
+    → IsLoadedAndChecked p c → IsProgram folder (chars main) (files_of p) → IsUnemittedAs form p c main r
     → IsRefusedLoaded folder main form r
-is_refused folder p c main form r l is (inl u) = inr (inl (record {
+is_refused folder p c main form r l is u = inr (record {
   program = p;
   checked = c;
   is_checked = record { is_program = is; checked = l.checked; faultless = l.faultless };
   fault = u.fault;
   holds = u.holds;
   report = u.report;
-}))
-is_refused folder p c main form r l is (inr s) = inr (inr s)
+})
 
 pub of_checked : (p : Program) (c : Checked) (main : List ℕ) (form : Form) (r s : Result (List ℕ) NotBuilt) → s ≡ r
     → IsLoadedAndChecked p c → HasBuiltChecked p c main form r → HasBuiltProgram p main form s
@@ -182,8 +181,12 @@ tells_tree before now main f report same n h e s is = of f h e
         inl (
           counts,
           or_refused (λ bytes. Unit {0}) (λ r. ¬ (r.status ≡ 4)) same n
-              (report_same (λ r. ¬ (r.status ≡ 4)) report same s (report_as (λ r. ¬ (r.status ≡ 4)) q fine report e)) is,
+              (report_same (λ r. ¬ (r.status ≡ 4)) report same s (report_as (λ r. ¬ (r.status ≡ 4)) q fine report e))
+              is,
         )
+
+    ruled : (q : Report) → IsRuled q → now ≡ before → IfOk report (λ r. r ≡ q) → TellsTree before now (Err n)
+    ruled q h = other q (not_tree q h)
 
     of : (f : LoadFault) → TreeCounts before now f → IfOk report (λ r. r ≡ load_report main f)
         → TellsTree before now (Err n)
@@ -198,8 +201,8 @@ tells_tree before now main f report same n h e s is = of f h e
     of load.TooManyFiles h e = other (load_report main load.TooManyFiles) (one refl) h e
     of (load.TooLarge x) h e = other (load_report main (load.TooLarge x)) (one refl) h e
     of (load.NotText x) h e = other (load_report main (load.NotText x)) (one refl) h e
-    of (load.Lex x y) h e = other (load_report main (load.Lex x y)) (lexical (encode_utf8_all x) y) h e
-    of (load.Parse x y) h e = other (load_report main (load.Parse x y)) (syntactic (encode_utf8_all x) y) h e
+    of (load.Lex x y) h e = ruled (load_report main (load.Lex x y)) (lexical (encode_utf8_all x) y) h e
+    of (load.Parse x y) h e = ruled (load_report main (load.Parse x y)) (syntactic (encode_utf8_all x) y) h e
     of load.OutOfMemory h e = other (load_report main load.OutOfMemory) (nine refl) h e
 
 -- what comes of a loaded program has nothing to do with the tree
@@ -210,5 +213,5 @@ untroubled folder p main form r s same is h = subst IsUntroubled (sym same) (of 
     of : (r : Result (List ℕ) NotBuilt) → BuiltOr (IsBuilt folder main form) (IsRefusedLoaded folder main form) r
         → IsUntroubled r
     of (Ok bytes) b = tt
-    of (Err (Refused r)) u = of_loaded_refusal folder main form r u
+    of (Err (Refused r)) u = not_tree r (of_loaded_refusal folder main form r u)
     of (Err OutOfMemory) u = tt

@@ -14,13 +14,12 @@ use Rattle.command_reports.specs.Faults.{fault_report}
 use Rattle.command_reports.specs.declared.faults.Fault.TheVariants.{Tree}
 use Rattle.command_reports.specs.declared.report.Report.{Report}
 use Rattle.source_builds.specs.Builds.{IsBuilt}
-use Rattle.source_builds.specs.Refusals.{IsUnchecked, IsUnemitted, IsInSecondForm, IsNotBuilt, HasEmitFault}
+use Rattle.source_builds.specs.Refusals.{IsUnchecked, IsUnemitted, IsNotBuilt, HasEmitFault}
 pub use Rattle.source_builds.specs.Refusals.{emit_report}
 pub use Rattle.source_builds.specs.Laws.{BuiltProgramsArePlanned}
 use Rattle.source_builds.specs.declared.building.NotBuilt.{NotBuilt}
 use Rattle.source_builds.specs.declared.building.NotBuilt.TheVariants.{Refused, OutOfMemory}
 use Rattle.template_parts.specs.declared.mode.Form.{Form}
-use Rattle.template_parts.specs.declared.mode.Form.TheVariants.{One}
 use Rattle.template_tree.specs.declared.resource.Template.{Template}
 
 abbrev pub IsLoaded : Program → Type 0
@@ -52,30 +51,23 @@ BuiltOr built not (Err (Refused r)) = not r
 BuiltOr built not (Err OutOfMemory) = Unit {0}
 
 -- the bytes are those of the template that a checked program becomes, or it becomes none within the limits
-abbrev pub IsEmittedAs : Program → Checked → Result (List ℕ) EmitFault → Type 0
-IsEmittedAs p c (Ok bytes) = (t : Template) × (IsEmission p c t × IsBytesOf t bytes)
-IsEmittedAs p c (Err f) = HasEmitFault p c f
-
-pub record IsUnemittedAs (p : Program) (c : Checked) (main : List ℕ) (r : Report) : Type 0 where
-  pub fault : EmitFault
-  pub holds : HasEmitFault p c fault
-  pub report : r ≡ emit_report main fault
-
--- the bytes are those of the template that a checked program becomes, which is asked for in the first form
-abbrev pub IsBuiltChecked : Program → Checked → Form → List ℕ → Type 0
-IsBuiltChecked p c form bytes = (form ≡ One) × IsEmittedAs p c (Ok bytes)
+abbrev pub IsEmittedAs : Form → Program → Checked → Result (List ℕ) EmitFault → Type 0
+IsEmittedAs form p c (Ok bytes) = (t : Template) × (IsEmission form p c t × IsBytesOf t bytes)
+IsEmittedAs form p c (Err f) = HasEmitFault form p c f
 
 -- why there are none
-abbrev pub IsRefusedChecked : Program → Checked → List ℕ → Form → Report → Type 0
-IsRefusedChecked p c main form r = IsUnemittedAs p c main r ⊎ IsInSecondForm main form r
+pub record IsUnemittedAs (form : Form) (p : Program) (c : Checked) (main : List ℕ) (r : Report) : Type 0 where
+  pub fault : EmitFault
+  pub holds : HasEmitFault form p c fault
+  pub report : r ≡ emit_report main fault
 
 abbrev pub HasBuiltChecked : Program → Checked → List ℕ → Form → Result (List ℕ) NotBuilt → Type 0
-HasBuiltChecked p c main form result = BuiltOr (IsBuiltChecked p c form) (IsRefusedChecked p c main form) result
+HasBuiltChecked p c main form result =
+    BuiltOr (λ bytes. IsEmittedAs form p c (Ok bytes)) (IsUnemittedAs form p c main) result
 
 -- why none are built of a program that is loaded
 abbrev pub IsRefusedLoaded : Folder → List ℕ → Form → Report → Type 0
-IsRefusedLoaded folder main form r =
-    IsUnchecked folder main r ⊎ (IsUnemitted folder main r ⊎ IsInSecondForm main form r)
+IsRefusedLoaded folder main form r = IsUnchecked folder main r ⊎ IsUnemitted folder main form r
 
 abbrev pub HasBuiltProgram : Program → List ℕ → Form → Result (List ℕ) NotBuilt → Type 0
 HasBuiltProgram p main form result =

@@ -18,7 +18,6 @@ use Rattle.command_reports.specs.Faults.{fault_report}
 use Rattle.command_reports.specs.declared.faults.Fault.TheVariants.{Memory}
 use Rattle.command_reports.specs.declared.report.Report.{Report}
 use Rattle.template_parts.specs.declared.mode.Form.{Form}
-use Rattle.template_parts.specs.declared.mode.Form.TheVariants.{Two}
 use Rattle.template_tree.specs.declared.resource.Template.{Template}
 
 -- a program whose main file has this name becomes no template
@@ -48,23 +47,17 @@ pub record IsChecked (folder : Folder) (main : List ℕ) (p : Program) (c : Chec
   pub faultless : HasNoFault p
 
 -- the checked program becomes no template within the limits, or one whose text is too long
-abbrev pub HasEmitFault : Program → Checked → EmitFault → Type 0
-HasEmitFault p c f = IsEmitFault p c f ⊎ ((t : Template) × (IsEmission p c t × IsBytesFault t f))
+abbrev pub HasEmitFault : Form → Program → Checked → EmitFault → Type 0
+HasEmitFault form p c f = IsEmitFault form p c f ⊎ ((t : Template) × (IsEmission form p c t × IsBytesFault t f))
 
-pub record IsUnemitted (folder : Folder) (main : List ℕ) (r : Report) : Type 0 where
+pub record IsUnemitted (folder : Folder) (main : List ℕ) (form : Form) (r : Report) : Type 0 where
   pub program : Program
   pub checked : Checked
   pub is_checked : IsChecked folder main program checked
   pub fault : EmitFault
-  pub holds : HasEmitFault program checked fault
+  pub holds : HasEmitFault form program checked fault
   pub report : r ≡ emit_report main fault
-
--- templates in the second form are not built yet
-pub record IsInSecondForm (main : List ℕ) (form : Form) (r : Report) : Type 0 where
-  pub second : form ≡ Two
-  pub report : r ≡ of_file (codes "NotBuilt") main
 
 -- the report is that of a true reason for which nothing is built
 abbrev pub IsNotBuilt : Folder → List ℕ → Form → Report → Type 0
-IsNotBuilt folder main form r =
-    IsUnloaded folder main r ⊎ (IsUnchecked folder main r ⊎ (IsUnemitted folder main r ⊎ IsInSecondForm main form r))
+IsNotBuilt folder main form r = IsUnloaded folder main r ⊎ (IsUnchecked folder main r ⊎ IsUnemitted folder main form r)

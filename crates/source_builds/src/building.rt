@@ -49,12 +49,17 @@ fn letting_go<T: Drop, R>(answer: R, _part: T) -> R
     answer
 }
 
-// The bytes of the template of a checked program.
-fn build_checked(alloc: Global, program: &Program, checked: &Checked) -> Result<Bytes, EmitFault>
+// The bytes of the template of a checked program, in the form.
+fn build_checked(
+    alloc: Global,
+    program: &Program,
+    checked: &Checked,
+    form: Form,
+) -> Result<Bytes, EmitFault>
     requires { spec.IsLoadedAndChecked program.now checked.now }
-    ensures { spec.IsEmittedAs program.now checked.now result }
+    ensures { spec.IsEmittedAs form program.now checked.now result }
 {
-    match emit(alloc, program, checked) {
+    match emit(alloc, program, checked, form) {
         Ok(template) => {
             let bytes = build_bytes(alloc, &template);
             letting_go(bytes, template)
@@ -86,7 +91,7 @@ fn build_program(
     }
 }
 
-// The bytes of the template of a checked program, in the form.
+// The same bytes, or why there are none.
 fn build_in(
     alloc: Global,
     main: &str,
@@ -97,12 +102,9 @@ fn build_in(
     requires { spec.IsLoadedAndChecked program.now checked.now }
     ensures { spec.HasBuiltChecked program.now checked.now main.now form result }
 {
-    match form {
-        Form::One => match build_checked(alloc, program, checked) {
-            Ok(bytes) => Ok(bytes),
-            Err(fault) => Err(refused(emit_report(alloc, main, fault))),
-        },
-        Form::Two => Err(refused(refusal_report(alloc, "NotBuilt", main))),
+    match build_checked(alloc, program, checked, form) {
+        Ok(bytes) => Ok(bytes),
+        Err(fault) => Err(refused(emit_report(alloc, main, fault))),
     }
 }
 
@@ -111,7 +113,7 @@ fn build_in(
 /// # Errors
 ///
 /// Each with its report, in this order: the files are not loaded; something is wrong with their program; it becomes no
-/// template within the limits; the form is the second, which is not built yet.
+/// template within the limits.
 pub fn build_source<T: Tree>(
     alloc: Global,
     tree: &mut T,

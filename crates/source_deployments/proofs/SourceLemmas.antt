@@ -12,8 +12,8 @@ use Rattle.bicep_meaning.specs.Instances.{SourceProgram, Satisfies}
 use Rattle.bicep_program.specs.Program.{ProgramFile}
 use Rattle.bicep_program.specs.Sources.{Folder, IsReadAs}
 use Rattle.bicep_tree.specs.Tree.{FileTree}
-use Rattle.bicep_types.specs.Faults.{HasFault}
-use Rattle.bicep_types.specs.declared.fault.CheckFault.{CheckFault}
+use Rattle.sound_programs.specs.Faults.{HasFault}
+use Rattle.sound_programs.specs.CheckFault.{CheckFault}
 use Rattle.cell_renaming.specs.Renaming.{renamed, unrenamed}
 use Rattle.deploy_cells.specs.Cells.{Cell, World}
 use Rattle.deploy_histories.specs.Planned.{Planned}
@@ -30,7 +30,7 @@ use Rattle.read_backs.specs.Characters.{HasCharacters}
 use Rattle.resolved_program.specs.Programs.{ResolvedFileTree, IsResolved, resolved_file}
 use Rattle.bicep_found.specs.Found.{found}
 use Rattle.serde_json.specs.Data.{Data, depth}
-use Rattle.sound_files.specs.Files.{IsFileOf}
+use Rattle.source_files.specs.Files.{IsFileOf}
 use Rattle.sound_programs.specs.Files.{AreFilesOf}
 use Rattle.source_deployments.specs.Sources.{IsCheckedProgram, IsPlanFor, program_of, HasOrderlyDefaults}
 use Rattle.source_deployments.specs.Laws.{IsOfSource, DesiredStatesAreOfSources, ReadBack}

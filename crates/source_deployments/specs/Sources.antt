@@ -8,8 +8,8 @@ use Rattle.bicep_meaning.specs.Files.{SourceFile}
 use Rattle.bicep_meaning.specs.Instances.{SourceProgram}
 use Rattle.bicep_program.specs.Program.{ProgramFile, IsProgram}
 use Rattle.bicep_program.specs.Sources.{Folder}
-use Rattle.bicep_types.specs.Faults.{HasFault}
-use Rattle.bicep_types.specs.declared.fault.CheckFault.{CheckFault}
+use Rattle.sound_programs.specs.Faults.{HasFault}
+use Rattle.sound_programs.specs.CheckFault.{CheckFault}
 use Rattle.deploy_histories.specs.Planned.{Planned}
 use Rattle.deployment_requests.specs.Requests.{Request, IsPlanOf}
 use Rattle.emitted_files.specs.Files.{IsEmitted}

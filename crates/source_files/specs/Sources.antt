@@ -6,7 +6,7 @@ use Rattle.bicep_declared.specs.Declarations.{DeclaredTree}
 use Rattle.bicep_declared.specs.Declarations as d
 use Rattle.resolved_program.specs.Programs.{ResolvedFileTree}
 use Rattle.bicep_mentions.specs.Entries.{has_entry}
-use Rattle.bicep_checks.specs.Faults.{kinds_of}
+use Rattle.sound_files.specs.Faults.{kinds_of}
 use Rattle.bicep_meaning.specs.Files.{SourceFile, declaration}
 use Rattle.source_worlds.specs.Numbers.{in_template}
 use Rattle.symbol_decorators.specs.Batches.{batches_of}

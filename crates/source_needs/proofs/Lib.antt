@@ -1,1 +1,2 @@
 pub mod PassingLemmas
+pub use Rattle.source_worlds.proofs.NumberLemmas

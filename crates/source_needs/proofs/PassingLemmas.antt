@@ -1,20 +1,15 @@
 -- A list of the numbers that pass a test has each of them, and no other.
 use Rattle.std.proofs.Common.{◌≡◌, ◌≤◌, ◌<◌, ◌+◌, ℕ, zero, suc, length, Bool, true, false, List, [], ◌∷◌}
-use Rattle.std.proofs.Common.{None, refl, sym, ap, ap₂, ◌∙◌, subst, arith}
-use Rattle.std.specs.Prelude.{◌==◌, ◌&&◌, ◌||◌, is_some, slice_get, if◌then◌else◌}
-use Rattle.foundation.proofs.TruthValues.{and_true_is, or_false}
+use Rattle.std.proofs.Common.{refl, sym, ap, ap₂, ◌∙◌, subst, arith}
+use Rattle.std.specs.Prelude.{◌==◌, ◌&&◌, ◌||◌, is_some, if◌then◌else◌}
+use Rattle.std.proofs.lemmas.Option.{slice_get_past}
+use Rattle.foundation.proofs.Comparisons.{eq_of_true}
+use Rattle.foundation.proofs.TruthValues.{and_true_is, or_false, and_false_is}
 use Rattle.bicep_dependencies.specs.Dependencies.{has, depends_on}
-use Rattle.bicep_meaning.specs.Files.{SourceFile}
-use Rattle.bicep_meaning.specs.Instances.{put_by}
+use Rattle.source_worlds.specs.Files.{SourceFile}
+use Rattle.source_worlds.specs.Instances.{put_by}
 use Rattle.source_needs.specs.Dependencies.{kinds_of, is_dependency, dependencies}
 use Rattle.source_worlds.specs.Numbers.{is_put, passing}
-
-never : (b : Bool) → (b && false) ≡ false
-never true = refl
-never false = refl
-
-pub same_number : (n x : ℕ) → (n == x) ≡ true → n ≡ x
-same_number n x e = grind (arith, e)
 
 other_number : (n x : ℕ) → (n == x) ≡ false → n ≤ x → suc n ≤ x
 other_number n x e l = grind (arith, e, l)
@@ -33,7 +28,7 @@ module _ (test : ℕ → Bool) (x : ℕ) where
 
   -- another number first
   past : (n : ℕ) (ns : List ℕ) → (n == x) ≡ false → has (if test n then n ∷ ns else ns) x ≡ has ns x
-  past n ns e = step (test n) false n ns e ∙ ap (λ a. a || has ns x) (never (test n))
+  past n ns e = step (test n) false n ns e ∙ ap (λ a. a || has ns x) (and_false_is (test n))
 
   above : (n k : ℕ) → x < n → has (passing test n k) x ≡ false
   above n zero l = refl
@@ -49,8 +44,8 @@ module _ (test : ℕ → Bool) (x : ℕ) where
   at_number n k e =
       step (test n) true n (passing test (suc n) k) e
       ∙ ap₂ (λ a b. a || b) (and_true_is (test n))
-      (above (suc n) k (subst (λ y. y < suc n) (same_number n x e) (omega (arith))))
-      ∙ or_false (test n) ∙ ap test (same_number n x e)
+      (above (suc n) k (subst (λ y. y < suc n) (eq_of_true n x e) (omega (arith))))
+      ∙ or_false (test n) ∙ ap test (eq_of_true n x e)
 
   by_number : (c : Bool) (n k : ℕ) → (n == x) ≡ c
       → ((n == x) ≡ false → has (passing test (suc n) k) x ≡ test x) → has (passing test n (suc k)) x ≡ test x
@@ -64,13 +59,8 @@ module _ (test : ℕ → Bool) (x : ℕ) where
 
 -- ---- beyond the declarations
 
-no_entry : {A : Type 0} (xs : List A) (n : ℕ) → length xs ≤ n → slice_get xs n ≡ None
-no_entry [] n l = refl
-no_entry (x ∷ xs) zero l = absurd (omega (arith, l))
-no_entry (x ∷ xs) (suc n) l = no_entry xs n (omega (arith, l))
-
 not_put : (f : SourceFile) (n : ℕ) → length f.declared.declarations ≤ n → is_put f n ≡ false
-not_put f n l = ap (λ o. is_some (put_by f n o)) (no_entry f.declared.declarations n l)
+not_put f n l = ap (λ o. is_some (put_by f n o)) (slice_get_past f.declared.declarations n l)
 
 no_dependency : (f : SourceFile) (k n : ℕ) → length f.declared.declarations ≤ n → is_dependency f k n ≡ false
 no_dependency f k n l = ap (λ b. b && depends_on (kinds_of f) f.declared.declarations k n) (not_put f n l)

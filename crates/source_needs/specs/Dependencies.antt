@@ -1,7 +1,7 @@
 -- Which resources and modules a declaration depends on (Microsoft Learn, "Resource dependencies in Bicep").
 use Rattle.std.specs.Prelude.{ℕ, ◌&&◌, Bool, List, length, map}
 use Rattle.bicep_dependencies.specs.Dependencies.{depends_on}
-use Rattle.bicep_meaning.specs.Files.{SourceFile}
+use Rattle.source_worlds.specs.Files.{SourceFile}
 use Rattle.bicep_names.specs.declared.kind.Kind.{Kind}
 use Rattle.source_worlds.specs.Numbers.{is_put, passing}
 

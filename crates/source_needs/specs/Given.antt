@@ -9,7 +9,7 @@ use Rattle.deploy_cells.specs.Guarded.{Reads}
 use Rattle.deploy_cells.specs.Same.{same_position}
 use Rattle.plan_cells.specs.Reads.{is_state_at}
 use Rattle.plan_cells.specs.Tasks.{Task, enter, leave, put, delete, key_by}
-use Rattle.bicep_meaning.specs.Instances.{SourceProgram, file_at, output_folded, kinds, raw, bodies}
+use Rattle.source_worlds.specs.Instances.{SourceProgram, file_at, output_folded, kinds, raw, bodies}
 
 -- the key of an instance, by its type and its name
 abbrev pub key_of : SourceProgram → World → Position → Step → Option ResourceId

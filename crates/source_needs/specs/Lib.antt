@@ -3,3 +3,7 @@ pub mod Tasks
 pub mod Given
 pub mod Orders
 pub mod Needs
+pub use Rattle.source_worlds.specs.Numbers
+pub use Rattle.source_worlds.specs.Declarations
+pub use Rattle.source_worlds.specs.Files
+pub use Rattle.source_worlds.specs.Instances

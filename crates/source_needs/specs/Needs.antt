@@ -14,13 +14,13 @@ use Rattle.deploy_cells.specs.Cells.{Step, Position, World}
 use Rattle.deploy_cells.specs.Guarded.{Reads}
 use Rattle.plan_cells.specs.Needs.{started, ended}
 use Rattle.plan_cells.specs.Tasks.{Task}
-use Rattle.bicep_declared.specs.Declarations.{BodyTree, DeclaredTree}
-use Rattle.bicep_declared.specs.Declarations as d
-use Rattle.bicep_meaning.specs.Around.{Here}
-use Rattle.bicep_meaning.specs.Declared.{body_at, whole}
-use Rattle.bicep_meaning.specs.Files.{SourceFile, declaration}
-use Rattle.bicep_meaning.specs.Instances.{SourceProgram, file_at, place_at, here_in}
-use Rattle.bicep_meaning.specs.Meaning.{module_key}
+use Rattle.source_worlds.specs.Declarations.{BodyTree, DeclaredTree}
+use Rattle.source_worlds.specs.Declarations as d
+use Rattle.source_worlds.specs.Around.{Here}
+use Rattle.source_worlds.specs.Declared.{body_at, whole}
+use Rattle.source_worlds.specs.Files.{SourceFile, declaration}
+use Rattle.source_worlds.specs.Instances.{SourceProgram, file_at, place_at, here_in}
+use Rattle.source_worlds.specs.Meaning.{module_key}
 use Rattle.source_needs.specs.Dependencies.{is_dependency}
 use Rattle.source_needs.specs.Given.{key_of, ReadsFrom}
 use Rattle.source_needs.specs.Orders.{IsAfter}

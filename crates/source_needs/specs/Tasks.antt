@@ -4,7 +4,7 @@ use Rattle.arm_value.specs.Json.{bool}
 use Rattle.deploy_cells.specs.Cells.{Step, Position, World, included}
 use Rattle.deploy_cells.specs.Puts.{Kind}
 use Rattle.plan_cells.specs.Tasks.{Task, enter, leave, put, delete}
-use Rattle.bicep_meaning.specs.Instances.{SourceProgram, kinds}
+use Rattle.source_worlds.specs.Instances.{SourceProgram, kinds}
 
 -- an instance is included, of a module or of a resource
 pub record IsIncluded (d : SourceProgram) (w : World) (p : Position) (s : Step) (is_module : Bool) : Type 0 where

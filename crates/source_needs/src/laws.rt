@@ -1,7 +1,7 @@
 //! What holds of dependencies. A law has no body: its contract is the law.
 ghost use Rattle.std.specs.Prelude.{◌≡◌, ℕ};
 ghost use Rattle.bicep_dependencies.specs.Dependencies.{has};
-ghost use Rattle.bicep_meaning.specs.Files.{SourceFile};
+ghost use Rattle.source_worlds.specs.Files.{SourceFile};
 ghost use Rattle.source_needs.specs.Dependencies.{is_dependency, dependencies};
 
 /// The list of what a declaration depends on has all that it depends on, and nothing else.

@@ -1,2 +1,3 @@
+mod ExistingLemmas
 mod MetadataLemmas
 mod PartLemmas

@@ -3,7 +3,7 @@ use Rattle.std.proofs.Common.{◌≡◌, ℕ, List, Option, Some, None, refl, �
 use Rattle.std.specs.Prelude.{option_map, slice_get}
 use Rattle.arm_value.specs.Json.{Json}
 use Rattle.arm_value.specs.View.{json}
-use Rattle.template_parts.specs.declared.mode.Form.TheVariants.{One}
+use Rattle.template_parts.specs.declared.mode.Form.{Form}
 use Rattle.template_parts.specs.declared.parameter.Parameter.{Parameter}
 use Rattle.template_tree.specs.Tree.{TemplateTree}
 use Rattle.plan_cells.specs.Resources.{resources_in}
@@ -18,9 +18,9 @@ use Rattle.parameter_rules.specs.Files.{IsTyped, IsParameterAt}
 use Rattle.parameter_rules.specs.Metadata.{metadata_of}
 use Rattle.parameter_rules.specs.Rules.{or_no}
 use Rattle.parameter_rules.specs.Rules as rules
-use Rattle.emitted_templates.specs.Lists.{symbol_text}
-use Rattle.emitted_templates.specs.Metadata.{HasMetadata}
-use Rattle.emitted_templates.specs.Values.{AreBoth}
+use Rattle.program_templates.specs.Lists.{symbol_text}
+use Rattle.program_templates.specs.Metadata.{HasMetadata}
+use Rattle.program_templates.specs.Values.{AreBoth}
 
 -- a parameter has the metadata of its decorators
 typed_has : (x : Option (List ℕ)) (t : Option TypeName) (ds : DecoratorTrees) (p : Parameter) → IsTyped x t ds (Some p)
@@ -42,13 +42,13 @@ module _ (f from : SourceFile) (types : (n : ℕ) → type_of f n ≡ type_of (w
   numbered_same None = refl
   numbered_same (Some n) = refl
 
-  pub metadata_same : (of_symbol of_output : ℕ → Option Json) (u : TemplateTree)
-      → HasMetadata One f of_symbol of_output u → HasMetadata One (with_rest f from) of_symbol of_output u
-  metadata_same of_symbol of_output u h = record {
+  pub metadata_same : (z : Form) (of_symbol of_output : ℕ → Option Json) (u : TemplateTree)
+      → HasMetadata z f of_symbol of_output u → HasMetadata z (with_rest f from) of_symbol of_output u
+  metadata_same z of_symbol of_output u h = record {
     parameters = λ x n q e. h.parameters x n q (numbered_same (symbol_folded f x) ∙ e);
     outputs = h.outputs;
     resources = λ m. subst
         (λ ns. AreBoth (λ n x. option_map json x.declaration.metadata ≡ of_symbol n) (slice_get ns m)
         (slice_get (resources_in u) m))
-        (in_template_same f from types One) (h.resources m);
+        (in_template_same f from types z) (h.resources m);
   }

@@ -1,10 +1,11 @@
 -- The parts of a template that is made for the file of a table are those of a file that is alike.
-use Rattle.std.proofs.Common.{◌≡◌, ℕ, List, [], length, Option, Some, None, map, refl, sym, ap, ◌∙◌, subst}
-use Rattle.std.specs.Prelude.{is_none}
+use Rattle.std.proofs.Common.{◌≡◌, ℕ, List, [], ◌∷◌, Option, Some, None, map, refl, sym, ap, ◌∙◌, subst}
+use Rattle.std.specs.List.{filter}
+use Rattle.std.specs.Prelude.{is_none, slice_get, if◌then◌else◌}
 use Rattle.arm_value.specs.Json.{Json}
 use Rattle.arm_value.specs.View.{json}
 use Rattle.arm_value.specs.declared.value.Value.{Value}
-use Rattle.template_parts.specs.declared.mode.Form.TheVariants.{One}
+use Rattle.template_parts.specs.declared.mode.Form.{Form}
 use Rattle.template_parts.specs.declared.parameter.Parameter.{Parameter}
 use Rattle.template_parameters.specs.Rule.{breach}
 use Rattle.template_tree.specs.Tree.{TemplateTree}
@@ -14,22 +15,22 @@ use Rattle.bicep_declared.specs.Declarations.{DeclaredTree}
 use Rattle.bicep_declared.specs.Declarations as d
 use Rattle.bicep_meaning.specs.Files.{SourceFile, declaration, type_of}
 use Rattle.bicep_meaning.specs.Instances.{parameter_named, parameter_numbered, symbol_folded}
-use Rattle.source_worlds.specs.Numbers.{number_of, passing}
+use Rattle.source_worlds.specs.Numbers.{in_template, number_of}
 use Rattle.emitted_declarations.specs.Declared.{whole}
 use Rattle.emitted_trees.specs.EmittedTrees.{tree_of}
-use Rattle.emitted_templates.specs.Files.{IsParameter}
-use Rattle.emitted_templates.specs.Values.{AreBoth, IsTree}
-use Rattle.declared_table.specs.Seen.{Shape, file_in, files_in}
+use Rattle.program_templates.specs.Files.{IsParameter}
+use Rattle.program_templates.specs.Values.{AreBoth, IsTree}
+use Rattle.source_files.specs.Seen.{Shape, file_in, files_in}
 use Rattle.alike_files.specs.Alike.{AreAlike}
 use Rattle.alike_files.specs.Rest.{HasRest, HasParameters, HasModules}
 use Rattle.alike_files.proofs.NumberLemmas.{with_rest, number_same}
 use Rattle.source_files.specs.Sources as source
-use Rattle.emitted_templates.specs.Lists.{IsCompleted, rule_at, default_of}
-use Rattle.emitted_templates.specs.Modules as made
-use Rattle.emitted_templates.specs.Modules.{modules_in}
-use Rattle.emitted_templates.specs.Parts.{HasParts}
+use Rattle.program_templates.specs.Lists.{IsCompleted, rule_at, default_of}
+use Rattle.program_templates.specs.Modules as made
+use Rattle.program_templates.specs.Modules.{is_module, modules_in}
+use Rattle.program_templates.specs.Parts.{HasParts}
 
-both : {A B : Type 0} (R S : A → B → Type 0) → ((a : A) (b : B) → R a b → S a b) → (o : Option A) (p : Option B)
+pub both : {A B : Type 0} (R S : A → B → Type 0) → ((a : A) (b : B) → R a b → S a b) → (o : Option A) (p : Option B)
     → AreBoth R o p → AreBoth S o p
 both R S more None None h = tt
 both R S more None (Some b) h = absurd h
@@ -61,15 +62,24 @@ same_module (Some (d.variable at v)) = refl
 same_module (Some (d.a_resource at q existing b)) = refl
 same_module (Some (d.a_module at b)) = refl
 
-pub modules_in_same : (f : SourceFile)
-    → passing (λ n. source.is_module_by (declaration f n)) 0 (length f.declared.declarations) ≡ modules_in f
-modules_in_same f = λ i. passing (λ n. same_module (declaration f n) i) 0 (length f.declared.declarations)
+modules_filtered : (f : SourceFile) (ns : List ℕ) → source.modules_among f ns ≡ filter (is_module f) ns
+modules_filtered f [] = refl
+modules_filtered f (n ∷ ns) =
+    ap (λ b. if b then n ∷ source.modules_among f ns else source.modules_among f ns) (same_module (declaration f n))
+    ∙ ap (λ ms. if is_module f n then n ∷ ms else ms) (modules_filtered f ns)
 
-module _ (s : Shape) (rs : List (Option Parameter)) (u : TemplateTree) (h : HasParts s rs u) where
+-- in a file with the same declarations, which have the same numbers in the template
+pub modules_alike : (z : Form) (g f : SourceFile) → in_template z g ≡ in_template z f → g.declared ≡ f.declared
+    → source.modules_of z g ≡ modules_in z f
+modules_alike z g f numbers declared =
+    modules_filtered g (in_template z g)
+    ∙ (λ i. filter (λ n. made.is_module_by (slice_get (declared i).declarations n)) (numbers i))
+
+module _ (z : Form) (s : Shape) (rs : List (Option Parameter)) (u : TemplateTree) (h : HasParts z s rs u) where
   abbrev f : SourceFile
   f = file_in s
 
-  pub rest_of : HasRest (files_in s) f One u
+  pub rest_of : HasRest (files_in s) f z u
   rest_of = record {
     form = h.form;
     variables = h.variables;
@@ -109,13 +119,14 @@ module _ (s : Shape) (rs : List (Option Parameter)) (u : TemplateTree) (h : HasP
         rule = λ j. ap (λ (p : Parameter). is_none (breach p j)) x.is.1.1 ∙ rules n x.is.0 x.is.1.0 j;
       }
 
-      pub parameters_of : HasParameters fs k One u
+      pub parameters_of : HasParameters fs k z u
       parameters_of x =
           subst (λ o. AreBoth (IsParameter fs k) o (template.parameter_named x u)) (named_same x)
           (both (λ n q. IsCompleted s (rule_at s rs n) n q) (IsParameter fs k) completed_is (parameter_named x f)
           (template.parameter_named x u) (h.parameters x))
 
-    pub modules_of : ((n : ℕ) → type_of f n ≡ type_of k n) → from.modules ≡ modules_in f → HasModules fs k One u
+    pub modules_of : ((n : ℕ) → type_of f n ≡ type_of k n) → from.modules ≡ modules_in z f
+        → HasModules fs k z u
     modules_of types same =
-        ap (map (number_of One k)) same ∙ (λ i. map (λ n. sym (number_same f from types One n) i) (modules_in f))
+        ap (map (number_of z k)) same ∙ (λ i. map (λ n. sym (number_same f from types z n) i) (modules_in z f))
         ∙ h.modules

@@ -1,2 +1,17 @@
 pub mod Texts
 pub mod Laws
+pub use Rattle.existing_templates.specs.Existing
+pub use Rattle.program_templates.specs.Built
+pub use Rattle.program_templates.specs.Extremes
+pub use Rattle.program_templates.specs.Files
+pub use Rattle.program_templates.specs.Fits
+pub use Rattle.program_templates.specs.Kinds
+pub use Rattle.program_templates.specs.Lists
+pub use Rattle.program_templates.specs.Metadata
+pub use Rattle.program_templates.specs.Modules
+pub use Rattle.program_templates.specs.Seen
+pub use Rattle.program_templates.specs.Templates
+pub use Rattle.program_templates.specs.Whole
+pub use Rattle.program_templates.specs.Within
+pub use Rattle.source_files.specs.Sources
+pub use Rattle.program_templates.specs.Limited

@@ -4,12 +4,12 @@ use Rattle.template_parts.specs.declared.parameter.Parameter.{Parameter}
 use Rattle.bicep_tree.specs.Tree.{FileTree}
 use Rattle.resolved_program.specs.declared.resolved.ResolvedFile.{ResolvedFile}
 use Rattle.resolved_program.specs.View.{file_view}
-use Rattle.sound_files.specs.Files.{IsFileOf}
+use Rattle.source_files.specs.Files.{IsFileOf}
 use Rattle.symbol_decorators.specs.Batches.{HasBatches}
 use Rattle.parameter_rules.specs.Files.{IsParameterAt}
-use Rattle.declared_table.specs.Seen.{Shape, file_of, file_in}
-use Rattle.declared_table.specs.declared.mark.Mark.{Mark}
-use Rattle.emitted_templates.specs.Lists.{rule_at}
+use Rattle.source_files.specs.Seen.{Shape, file_of, file_in}
+use Rattle.source_files.specs.Mark.{Mark}
+use Rattle.program_templates.specs.Lists.{rule_at}
 
 -- The table is that of the file whose names are found; its loops have the batches of the text's decorators, and the
 -- list has the parameters that these and the types of parameters make.

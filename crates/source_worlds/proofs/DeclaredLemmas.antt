@@ -1,7 +1,9 @@
 -- A cell of a program that its template does not have is not there.
 use Rattle.std.proofs.Common.{◌≡◌, ℕ, Bool, true, false, List, [], ◌∷◌, Option, Some, None}
 use Rattle.std.proofs.Common.{refl, ap, ◌∙◌, subst, arith}
-use Rattle.std.specs.Prelude.{nat_lt, is_some, option_map, option_and_then, if◌then◌else◌}
+use Rattle.std.specs.Prelude.{is_some, option_map, option_and_then, if◌then◌else◌}
+use Rattle.foundation.proofs.Comparisons.{none_below}
+use Rattle.foundation.proofs.Options.{none_mapped}
 use Rattle.arm_value.specs.Json.{Json}
 use Rattle.reading.specs.World.{value_in}
 use Rattle.deploy_cells.specs.Cells.{Step, step, Position, Cell, parameter, variable, offered, output, count, included}
@@ -10,18 +12,13 @@ use Rattle.deploy_cells.specs.Guarded.{Reads, guarded, there_if}
 use Rattle.deploy_cells.proofs.CellLemmas.{guarded_value}
 use Rattle.template_parts.specs.declared.mode.Form.{Form}
 use Rattle.bicep_meaning.specs.Files.{SourceFile}
-use Rattle.bicep_meaning.specs.Instances.{SourceProgram, Put, put_of, file_at, ruled, rule, raw, plain, meaning}
-use Rattle.bicep_meaning.specs.Instances.{count_value}
+use Rattle.bicep_meaning.specs.Instances.{SourceProgram, Put, put_of, file_at, ruled, rule, raw, plain, meaning, count_value}
 use Rattle.cell_renaming.specs.Renaming.{with_both, to_position, to_cell}
 use Rattle.cell_renaming.proofs.OptionLemmas.{Either, there, nowhere, either}
 use Rattle.source_worlds.specs.Numbers.{number_of, numbering}
 use Rattle.source_worlds.proofs.NumberLemmas.{has_number}
 
 -- ---- options that are empty
-
-map_none : {A B : Type 0} (f : A → B) (o : Option A) → option_map f o ≡ None → o ≡ None
-map_none f None h = refl
-map_none f (Some x) h = absurd cc
 
 both_none : {A B C D : Type 0} (f : A → B → C) (g : A → B → D) (o : Option A) (u : Option B) → with_both o u f ≡ None
     → with_both o u g ≡ None
@@ -58,9 +55,6 @@ module _ (w : World) (c : Cell) (r : Reads (Option Json)) where
 
   empty : value_in w r ≡ Some None → value_in w (guarded c r) ≡ Some None
   empty h = guarded_value w c r ∙ empty_by (is_admitted w c) (value_in w r) h
-
-no_copies : (n : ℕ) → nat_lt n 0 ≡ false
-no_copies n = grind (arith)
 
 -- ---- symbols without a number
 
@@ -131,28 +125,28 @@ module _ (z : Form) (d : SourceProgram) (w : World) where
       (ap (admits (output p x))
       (a (offered p x) refl
       (ap (option_map (λ q. offered q x))
-      (map_none (λ q. output q x) (to_position (numbering z d.files) p) h))))
+      (none_mapped (λ q. output q x) (to_position (numbering z d.files) p) h))))
 
   pub undeclared : (c : Cell) → to_cell (numbering z d.files) c ≡ None → Above c
       → value_in w (meaning d c) ≡ Some None
   undeclared (parameter p x) h a =
       scope_out (parameter p x) p refl refl
-      (map_none (λ q. parameter q x) (to_position (numbering z d.files) p) h) a
+      (none_mapped (λ q. parameter q x) (to_position (numbering z d.files) p) h) a
   undeclared (variable p x) h a =
-      scope_out (variable p x) p refl refl (map_none (λ q. variable q x) (to_position (numbering z d.files) p) h) a
+      scope_out (variable p x) p refl refl (none_mapped (λ q. variable q x) (to_position (numbering z d.files) p) h) a
   undeclared (offered p x) h a =
-      scope_out (offered p x) p refl refl (map_none (λ q. offered q x) (to_position (numbering z d.files) p) h) a
+      scope_out (offered p x) p refl refl (none_mapped (λ q. offered q x) (to_position (numbering z d.files) p) h) a
   undeclared (output p x) h a = output_out p x h a
   undeclared (count p n) h a = count_out p n h a (either (to_position (numbering z d.files) p))
   undeclared (included p s) h a =
-      instance_out (included p s) p s refl (no_copies s.copy)
+      instance_out (included p s) p s refl (none_below s.copy)
       (both_none (λ q m. included q (step m s.copy)) (λ q m. count q m) (to_position (numbering z d.files) p)
       ((numbering z d.files).number p s.resource) h) a
   undeclared (name p s) h a =
-      instance_out (name p s) p s refl (no_copies s.copy)
+      instance_out (name p s) p s refl (none_below s.copy)
       (both_none (λ q m. name q (step m s.copy)) (λ q m. count q m) (to_position (numbering z d.files) p)
       ((numbering z d.files).number p s.resource) h) a
   undeclared (deployments p) h a =
       scope_out (deployments p) p refl refl
-      (map_none (λ q. deployments q) (to_position (numbering z d.files) p) h) a
+      (none_mapped (λ q. deployments q) (to_position (numbering z d.files) p) h) a
   undeclared (state k) h a = absurd cc

@@ -3,16 +3,11 @@ use Rattle.std.proofs.Common.{◌≡◌, ◌≤◌, ◌<◌, ◌+◌, ℕ, zero,
 use Rattle.std.proofs.Common.{Option, Some, None, Ordering, Less, Equal, Greater, refl, sym, ap, ◌∙◌, subst, arith}
 use Rattle.std.specs.Prelude.{nat_eq, option_map, slice_get, if◌then◌else◌}
 use Rattle.std.specs.Ordering.{match_ordering}
+use Rattle.foundation.proofs.Comparisons.{eq_itself, eq_of_true}
 use Rattle.foundation.proofs.Options.{same_some}
 use Rattle.arm_value.specs.Json.{key_cmp}
 use Rattle.bicep_meaning.specs.Files.{SourceFile}
 use Rattle.source_worlds.specs.Numbers.{passing, place_in, inserted, by_name, name_of}
-
-eq_is : (a b : ℕ) → nat_eq a b ≡ true → a ≡ b
-eq_is a b e = grind (arith)
-
-eq_same : (a : ℕ) → nat_eq a a ≡ true
-eq_same a = grind (arith)
 
 -- ---- places
 
@@ -21,7 +16,7 @@ module _ (n : ℕ) where
       → ((k : ℕ) → place_in n xs ≡ Some k → slice_get xs k ≡ Some n)
       → (if b then Some 0 else option_map suc (place_in n xs)) ≡ Some m → slice_get (x ∷ xs) m ≡ Some n
   place_by true x xs m e f h =
-      subst (λ m. slice_get (x ∷ xs) m ≡ Some n) (same_some h) (ap (λ y. Some y) (sym (eq_is n x e)))
+      subst (λ m. slice_get (x ∷ xs) m ≡ Some n) (same_some h) (ap (λ y. Some y) (sym (eq_of_true n x e)))
   place_by false x xs m e f h = later (place_in n xs) refl h
     where
       later : (o : Option ℕ) → place_in n xs ≡ o → option_map suc o ≡ Some m → slice_get (x ∷ xs) m ≡ Some n
@@ -50,7 +45,7 @@ not_at x n (y ∷ ys) zero d h e = d.0 (e ∙ sym (same_some h))
 not_at x n (y ∷ ys) (suc m) d h e = not_at x n ys m d.1 h e
 
 unequal : (n x : ℕ) (b : Bool) → nat_eq n x ≡ b → (x ≡ n → ⊥) → nat_eq n x ≡ false
-unequal n x true e d = absurd (d (sym (eq_is n x e)))
+unequal n x true e d = absurd (d (sym (eq_of_true n x e)))
 unequal n x false e d = e
 
 -- the place of what is in a list of different numbers
@@ -59,7 +54,7 @@ place_at n [] zero d h = absurd cc
 place_at n [] (suc m) d h = absurd cc
 place_at n (x ∷ xs) zero d h =
     ap (λ b. if b then Some 0 else option_map suc (place_in n xs))
-    (subst (λ y. nat_eq n y ≡ true) (sym (same_some h)) (eq_same n))
+    (subst (λ y. nat_eq n y ≡ true) (sym (same_some h)) (eq_itself n))
 place_at n (x ∷ xs) (suc m) d h =
     ap (λ b. if b then Some 0 else option_map suc (place_in n xs))
     (unequal n x (nat_eq n x) refl (not_at x n xs m d.0 h))
@@ -144,7 +139,7 @@ module _ (test : ℕ → Bool) where
       → ((l : suc n ≤ x) → x < suc n + k → In x (passing test (suc n) k))
       → In x (if test n then n ∷ passing test (suc n) k else passing test (suc n) k)
   in_by true x n k e t l u f =
-      let is : x ≡ n = eq_is x n e in
+      let is : x ≡ n = eq_of_true x n e in
       subst (λ y. In y (if test n then n ∷ passing test (suc n) k else passing test (suc n) k)) (sym is)
       (in_first (test n) n (passing test (suc n) k) (ap test (sym is) ∙ t))
   in_by false x n k e t l u f =

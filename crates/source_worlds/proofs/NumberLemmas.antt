@@ -5,8 +5,8 @@ use Rattle.std.specs.Prelude.{option_and_then, slice_get, is_some, if◌then◌e
 use Rattle.foundation.proofs.Options.{same_some}
 use Rattle.template_parts.specs.declared.mode.Form.{Form}
 use Rattle.template_parts.specs.declared.mode.Form.TheVariants.{One, Two}
-use Rattle.bicep_declared.specs.Declarations.{DeclaredTree}
-use Rattle.bicep_declared.specs.Declarations as d
+use Rattle.bicep_meaning.specs.Declarations.{DeclaredTree}
+use Rattle.bicep_meaning.specs.Declarations as d
 use Rattle.bicep_meaning.specs.Files.{SourceFile, declaration}
 use Rattle.bicep_meaning.specs.Declared.{body_of}
 use Rattle.bicep_meaning.specs.Instances.{put_by, file_at}

@@ -33,7 +33,7 @@ use Rattle.written_parts.proofs.FaultLemmas.{Holds, then_none, Differ, Apart, So
 use Rattle.written_parts.proofs.GivenLemmas.{variable_loops_fine}
 use Rattle.written_parts.proofs.PartLemmas.{loop_read}
 use Rattle.written_parts.proofs.ValueLemmas.{by_object}
-use Rattle.template_trips.proofs.HeaderLemmas.{template_at}
+use Rattle.arm_template.proofs.HeaderLemmas.{template_at}
 
 -- ---- names of members
 

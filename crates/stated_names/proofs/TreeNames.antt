@@ -41,8 +41,8 @@ use Rattle.template_tree.specs.Tree.{Header, TemplateTree, template, ResourceTre
 use Rattle.template_tree.specs.Tree.{deployment, Trees, no_resources, a_resource}
 use Rattle.template_values.specs.Order.{missing, decided, to_item, to_member}
 use Rattle.template_values.specs.Values.{names_with}
-use Rattle.template_trips.proofs.HeaderLemmas.{form_read}
-use Rattle.template_trips.proofs.NestedLemmas.{single_found}
+use Rattle.arm_template.proofs.HeaderLemmas.{form_read}
+use Rattle.arm_template.proofs.NestedLemmas.{single_found}
 use Rattle.written_parts.proofs.FaultLemmas.{Holds, first_none, decided_none, earlier_none, named_none}
 use Rattle.written_parts.proofs.FaultLemmas.{then_none, Apart, Sound, faulty_none, found_accepted, same_fold}
 use Rattle.written_resources.proofs.BodyLemmas.{first_children_of, first_properties_of, declared_found}

@@ -2,10 +2,11 @@
 use Rattle.std.proofs.Common.{◌≡◌, ℕ, zero, suc, Bool, true, false, true≢false, List, [], ◌∷◌, ◌++◌, map, Option, Some}
 use Rattle.std.proofs.Common.{None, bytes_eq, refl, sym, ap, ◌∙◌, subst}
 use Rattle.std.specs.Prelude.{◌||◌, option_map, slice_get, if◌then◌else◌}
-use Rattle.std.specs.List.{list_any}
+use Rattle.std.proofs.lemmas.Bool.{or_right}
+use Rattle.std.proofs.lemmas.Option.{slice_get-map}
+use Rattle.foundation.proofs.Words.{itself}
 use Rattle.foundation.proofs.Options.{same_some}
 use Rattle.arm_value.specs.Look.{fold, is_same_folded}
-use Rattle.arm_ids.proofs.FrontLemmas.{same_text}
 use Rattle.name_set.specs.Names.{is_named}
 use Rattle.bicep_symbols.specs.Entries.{Symbol}
 use Rattle.bicep_symbols.specs.Outputs.{Named}
@@ -26,11 +27,7 @@ named_front x (y ∷ xs) ys e =
 
 last_named : (x y : List ℕ) (xs : List (List ℕ)) → is_same_folded x y ≡ true → is_named (xs ++ y ∷ []) x ≡ true
 last_named x y [] e = ap (λ b. b || false) e
-last_named x y (z ∷ xs) e = later (is_same_folded x z) (is_named (xs ++ y ∷ []) x) (last_named x y xs e)
-  where
-    later : (a b : Bool) → b ≡ true → (a || b) ≡ true
-    later true b h = refl
-    later false b h = h
+last_named x y (z ∷ xs) e = or_right (is_same_folded x z) (is_named (xs ++ y ∷ []) x) (last_named x y xs e)
 
 -- the name is none before it, and those after it are not repeated
 first_new : (before : List (List ℕ)) (n : Named) (ns : List Named) → repeated_from before (n ∷ ns) ≡ None
@@ -55,7 +52,7 @@ none_before before (m ∷ ms) e (suc i) n g =
     (none_before (before ++ m.1 ∷ []) ms (first_new before m ms e).1 i n g)
 
 folded_same : (x y : List ℕ) → fold x ≡ fold y → is_same_folded x y ≡ true
-folded_same x y e = subst (λ s. bytes_eq (fold x) s ≡ true) e (same_text (fold x))
+folded_same x y e = subst (λ s. bytes_eq (fold x) s ≡ true) e (itself (fold x))
 
 -- the first name is none of those after it
 not_later : (before : List (List ℕ)) (m : Named) (ms : List Named) → repeated_from before (m ∷ ms) ≡ None → (i : ℕ)
@@ -81,12 +78,6 @@ names_differ before (x ∷ xs) e (suc i) (suc j) n m g h k =
 
 -- ---- symbols
 
-pub mapped_get : {A B : Type 0} (f : A → B) (xs : List A) (k : ℕ)
-    → slice_get (map f xs) k ≡ option_map f (slice_get xs k)
-mapped_get f [] k = refl
-mapped_get f (x ∷ xs) zero = refl
-mapped_get f (x ∷ xs) (suc k) = mapped_get f xs k
-
 -- a symbol with a name
 symbol_is : (o : Option Symbol) (x : List ℕ) → option_map (λ (s : Symbol). s.1) o ≡ Some x
     → (n : Named) × ((option_map repeated.symbol_name o ≡ Some n) × (n.1 ≡ x))
@@ -99,5 +90,5 @@ symbols_apart f e n m x y g h k =
     let a = symbol_is (slice_get f.symbols n) x g in
     let b = symbol_is (slice_get f.symbols m) y h in
     names_differ taken (map repeated.symbol_name f.symbols) e n m a.0 b.0
-    (mapped_get repeated.symbol_name f.symbols n ∙ a.1.0) (mapped_get repeated.symbol_name f.symbols m ∙ b.1.0)
+    (slice_get-map repeated.symbol_name f.symbols n ∙ a.1.0) (slice_get-map repeated.symbol_name f.symbols m ∙ b.1.0)
     (ap fold a.1.1 ∙ k ∙ sym (ap fold b.1.1))

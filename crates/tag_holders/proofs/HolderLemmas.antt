@@ -13,6 +13,8 @@ use denote.Ref.{Bor}
 use Rattle.std.proofs.lemmas.List.{drop_all}
 use Rattle.std.proofs.lemmas.Map.Text.{btree_map_updates_str}
 use Rattle.std.proofs.lemmas.Slice.Eq.{bytes_eq-Decides}
+use Rattle.std.proofs.lemmas.Bool.{or_cases, or_left, or_right}
+use Rattle.foundation.proofs.TruthValues.{first_alone}
 use Rattle.foundation.proofs.Words.{swapped}
 use Rattle.foundation.proofs.Options.{same_some}
 use Rattle.tag_needs.specs.Tags.{Tag, shares, tags_in}
@@ -25,18 +27,6 @@ use Rattle.tag_holders.specs.Holders.{found_by, joined, found_with, found_among,
 abbrev HasFrom : Tag → ℕ → List (List Tag) → ℕ → Type 0
 HasFrom t n [] j = ⊥
 HasFrom t n (us ∷ rest) j = ((j ≡ n) × (list_any (bytes_eq t) us ≡ true)) ⊎ HasFrom t (suc n) rest j
-
-or_left : (a b : Bool) → a ≡ true → (a || b) ≡ true
-or_left true b e = refl
-or_left false b e = absurd (true≢false (sym e))
-
-or_right : (a b : Bool) → b ≡ true → (a || b) ≡ true
-or_right true b e = refl
-or_right false b e = e
-
-either : (a b : Bool) → (a || b) ≡ true → (a ≡ true) ⊎ (b ≡ true)
-either true b e = inl refl
-either false b e = inr e
 
 -- ---- things
 
@@ -154,16 +144,12 @@ has_holder t n (us ∷ rest) j h =
       })
     ]
 
-without_false : (a : Bool) → (a || false) ≡ true → a ≡ true
-without_false true e = refl
-without_false false e = e
-
 holder_has : (t : Tag) (n : ℕ) (tags : List (List Tag)) (k : ℕ) → IsHolder tags (t ∷ []) k → HasFrom t n tags (n + k)
 holder_has t n [] k h = let no : None ≡ Some h.own = h.is_own in absurd (cc)
 holder_has t n (us ∷ rest) zero h =
     inl (
       (let e : n + 0 ≡ n = omega arith in e),
-      ap (list_any (bytes_eq t)) (same_some h.is_own) ∙ without_false (list_any (bytes_eq t) h.own) h.share,
+      ap (list_any (bytes_eq t)) (same_some h.is_own) ∙ first_alone (list_any (bytes_eq t) h.own) h.share,
     )
 holder_has t n (us ∷ rest) (suc k) h =
     inr (subst (λ (m : ℕ). HasFrom t (suc n) rest m) (let e : suc n + k ≡ n + suc k = omega arith in e)
@@ -201,7 +187,7 @@ module _ (cs : List Tag) (m : Holders) (tags : List (List Tag)) (kept : AreKept 
             own = o.own;
             is_own = o.is_own;
             share = or_left (list_any (bytes_eq a) o.own) (shares asks o.own)
-                (without_false (list_any (bytes_eq a) o.own) o.share);
+                (first_alone (list_any (bytes_eq a) o.own) o.share);
           })
         ]
         | inr o ↦ inr (record {
@@ -217,7 +203,7 @@ module _ (cs : List Tag) (m : Holders) (tags : List (List Tag)) (kept : AreKept 
     where
       apart : (j : ℕ) → IsHolder tags (a ∷ asks) j → (P j ⊎ IsHolder tags (a ∷ []) j) ⊎ IsHolder tags asks j
       apart j o =
-          elim (either (list_any (bytes_eq a) o.own) (shares asks o.own) o.share) [
+          elim (or_cases (list_any (bytes_eq a) o.own) (shares asks o.own) o.share) [
             | inl e ↦ inl (inr (record {
               own = o.own;
               is_own = o.is_own;

@@ -1,6 +1,6 @@
 -- Numbers at tags, as they are listed and looked up.
 use Rattle.std.proofs.Common.{◌≡◌, ℕ, zero, suc, ◌+◌, ◌-◌, ◌<◌, ◌≤◌, Bool, true, false, ◌||◌, List, [], ◌∷◌, ◌++◌}
-use Rattle.std.proofs.Common.{map, drop, length, get_or, bytes_eq, cond, refl, sym, ap, ap₂, ◌∙◌, arith, ◌⊎◌, inl, inr}
+use Rattle.std.proofs.Common.{map, drop, length, get_or, bytes_eq, cond, refl, sym, ap, ap₂, ◌∙◌, arith, inl, inr}
 use Rattle.std.proofs.Common.{Some, None, add-one}
 use Rattle.std.specs.Prelude.{nat_eq, slice_get, if◌then◌else◌}
 use Rattle.std.specs.Option.{option_map_or}
@@ -21,8 +21,10 @@ use Rattle.std.proofs.Math.Seq.{drop-cons}
 use Rattle.std.proofs.lemmas.Map.Text.{btree_map_updates_str, is_eq-slice_cmp}
 use Rattle.std.proofs.lemmas.Map.Lookups.{btree_set_from_contains, exact_unsigned}
 use Rattle.std.proofs.lemmas.Slice.Eq.{bytes_eq-Decides}
+use Rattle.std.proofs.lemmas.List.{append-nil}
+use Rattle.std.proofs.lemmas.Bool.{or_cases, or_right}
 use Rattle.foundation.proofs.Words.{swapped}
-use Rattle.foundation.proofs.TruthValues.{both_ways}
+use Rattle.foundation.proofs.TruthValues.{both_ways, or_again, or_assoc}
 use Rattle.tag_needs.specs.Tags.{Tag, tags_of, tags_in, shares, needed, IsShared}
 use Rattle.tag_needs.specs.Numbers.{Numbers, tag_cmp, numbers_at, is_in, times_listed, holders, AreNumbers}
 use Rattle.tag_needs.specs.Numbers.{is_listed_at}
@@ -31,29 +33,17 @@ use Rattle.tag_needs.proofs.TagLemmas.{shares_from}
 use Rattle.tag_needs.proofs.TagLemmas.{shares_to}
 use Rattle.foundation.proofs.Lists.{next_item}
 use Rattle.foundation.proofs.Options.{same_some}
-use Rattle.foundation.proofs.Comparisons.{lt_or_is}
+use Rattle.foundation.proofs.Comparisons.{lt_or_is, eq_turned}
 
 -- ---- what is left of a list
 
 left_number : (xs : List ℕ) (i : ℕ) → i < length xs → drop i xs ≡ get_or xs i 0 ∷ drop (i + 1) xs
 left_number xs i h = rw (add-one, drop-cons xs i 0 h) refl
 
-nil_right : (xs : List ℕ) → xs ++ [] ≡ xs
-nil_right [] = refl
-nil_right (x ∷ xs) = ap (λ y. x ∷ y) (nil_right xs)
-
-or_nil : (x : Bool) → (x || false) ≡ x
-or_nil true = refl
-or_nil false = refl
-
 turned : (a b c : Bool) → ((a || b) || c) ≡ (b || (a || c))
 turned true true c = refl
 turned true false c = refl
 turned false b c = refl
-
-joined : (a b c : Bool) → ((a || b) || c) ≡ (a || (b || c))
-joined true b c = refl
-joined false b c = refl
 
 -- ---- one number more at a tag
 
@@ -73,7 +63,7 @@ one_more old mid new tag list n u v e t =
         (cond b (Some list) (cond b None (get_by (λ k. slice_cmp nat_cmp t k.now) old))) []
         ≡ numbers_at old t ++ (if b then n ∷ [] else [])
     by_test true h = e ∙ ap (λ s. numbers_at old s ++ n ∷ []) (h refl)
-    by_test false h = sym (nil_right (numbers_at old t))
+    by_test false h = sym (append-nil (numbers_at old t))
 
 -- ---- what is listed, as more is
 
@@ -110,10 +100,6 @@ numbers_next now new first i all h u c j =
     ∙ ap (λ xs. contains nat_cmp now j || list_any (nat_eq j) xs) (sym (left_number all i h))
     ∙ c j
 
-again : (a b : Bool) → (a || b) ≡ (a || (a || b))
-again true b = refl
-again false b = refl
-
 key_added : (t : Tag) (k : Bor (List ℕ)) (ks : List (Bor (List ℕ)))
     → list_any (bytes_eq t) (map (λ x. x.now) (insert_key tag_cmp ks k))
     ≡ (bytes_eq t k.now || list_any (bytes_eq t) (map (λ x. x.now) ks))
@@ -132,11 +118,11 @@ key_added t k (x ∷ xs) = by_order (tag_cmp k x) (λ e. same_key e) (key_added 
         ≡ (bytes_eq t k.now || (bytes_eq t x.now || any_in xs))
     by_order Less e h = refl
     by_order Equal e h =
-        again (bytes_eq t x.now) (any_in xs)
+        or_again (bytes_eq t x.now) (any_in xs)
         ∙ ap (λ y. bytes_eq t y || (bytes_eq t x.now || any_in xs)) (sym (e refl))
     by_order Greater e h =
         ap (λ b. bytes_eq t x.now || b) h
-        ∙ sym (joined (bytes_eq t x.now) (bytes_eq t k.now) (any_in xs))
+        ∙ sym (or_assoc (bytes_eq t x.now) (bytes_eq t k.now) (any_in xs))
         ∙ turned (bytes_eq t x.now) (bytes_eq t k.now) (any_in xs)
 
 abbrev pub OnceLeft : BTreeSet (Bor (List ℕ)) → List (Vec ℕ Global) → List (Vec ℕ Global) → Type 0
@@ -164,18 +150,10 @@ record IsThere (f : Tag → Bool) (xs : List Tag) : Type 0 where
   among : list_any (bytes_eq tag) xs ≡ true
   passes : f tag ≡ true
 
-either : (a b : Bool) → (a || b) ≡ true → (a ≡ true) ⊎ (b ≡ true)
-either true b h = inl refl
-either false b h = inr h
-
-or_second : (a b : Bool) → b ≡ true → (a || b) ≡ true
-or_second true b h = refl
-or_second false b h = h
-
 there_in : (f : Tag → Bool) (xs : List Tag) → list_any f xs ≡ true → IsThere f xs
 there_in f [] h = let no : false ≡ true = h in absurd (cc)
 there_in f (x ∷ xs) h =
-    elim (either (f x) (list_any f xs) h) [
+    elim (or_cases (f x) (list_any f xs) h) [
       | inl e ↦ record {
         tag = x;
         among = ap (λ b. b || list_any (bytes_eq x) xs) ((bytes_eq-Decides x x).1 refl);
@@ -183,7 +161,7 @@ there_in f (x ∷ xs) h =
       }
       | inr e ↦ (let r = there_in f xs e in record {
         tag = r.tag;
-        among = or_second (bytes_eq r.tag x) (list_any (bytes_eq r.tag) xs) r.among;
+        among = or_right (bytes_eq r.tag x) (list_any (bytes_eq r.tag) xs) r.among;
         passes = r.passes;
       })
     ]
@@ -192,9 +170,9 @@ passes_in : (f : Tag → Bool) (t : Tag) (xs : List Tag) → f t ≡ true → li
     → list_any f xs ≡ true
 passes_in f t [] p h = let no : false ≡ true = h in absurd (cc)
 passes_in f t (x ∷ xs) p h =
-    elim (either (bytes_eq t x) (list_any (bytes_eq t) xs) h) [
+    elim (or_cases (bytes_eq t x) (list_any (bytes_eq t) xs) h) [
       | inl e ↦ ap (λ b. b || list_any f xs) (ap f (sym ((bytes_eq-Decides t x).0 e)) ∙ p)
-      | inr e ↦ or_second (f x) (list_any f xs) (passes_in f t xs p e)
+      | inr e ↦ or_right (f x) (list_any f xs) (passes_in f t xs p e)
     ]
 
 any_among : (f : Tag → Bool) (xs ys : List Tag)
@@ -224,10 +202,7 @@ listed_is m tags asks j a =
 
 numbers_test : (j : ℕ) (ns : List ℕ) → list_any (is_at (nat_cmp j)) ns ≡ list_any (nat_eq j) ns
 numbers_test j [] = refl
-numbers_test j (n ∷ ns) = ap₂ (λ x y. x || y) (number_test j n ∙ turned_test n j) (numbers_test j ns)
-  where
-    turned_test : (a b : ℕ) → nat_eq a b ≡ nat_eq b a
-    turned_test a b = grind arith
+numbers_test j (n ∷ ns) = ap₂ (λ x y. x || y) (number_test j n ∙ eq_turned n j) (numbers_test j ns)
 
 -- the numbers that were found are those of what is needed
 pub needed_is : (m : Numbers) (tags : List (List Tag)) (asks : List Tag) (s : BTreeSet ℕ) → AreNumbers m tags

@@ -3,6 +3,8 @@ use Rattle.std.proofs.Common.{◌≡◌, ◌↔◌, ◌⊎◌, inl, inr, ℕ, ze
 use Rattle.std.proofs.Common.{◌∷◌, ◌++◌, Some, None, refl, sym, ap, subst, ◌∙◌, arith}
 use Rattle.std.specs.Prelude.{nat_eq, slice_get}
 use Rattle.std.specs.List.{list_any}
+use Rattle.std.proofs.lemmas.Bool.{or_cases, or_right}
+use Rattle.foundation.proofs.Comparisons.{eq_of_true}
 use Rattle.tag_needs.specs.Tags.{Tag, shares, needed, pairs_of, needs_from, IsListed}
 use Rattle.tag_needs.proofs.TagLemmas.{shares_at, needed_shares, shares_from, shares_to, IsAsked}
 use Rattle.foundation.proofs.Options.{same_some}
@@ -22,25 +24,14 @@ listed_either p (x ∷ xs) ys (inl e) = inl (inl e)
 listed_either p (x ∷ xs) ys (inr h) =
     elim (listed_either p xs ys h) [ inl k ↦ inl (inr k) | inr k ↦ inr k ]
 
-same_number : (j i : ℕ) → nat_eq j i ≡ true → j ≡ i
-same_number j i h = grind (arith, h)
-
 number_itself : (i j : ℕ) → i ≡ j → nat_eq j i ≡ true
 number_itself i j h = grind (arith, h)
-
-or_second : (a b : Bool) → b ≡ true → (a || b) ≡ true
-or_second true b h = refl
-or_second false b h = h
-
-either : (a b : Bool) → (a || b) ≡ true → (a ≡ true) ⊎ (b ≡ true)
-either true b h = inl refl
-either false b h = inr h
 
 pair_listed : (i j : ℕ) (js : List ℕ) → list_any (nat_eq j) js ≡ true → IsListed (i, j) (pairs_of i js)
 pair_listed i j [] h = let no : false ≡ true = h in absurd (cc)
 pair_listed i j (k ∷ js) h =
-    elim (either (nat_eq j k) (list_any (nat_eq j) js) h) [
-      | inl e ↦ inl (ap (λ (n : ℕ). (i, n)) (sym (same_number j k e)))
+    elim (or_cases (nat_eq j k) (list_any (nat_eq j) js) h) [
+      | inl e ↦ inl (ap (λ (n : ℕ). (i, n)) (sym (eq_of_true j k e)))
       | inr e ↦ inr (pair_listed i j js e)
     ]
 
@@ -51,7 +42,7 @@ number_listed n j i (k ∷ js) (inl e) = (
   ap (λ b. b || list_any (nat_eq j) js) (number_itself k j (ap (λ (p : ℕ × ℕ). p.1) e)),
 )
 number_listed n j i (k ∷ js) (inr h) =
-    let r = number_listed n j i js h in (r.0, or_second (nat_eq j k) (list_any (nat_eq j) js) r.1)
+    let r = number_listed n j i js h in (r.0, or_right (nat_eq j k) (list_any (nat_eq j) js) r.1)
 
 from_first : (n j k : ℕ) (asks tags : List (List Tag)) → IsListed (n, j) (needs_from k asks tags) → k ≤ n
 from_first n j k [] tags h = elim h [ ]

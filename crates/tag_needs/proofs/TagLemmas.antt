@@ -1,49 +1,27 @@
 -- Tags that are shared, and the numbers of those that have them.
 use Rattle.std.proofs.Common.{◌≡◌, ℕ, zero, suc, ◌+◌, ◌-◌, ◌<◌, ◌≤◌, Bool, true, false, ◌&&◌, ◌||◌, List, [], ◌∷◌, ◌++◌}
-use Rattle.std.proofs.Common.{bytes_eq, refl, sym, ap, ap₂, ◌∙◌, arith, ◌⊎◌, inl, inr, Some, None}
+use Rattle.std.proofs.Common.{bytes_eq, refl, sym, ap, ap₂, ◌∙◌, arith, inl, inr, Some, None}
 use Rattle.std.specs.Prelude.{nat_eq, slice_get, if◌then◌else◌}
 use Rattle.std.specs.List.{list_any, AllByRecursion}
 use Rattle.std.specs.List.Sorted.{IsStrictlySortedBy}
 use Rattle.std.specs.Ordering.{nat_cmp}
-use Rattle.std.specs.Cmp.{nat_cmp_is}
 use Rattle.std.specs.declared.cmp.Ordering.TheVariants.{Less}
 use Rattle.std.proofs.lemmas.List.Folds.{list_any-append}
+use Rattle.std.proofs.lemmas.Bool.{or_cases, or_left, or_right}
+use Rattle.foundation.proofs.Comparisons.{eq_itself, eq_of_true, less}
+use Rattle.foundation.proofs.TruthValues.{both, and_false_is, and_shared, and_true_is, or_crossed, or_false}
 use Rattle.tag_needs.specs.Tags.{Tag, shares, needed}
 use Rattle.tag_needs.specs.Numbers.{times_listed, holders}
-
--- ---- truth values
-
-and_nil : (x : Bool) → (x && false) ≡ false
-and_nil true = refl
-and_nil false = refl
-
-and_whole : (x : Bool) → (x && true) ≡ x
-and_whole true = refl
-and_whole false = refl
-
-or_nil : (x : Bool) → (x || false) ≡ x
-or_nil true = refl
-or_nil false = refl
-
-spread : (x b c : Bool) → ((x && b) || (x && c)) ≡ (x && (b || c))
-spread true b c = refl
-spread false b c = refl
-
-mixed : (a b c d : Bool) → ((a || b) || (c || d)) ≡ ((a || c) || (b || d))
-mixed true b c d = refl
-mixed false true true d = refl
-mixed false true false d = refl
-mixed false false c d = refl
 
 -- ---- lists of tags
 
 any_or : (f g : Tag → Bool) (xs : List Tag) → list_any (λ a. f a || g a) xs ≡ (list_any f xs || list_any g xs)
 any_or f g [] = refl
-any_or f g (a ∷ xs) = ap (λ z. (f a || g a) || z) (any_or f g xs) ∙ mixed (f a) (g a) (list_any f xs) (list_any g xs)
+any_or f g (a ∷ xs) = ap (λ z. (f a || g a) || z) (any_or f g xs) ∙ or_crossed (f a) (g a) (list_any f xs) (list_any g xs)
 
 any_and : (x : Bool) (g : Tag → Bool) (xs : List Tag) → list_any (λ a. x && g a) xs ≡ (x && list_any g xs)
-any_and x g [] = sym (and_nil x)
-any_and x g (a ∷ xs) = ap (λ z. (x && g a) || z) (any_and x g xs) ∙ spread x (g a) (list_any g xs)
+any_and x g [] = sym (and_false_is x)
+any_and x g (a ∷ xs) = ap (λ z. (x && g a) || z) (any_and x g xs) ∙ and_shared x (g a) (list_any g xs)
 
 pub any_same : (f g : Tag → Bool) → ((a : Tag) → f a ≡ g a) → (xs : List Tag) → list_any f xs ≡ list_any g xs
 any_same f g h [] = refl
@@ -62,15 +40,15 @@ shares_at asks j i (ts ∷ rest) = (nat_eq j i && shares asks ts) || shares_at a
 
 times_any : (a : Tag) (j i : ℕ) (ts : List Tag)
     → list_any (nat_eq j) (times_listed a i ts) ≡ (nat_eq j i && list_any (bytes_eq a) ts)
-times_any a j i [] = sym (and_nil (nat_eq j i))
+times_any a j i [] = sym (and_false_is (nat_eq j i))
 times_any a j i (t ∷ ts) =
     list_any-append (nat_eq j) (if bytes_eq a t then i ∷ [] else []) (times_listed a i ts)
     ∙ ap₂ (λ x y. x || y) (one (bytes_eq a t)) (times_any a j i ts)
-    ∙ spread (nat_eq j i) (bytes_eq a t) (list_any (bytes_eq a) ts)
+    ∙ and_shared (nat_eq j i) (bytes_eq a t) (list_any (bytes_eq a) ts)
   where
     one : (b : Bool) → list_any (nat_eq j) (if b then i ∷ [] else []) ≡ (nat_eq j i && b)
-    one true = or_nil (nat_eq j i) ∙ sym (and_whole (nat_eq j i))
-    one false = sym (and_nil (nat_eq j i))
+    one true = or_false (nat_eq j i) ∙ sym (and_true_is (nat_eq j i))
+    one false = sym (and_false_is (nat_eq j i))
 
 pub listed_shares : (asks : List Tag) (j i : ℕ) (tags : List (List Tag))
     → list_any (λ a. list_any (nat_eq j) (holders a i tags)) asks ≡ shares_at asks j i tags
@@ -93,13 +71,10 @@ needed_shares asks j i (ts ∷ rest) =
     by_test : (b : Bool)
         → list_any (nat_eq j) (if b then i ∷ needed asks (suc i) rest else needed asks (suc i) rest)
         ≡ ((nat_eq j i && b) || list_any (nat_eq j) (needed asks (suc i) rest))
-    by_test true = ap (λ y. y || list_any (nat_eq j) (needed asks (suc i) rest)) (sym (and_whole (nat_eq j i)))
-    by_test false = ap (λ y. y || list_any (nat_eq j) (needed asks (suc i) rest)) (sym (and_nil (nat_eq j i)))
+    by_test true = ap (λ y. y || list_any (nat_eq j) (needed asks (suc i) rest)) (sym (and_true_is (nat_eq j i)))
+    by_test false = ap (λ y. y || list_any (nat_eq j) (needed asks (suc i) rest)) (sym (and_false_is (nat_eq j i)))
 
 -- ---- in order
-
-is_less : (k i : ℕ) → k < i → nat_cmp k i ≡ Less
-is_less k i h = sym (nat_cmp_is k i Less h)
 
 if_both : (P : List ℕ → Type 0) (b : Bool) (xs ys : List ℕ) → P xs → P ys → P (if b then xs else ys)
 if_both P true xs ys h k = h
@@ -111,7 +86,7 @@ above asks k i [] h = tt
 above asks k i (ts ∷ rest) h =
     let later = above asks k (suc i) rest (omega (arith, h)) in
     if_both (AllByRecursion (λ y. nat_cmp k y ≡ Less)) (shares asks ts) (i ∷ needed asks (suc i) rest)
-    (needed asks (suc i) rest) (is_less k i h, later) later
+    (needed asks (suc i) rest) (less k i h, later) later
 
 pub needed_rises : (asks : List Tag) (i : ℕ) (tags : List (List Tag)) → IsStrictlySortedBy nat_cmp (needed asks i tags)
 unfolding IsStrictlySortedBy
@@ -129,32 +104,18 @@ pub record IsAsked (asks : List Tag) (j i : ℕ) (tags : List (List Tag)) : Type
   pub there : slice_get tags (j - i) ≡ Some tags_there
   pub share : shares asks tags_there ≡ true
 
-both : (a b : Bool) → (a && b) ≡ true → (a ≡ true) × (b ≡ true)
-both true b h = (refl, h)
-both false b h = let no : false ≡ true = h in absurd (cc)
-
-either : (a b : Bool) → (a || b) ≡ true → (a ≡ true) ⊎ (b ≡ true)
-either true b h = inl refl
-either false b h = inr h
-
-same_number : (j i : ℕ) → nat_eq j i ≡ true → j ≡ i
-same_number j i h = grind (arith, h)
-
-pub number_itself : (j : ℕ) → nat_eq j j ≡ true
-number_itself j = grind arith
-
 pub shares_from : (asks : List Tag) (j i : ℕ) (tags : List (List Tag)) → shares_at asks j i tags ≡ true
     → IsAsked asks j i tags
 shares_from asks j i [] h = let no : false ≡ true = h in absurd (cc)
 shares_from asks j i (ts ∷ rest) h =
-    elim (either (nat_eq j i && shares asks ts) (shares_at asks j (suc i) rest) h) [
+    elim (or_cases (nat_eq j i && shares asks ts) (shares_at asks j (suc i) rest) h) [
       | inl e ↦ here (both (nat_eq j i) (shares asks ts) e)
       | inr e ↦ later (shares_from asks j (suc i) rest e)
     ]
   where
     here : (nat_eq j i ≡ true) × (shares asks ts ≡ true) → IsAsked asks j i (ts ∷ rest)
     here e =
-        let at : j ≡ i = same_number j i e.0 in
+        let at : j ≡ i = eq_of_true j i e.0 in
         record {
           tags_there = ts;
           within = omega (arith, at);
@@ -173,25 +134,18 @@ shares_from asks j i (ts ∷ rest) h =
       share = r.share;
     }
 
-or_first : (a b : Bool) → a ≡ true → (a || b) ≡ true
-or_first a b h = ap (λ x. x || b) h
-
-or_second : (a b : Bool) → b ≡ true → (a || b) ≡ true
-or_second true b h = refl
-or_second false b h = h
-
 pub shares_to : (asks : List Tag) (k i : ℕ) (tags : List (List Tag)) (ts : List Tag) → slice_get tags k ≡ Some ts
     → shares asks ts ≡ true → shares_at asks (i + k) i tags ≡ true
 shares_to asks k i [] ts e h = let no : None ≡ Some ts = e in absurd (cc)
 shares_to asks zero i (t ∷ rest) ts e h =
     let same : t ≡ ts = some_same e in
-    or_first (nat_eq (i + 0) i && shares asks t) (shares_at asks (i + 0) (suc i) rest)
+    or_left (nat_eq (i + 0) i && shares asks t) (shares_at asks (i + 0) (suc i) rest)
     (ap₂ (λ x y. x && y)
-    (ap (λ n. nat_eq n i) (let z : i + 0 ≡ i = omega arith in z) ∙ number_itself i) (ap (shares asks) same ∙ h))
+    (ap (λ n. nat_eq n i) (let z : i + 0 ≡ i = omega arith in z) ∙ eq_itself i) (ap (shares asks) same ∙ h))
   where
     some_same : Some t ≡ Some ts → t ≡ ts
     some_same e = cc
 shares_to asks (suc k) i (t ∷ rest) ts e h =
-    or_second (nat_eq (i + suc k) i && shares asks t) (shares_at asks (i + suc k) (suc i) rest)
+    or_right (nat_eq (i + suc k) i && shares asks t) (shares_at asks (i + suc k) (suc i) rest)
     (ap (λ (n : ℕ). shares_at asks n (suc i) rest) (let z : i + suc k ≡ suc i + k = omega arith in z)
     ∙ shares_to asks k (suc i) rest ts e h)

@@ -6,6 +6,7 @@ use Rattle.std.proofs.lemmas.Bool.Decides.{nat_tests}
 use Rattle.std.specs.Prelude.{if◌then◌else◌, OnOk, Result, Ok, Err}
 use Rattle.std.specs.declared.alloc.AllocError.{AllocError}
 use Rattle.std.specs.BTreeSet.{BTreeSet}
+use Rattle.foundation.proofs.Comparisons.{eq_itself, eq_of_true}
 use Rattle.depend_graph.specs.Shape.{Shape, times, undone_needs}
 use Rattle.task_agenda.specs.Lists.{is_scope, has, is_listed_in, ListsMore, Adds, IsSeenTo}
 
@@ -36,16 +37,13 @@ kept_true : (b c : Bool) → c ≡ true → (if b then true else c) ≡ true
 kept_true true c e = refl
 kept_true false c e = e
 
-same_is : (u v : ℕ) → (u == v) ≡ true → u ≡ v
-same_is u v e = grind (arith, nat_tests, e)
-
 module _ (g : Shape) (kinds : List Bool) (s a n : BTreeSet ℕ) (task : ℕ)
     (added : (u : ℕ) → has n u ≡ (if u == task then true else has s u)) (free : length (undone_needs g task) ≡ 0)
     (kind : is_scope kinds task ≡ true) where
   scope_by : (u : ℕ) (b : Bool) → (if b then has n u else has a u) ≡ true
       → ((if b then has s u else has a u) ≡ true) ⊎ (length (undone_needs g u) ≡ 0)
   scope_by u true e = elim (if_true (u == task) (has s u) (sym (added u) ∙ e)) [
-    | inl f ↦ inr (subst (λ (v : ℕ). length (undone_needs g v) ≡ 0) (sym (same_is u task f)) free)
+    | inl f ↦ inr (subst (λ (v : ℕ). length (undone_needs g v) ≡ 0) (sym (eq_of_true u task f)) free)
     | inr f ↦ inl f
   ]
   scope_by u false e = inl e
@@ -60,7 +58,7 @@ module _ (g : Shape) (kinds : List Bool) (s a n : BTreeSet ℕ) (task : ℕ)
     keeps = λ u e. keeps_by u (is_scope kinds u) e;
     apart = λ h. record {
       are_scopes = λ u e. elim (if_true (u == task) (has s u) (sym (added u) ∙ e)) [
-        | inl f ↦ subst (λ (v : ℕ). is_scope kinds v ≡ true) (sym (same_is u task f)) kind
+        | inl f ↦ subst (λ (v : ℕ). is_scope kinds v ≡ true) (sym (eq_of_true u task f)) kind
         | inr f ↦ h.are_scopes u f
       ];
       are_acts = h.are_acts;
@@ -73,7 +71,7 @@ module _ (g : Shape) (kinds : List Bool) (s a n : BTreeSet ℕ) (task : ℕ)
   act_by : (u : ℕ) (b : Bool) → (if b then has s u else has n u) ≡ true
       → ((if b then has s u else has a u) ≡ true) ⊎ (length (undone_needs g u) ≡ 0)
   act_by u false e = elim (if_true (u == task) (has a u) (sym (added u) ∙ e)) [
-    | inl f ↦ inr (subst (λ (v : ℕ). length (undone_needs g v) ≡ 0) (sym (same_is u task f)) free)
+    | inl f ↦ inr (subst (λ (v : ℕ). length (undone_needs g v) ≡ 0) (sym (eq_of_true u task f)) free)
     | inr f ↦ inl f
   ]
   act_by u true e = inl e
@@ -89,7 +87,7 @@ module _ (g : Shape) (kinds : List Bool) (s a n : BTreeSet ℕ) (task : ℕ)
     apart = λ h. record {
       are_scopes = h.are_scopes;
       are_acts = λ u e. elim (if_true (u == task) (has a u) (sym (added u) ∙ e)) [
-        | inl f ↦ subst (λ (v : ℕ). (v < length kinds) × (is_scope kinds v ≡ false)) (sym (same_is u task f))
+        | inl f ↦ subst (λ (v : ℕ). (v < length kinds) × (is_scope kinds v ≡ false)) (sym (eq_of_true u task f))
             (within, kind)
         | inr f ↦ h.are_acts u f
       ];
@@ -124,12 +122,9 @@ pub act_more : (g : Shape) (kinds : List Bool) (s a n : BTreeSet ℕ) (task : �
 act_more g kinds s a n task (Ok done) h free within kind = act_added g kinds s a n task h free within kind
 act_more g kinds s a n task (Err e) h free within kind = same_lists g kinds s a s n (λ u. refl) h
 
-itself : (u : ℕ) → (u == u) ≡ true
-itself u = grind (arith, nat_tests)
-
 pub now_has : (s n : BTreeSet ℕ) (task : ℕ) (r : Result (Unit {0}) AllocError) → Adds s n task r
     → OnOk r (has n task ≡ true)
-now_has s n task (Ok done) h = h task ∙ ap (λ (b : Bool). if b then true else has s task) (itself task)
+now_has s n task (Ok done) h = h task ∙ ap (λ (b : Bool). if b then true else has s task) (eq_itself task)
 now_has s n task (Err e) h = tt
 
 pub listed_scope : (kinds : List Bool) (n a : BTreeSet ℕ) (task : ℕ) (r : Result (Unit {0}) AllocError)
@@ -161,7 +156,7 @@ either : (w u : ℕ) (front : List ℕ) → 1 ≤ times (front ++ w ∷ []) u �
 either w u [] h = by_bool (w == u) refl
   where
     by_bool : (b : Bool) → (w == u) ≡ b → (1 ≤ times [] u) ⊎ (w ≡ u)
-    by_bool true e = inr (same_is w u e)
+    by_bool true e = inr (eq_of_true w u e)
     by_bool false e =
         let o : ◌≡◌ {A = ℕ} (cond (w == u) 1 0) 0 = ap {A = Bool} {B = ℕ} (λ t. cond t 1 0) e in
         absurd (omega (arith, o, h))

@@ -1,5 +1,6 @@
 -- What is known at one moment agrees: two tables of it have a table with both.
 use Rattle.std.proofs.Common.{◌≡◌, inl, inr, List, [], ◌∷◌, Option, Some, None, refl, sym, ap, subst, ◌∙◌}
+use Rattle.board_history.proofs.KnownLemmas.{same_entry}
 use Rattle.arm_value.specs.Json.{Json}
 use Rattle.reading.specs.Reading.{done, ask}
 use Rattle.reading.specs.World.{reads_in}
@@ -9,15 +10,7 @@ use Rattle.reading.specs.Knowledge.{known_value, blanked, Holds, Completes, Stay
 use Rattle.reading.proofs.Growth.{told_still}
 use Rattle.deploy_cells.specs.Cells.{Cell, World}
 use Rattle.deploy_cells.specs.Guarded.{Reads, Meaning}
-use Rattle.plan_cells.specs.Known.{Access, outright, by_others, Moment, Table, entry_of, entry_told, IsKnown}
-use Rattle.plan_cells.specs.Known.{is_outright}
-use Rattle.plan_cells.specs.Known.{is_told}
-
-same_entry : (o u : Option Json) → entry_of o ≡ entry_of u → o ≡ u
-same_entry (Some x) (Some y) e = cc
-same_entry (Some x) None e = cc
-same_entry None (Some y) e = cc
-same_entry None None e = refl
+use Rattle.board_history.specs.Known.{Access, outright, by_others, Moment, Table, entry_of, entry_told, IsKnown, is_outright, is_told}
 
 same_outright : (o u : Option Json) → outright o ≡ outright u → o ≡ u
 same_outright o u e = cc

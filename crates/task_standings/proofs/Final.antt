@@ -6,13 +6,13 @@ use Rattle.reading.specs.Knowledge.{Known, known, absent, missing, known_value, 
 use Rattle.reading.specs.Knowledge.{Stays, IsThere}
 use Rattle.template_parts.specs.declared.output.Output.{Output}
 use Rattle.deploy_cells.specs.Cells.{World, output}
-use Rattle.plan_cells.specs.Children.{Has, output_names}
-use Rattle.plan_cells.specs.Known.{Table}
-use Rattle.plan_cells.specs.Resources.{header_in}
-use Rattle.deploy_histories.specs.Events.{Progress}
-use Rattle.deploy_histories.specs.Planned.{Planned}
-use Rattle.deploy_histories.specs.Points.{IsKnownThen, IsTableOf}
-use Rattle.deploy_histories.proofs.ReadinessLemmas.{table_grows}
+use Rattle.board_history.specs.Children.{Has, output_names}
+use Rattle.board_history.specs.Known.{Table}
+use Rattle.board_history.specs.Resources.{header_in}
+use Rattle.board_history.specs.Events.{Progress}
+use Rattle.board_history.specs.Planned.{Planned}
+use Rattle.board_history.specs.Points.{IsKnownThen, IsTableOf}
+use Rattle.board_history.proofs.ReadinessLemmas.{table_grows}
 use Rattle.task_standings.specs.Outputs.{with_value, with_values, outputs_in, value_of, AreOutputs}
 use Rattle.task_standings.specs.declared.standing.RootOutput.{RootOutput}
 use Rattle.task_standings.proofs.Agreement.{more_completes}

@@ -1,8 +1,9 @@
 -- What a task waits for stays until that is done, and a value that is none stays none.
-use Rattle.std.proofs.Common.{◌≡◌, inl, inr, ℕ, Bool, true, false, true≢false, List, [], ◌∷◌, Option, Some, None}
+use Rattle.std.proofs.Common.{◌≡◌, inl, inr, ℕ, Bool, true, false, List, [], ◌∷◌, Option, Some, None}
 use Rattle.std.proofs.Common.{refl, sym, ap, subst, ◌∙◌}
 use Rattle.std.specs.Prelude.{◌||◌, slice_get}
 use Rattle.std.specs.List.{list_any}
+use Rattle.std.proofs.lemmas.Bool.{or_left, or_right}
 use Rattle.arm_value.specs.Json.{Json}
 use Rattle.reading.specs.World.{reads_in}
 use Rattle.reading.specs.Knowledge as knowledge
@@ -12,19 +13,19 @@ use Rattle.reading.proofs.Completion.{told_means}
 use Rattle.reading.proofs.Growth.{told_still}
 use Rattle.deploy_cells.specs.Cells.{Cell, offered, output}
 use Rattle.deploy_cells.specs.Guarded.{Reads}
-use Rattle.plan_cells.specs.Known.{Table, entry_of}
-use Rattle.plan_cells.specs.Meaning.{meaning}
-use Rattle.plan_cells.specs.Start.{start_world, at_point}
-use Rattle.plan_cells.specs.Tasks.{Task}
-use Rattle.plan_cells.specs.Reads.{is_given_by}
-use Rattle.plan_cells.specs.Children.{Has}
-use Rattle.deploy_histories.specs.Planned.{Planned, course}
-use Rattle.deploy_histories.specs.Events.{Progress, IsDone}
-use Rattle.deploy_histories.specs.Points.{IsKnownThen, IsTableOf, point}
-use Rattle.deploy_histories.specs.Values.{TaskValue, task_values, reads_from}
-use Rattle.deploy_histories.specs.Readiness.{ready, readiness, needs_first, needs_now}
-use Rattle.deploy_histories.proofs.ReadinessLemmas.{ready_says, table_grows}
-use Rattle.history_laws.specs.Past.{StaysDone}
+use Rattle.board_history.specs.Known.{Table, entry_of}
+use Rattle.board_history.specs.Meaning.{meaning}
+use Rattle.board_history.specs.Start.{start_world, at_point}
+use Rattle.board_history.specs.Tasks.{Task}
+use Rattle.board_history.specs.Reads.{is_given_by}
+use Rattle.board_history.specs.Children.{Has}
+use Rattle.board_history.specs.Planned.{Planned, course}
+use Rattle.board_history.specs.Events.{Progress, IsDone}
+use Rattle.board_history.specs.Points.{IsKnownThen, IsTableOf, point}
+use Rattle.board_history.specs.Values.{TaskValue, task_values, reads_from}
+use Rattle.board_history.specs.Readiness.{ready, readiness, needs_first, needs_now}
+use Rattle.board_history.proofs.ReadinessLemmas.{ready_says, table_grows}
+use Rattle.history_replays.specs.Past.{StaysDone}
 use Rattle.history_replays.proofs.Later.{known_later}
 use Rattle.task_standings.specs.Standings.{WaitsFor, IsNone, Needs, IsStuck}
 use Rattle.task_standings.specs.Standings.{IsScopeSeen}
@@ -32,15 +33,11 @@ use Rattle.task_standings.proofs.Agreement.{known_or, joined, AreOne, grows_left
 use Rattle.task_standings.proofs.Agreement.{more_completes}
 use Rattle.task_standings.proofs.Agreement.{awaited_is_read}
 
-or_second : (a b : Bool) → b ≡ true → (a || b) ≡ true
-or_second true b e = refl
-or_second false b e = e
-
 any_known : {A : Type 0} (f : A → Bool) (a : A) (cs : List A) → knowledge.Has a cs → f a ≡ true → list_any f cs ≡ true
 any_known f a [] h e = absurd h
 any_known f a (c ∷ cs) h e = elim h [
   | inl i ↦ ap (λ b. b || list_any f cs) (ap f i ∙ e)
-  | inr i ↦ or_second (f c) (list_any f cs) (any_known f a cs i e)
+  | inr i ↦ or_right (f c) (list_any f cs) (any_known f a cs i e)
 ]
 
 any_value : (f : TaskValue → Bool) (a : TaskValue) (vs : List TaskValue) → Has a vs → f a ≡ true
@@ -48,7 +45,7 @@ any_value : (f : TaskValue → Bool) (a : TaskValue) (vs : List TaskValue) → H
 any_value f a [] h e = absurd h
 any_value f a (c ∷ cs) h e = elim h [
   | inl i ↦ ap (λ b. b || list_any f cs) (ap f i ∙ e)
-  | inr i ↦ or_second (f c) (list_any f cs) (any_value f a cs i e)
+  | inr i ↦ or_right (f c) (list_any f cs) (any_value f a cs i e)
 ]
 
 module _ (x : Planned) (p : Progress) (s t : Table) (i : IsKnownThen x p s) (j : IsKnownThen x p t) where
@@ -79,7 +76,7 @@ module _ (x : Planned) (p : Progress) (s t : Table) (i : IsKnownThen x p s) (j :
       = subst (λ (cs : List Cell). knowledge.Has w.cell cs) (same_reads w.awaiting.reading o e)
       (awaited_is_read (Option Json) s (blanked (joined s t)) completes_first w.awaiting.reading w.cell
       w.is_awaited) in
-      or_second (needs_first x task giver) (list_any (reads_from x t giver) (task_values x.deployment task))
+      or_right (needs_first x task giver) (list_any (reads_from x t giver) (task_values x.deployment task))
       (any_value (reads_from x t giver) w.awaiting (task_values x.deployment task) w.is_value
       (any_known (is_given_by x.deployment (start_world x.known) giver) w.cell
       (reads_in (blanked t) w.awaiting.reading) read w.is_given))
@@ -137,15 +134,11 @@ needed : (x : Planned) (p : Progress) (t : Table) (u : ℕ) (task : Task) (body 
     → needs_now x t task giver ≡ true → IsDone p v
 needed x p t u task body e v giver is n = (ready_says x t p u task body e).is_free.needs_done v giver is n
 
-or_first : (a b : Bool) → a ≡ true → (a || b) ≡ true
-or_first true b e = refl
-or_first false b e = absurd (true≢false (sym e))
-
 pub needs_come_first : (x : Planned) (p : Progress) (t : Table) → IsKnownThen x p t → (u : ℕ) (task : Task)
     (body : Json) → readiness x t p.status u task ≡ ready body → (v : ℕ) (giver : Task)
     → slice_get x.tasks v ≡ Some giver → Needs x p task giver → IsDone p v
 needs_come_first x p t j u task body e v giver is (inl n) =
-    needed x p t u task body e v giver is (or_first (needs_first x task giver) _ n)
+    needed x p t u task body e v giver is (or_left (needs_first x task giver) _ n)
 needs_come_first x p t j u task body e v giver is (inr h) =
     let r = ready_says x t p u task body e in
     let a = r.has_values h.waits_for.awaiting h.waits_for.is_value in
@@ -205,10 +198,10 @@ scopes_stay x s t g u h =
 -- by all that is known a task needs what it waits for
 pub needed_by_all : (x : Planned) (p : Progress) (t : Table) → IsTableOf x p t → (task giver : Task)
     → Needs x p task giver → needs_now x t task giver ≡ true
-needed_by_all x p t all task giver (inl n) = or_first (needs_first x task giver) _ n
+needed_by_all x p t all task giver (inl n) = or_left (needs_first x task giver) _ n
 needed_by_all x p t all task giver (inr h) =
     let w = h.waits_for in
-    or_second (needs_first x task giver) (list_any (reads_from x t giver) (task_values x.deployment task))
+    or_right (needs_first x task giver) (list_any (reads_from x t giver) (task_values x.deployment task))
     (any_value (reads_from x t giver) w.awaiting (task_values x.deployment task) w.is_value
     (any_known (is_given_by x.deployment (start_world x.known) giver) w.cell
     (reads_in (blanked t) w.awaiting.reading)

@@ -1,12 +1,12 @@
 -- Why a task cannot begin at the end of a deployment, by all that is known.
 use Rattle.std.specs.Prelude.{◌≡◌, ℕ, true, false, Some, slice_get}
-use Rattle.plan_cells.specs.Known.{Table}
-use Rattle.plan_cells.specs.Tasks.{Task}
-use Rattle.deploy_histories.specs.Planned.{Planned}
-use Rattle.deploy_histories.specs.Events.{Progress, done_status}
-use Rattle.deploy_histories.specs.Points.{IsTableOf}
-use Rattle.deploy_histories.specs.Readiness as readiness
-use Rattle.deploy_histories.specs.Readiness.{at_fault, needs_now}
+use Rattle.board_history.specs.Known.{Table}
+use Rattle.board_history.specs.Tasks.{Task}
+use Rattle.board_history.specs.Planned.{Planned}
+use Rattle.board_history.specs.Events.{Progress, done_status}
+use Rattle.board_history.specs.Points.{IsTableOf}
+use Rattle.board_history.specs.Readiness as readiness
+use Rattle.board_history.specs.Readiness.{at_fault, needs_now}
 use Rattle.task_standings.specs.declared.standing.TaskFault.{TaskFault}
 use Rattle.task_standings.specs.declared.standing.Failing.{Failing}
 use Rattle.task_standings.specs.declared.standing.Failing.TheVariants.{Faulty, Needs}

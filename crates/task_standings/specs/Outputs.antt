@@ -7,13 +7,13 @@ use Rattle.reading.specs.Knowledge.{IsThere, blanked}
 use Rattle.template_parts.specs.declared.output.Output.{Output}
 use Rattle.template_parts.specs.declared.value_type.ValueType.{ValueType}
 use Rattle.deploy_cells.specs.Cells.{World, output}
-use Rattle.plan_cells.specs.Children.{Has, output_names}
-use Rattle.plan_cells.specs.Known.{Table}
-use Rattle.plan_cells.specs.Resources.{header_in}
-use Rattle.deploy_histories.specs.Events.{Progress}
-use Rattle.deploy_histories.specs.Legal.{AllDone}
-use Rattle.deploy_histories.specs.Planned.{Planned}
-use Rattle.deploy_histories.specs.Points.{IsTableOf}
+use Rattle.board_history.specs.Children.{Has, output_names}
+use Rattle.board_history.specs.Known.{Table}
+use Rattle.board_history.specs.Resources.{header_in}
+use Rattle.board_history.specs.Events.{Progress}
+use Rattle.board_history.specs.Legal.{AllDone}
+use Rattle.board_history.specs.Planned.{Planned}
+use Rattle.board_history.specs.Points.{IsTableOf}
 use Rattle.task_standings.specs.Standings.{AreScopesSeen}
 use Rattle.task_standings.specs.declared.standing.RootOutput.{RootOutput}
 

@@ -7,19 +7,19 @@ use Rattle.provider_trait.specs.declared.act.Act.TheVariants as act
 use Rattle.reading.specs.Knowledge.{Told, value, no_value, waits, told, IsThere}
 use Rattle.template_tree.specs.Tree.{TemplateTree}
 use Rattle.deploy_cells.specs.Cells.{Position, Cell, offered, output}
-use Rattle.plan_cells.specs.Known.{Table, IsKnown}
-use Rattle.plan_cells.specs.Meaning.{meaning}
-use Rattle.plan_cells.specs.Scopes.{template_at, owner}
-use Rattle.plan_cells.specs.Tasks.{Task, enter, leave, put, delete}
-use Rattle.plan_cells.specs.Children.{Has, output_names}
-use Rattle.plan_cells.specs.Start.{start_world, at_point}
-use Rattle.plan_cells.specs.Reads.{is_given_by, entry_cells}
-use Rattle.deploy_histories.specs.Planned.{Planned, course}
-use Rattle.deploy_histories.specs.Events.{Progress, done_status, IsDone}
-use Rattle.deploy_histories.specs.Points.{IsKnownThen, point}
-use Rattle.deploy_histories.specs.Values.{TaskValue, task_values}
-use Rattle.deploy_histories.specs.Readiness.{ready, readiness, needs_first}
-use Rattle.history_laws.specs.Past.{StaysDone}
+use Rattle.board_history.specs.Known.{Table, IsKnown}
+use Rattle.board_history.specs.Meaning.{meaning}
+use Rattle.board_history.specs.Scopes.{template_at, owner}
+use Rattle.board_history.specs.Tasks.{Task, enter, leave, put, delete}
+use Rattle.board_history.specs.Children.{Has, output_names}
+use Rattle.board_history.specs.Start.{start_world, at_point}
+use Rattle.board_history.specs.Reads.{is_given_by, entry_cells}
+use Rattle.board_history.specs.Planned.{Planned, course}
+use Rattle.board_history.specs.Events.{Progress, done_status, IsDone}
+use Rattle.board_history.specs.Points.{IsKnownThen, point}
+use Rattle.board_history.specs.Values.{TaskValue, task_values}
+use Rattle.board_history.specs.Readiness.{ready, readiness, needs_first}
+use Rattle.history_replays.specs.Past.{StaysDone}
 use Rattle.task_standings.specs.declared.standing.Kind.{Kind}
 use Rattle.task_standings.specs.declared.standing.Kind.TheVariants.{Enter, Put, Delete, Leave}
 use Rattle.task_standings.specs.declared.standing.Standing.{Standing}

@@ -8,5 +8,6 @@ pub mod laws;
 mod standing;
 mod standings;
 
+pub use point_values::laws::seen_stays;
 pub use standing::{Aim, Failing, Kind, RootOutput, Standing, TaskFault};
 pub use standings::Standings;

@@ -12,12 +12,12 @@ pub trait Standings: Drop {
     ghost use Rattle.std.specs.Prelude.{◌≡◌, ◌<◌, ℕ, List, Some, None, length, IfOk, slice_get, option_map};
     ghost use Rattle.reading.specs.Knowledge.{Grows};
     ghost use Rattle.deploy_cells.specs.Cells.{Position};
-    ghost use Rattle.plan_cells.specs.Known.{Table};
-    ghost use Rattle.plan_cells.specs.Tasks.{Task};
-    ghost use Rattle.deploy_histories.specs.Planned.{Planned};
-    ghost use Rattle.deploy_histories.specs.Events.{is_waiting, progress, IsDone, NoneBegun, Progress};
-    ghost use Rattle.deploy_histories.specs.Legal.{IsAct, IsLegal, NothingMay};
-    ghost use Rattle.deploy_histories.specs.Outcome.{target_of};
+    ghost use Rattle.board_history.specs.Known.{Table};
+    ghost use Rattle.board_history.specs.Tasks.{Task};
+    ghost use Rattle.board_history.specs.Planned.{Planned};
+    ghost use Rattle.board_history.specs.Events.{is_waiting, progress, IsDone, NoneBegun, Progress};
+    ghost use Rattle.board_history.specs.Legal.{IsAct, IsLegal, NothingMay};
+    ghost use Rattle.board_history.specs.Outcome.{target_of};
     ghost use Rattle.point_values.specs.Seen.{IsSeen};
     ghost use Rattle.task_standings.specs.Standings.{IsStanding, AreStartNeedsDone, kind_of, Enters, Leaves};
     ghost use Rattle.task_standings.specs.Standings.{scope_at};

@@ -2,12 +2,12 @@
 use Rattle.std.proofs.Common.{◌≡◌, ◌<◌, ◌≤◌, ◌+◌, ℕ, length, get_or, drop, Bool, true, false, List, [], ◌∷◌, ◌++◌}
 use Rattle.std.proofs.Common.{map, Option, if◌then◌else◌, refl, sym, ap, ◌∙◌, subst, arith}
 use Rattle.std.proofs.lemmas.List.{drop_all, append-nil}
+use Rattle.foundation.proofs.Lists.{next_item}
 use Rattle.arm_value.specs.Json.{Member, nesting, members_nesting, IsInOrder}
 use Rattle.arm_value.specs.View.{json, member}
 use Rattle.arm_value.specs.declared.value.Field.{Field}
 use Rattle.arm_value.proofs.GatherLemmas.{front_in_order, append_one}
 use Rattle.arm_value.proofs.JsonLemmas as parts
-use Rattle.arm_value.proofs.SetLemmas.{drop_from}
 use Rattle.template_meaning.specs.Resources.{is_outside, body_of}
 use Rattle.arm_value.proofs.GatheredLemmas.{without_one}
 
@@ -17,7 +17,7 @@ member_within fs ms i f n e h is d = omega (arith, d, parts.member_nests fs i f 
 
 at_next : (made : List Member) (fs : List Field) (i : ℕ) (f : Field) → IsInOrder (made ++ map member (drop i fs))
     → i < length fs → f ≡ get_or fs i f → IsInOrder (made ++ member f ∷ map member (drop (i + 1) fs))
-at_next made fs i f o h is = subst (λ ds. IsInOrder (made ++ map member ds)) (drop_from fs i f h is) o
+at_next made fs i f o h is = subst (λ ds. IsInOrder (made ++ map member ds)) (next_item fs i f h is) o
 
 pub next_last : (made : List Member) (fs : List Field) (i : ℕ) (f : Field) → IsInOrder (made ++ map member (drop i fs))
     → i < length fs → f ≡ get_or fs i f → IsInOrder (made ++ (f.name, json f.value) ∷ [])
@@ -44,7 +44,7 @@ body_from : (s : Option (List ℕ)) (fs : List Field) (i : ℕ) (f : Field) → 
     → body_of s (map member (drop i fs))
     ≡ (if is_outside s f.name then body_of s (map member (drop (i + 1) fs))
     else member f ∷ body_of s (map member (drop (i + 1) fs)))
-body_from s fs i f h is = ap (λ ds. body_of s (map member ds)) (drop_from fs i f h is)
+body_from s fs i f h is = ap (λ ds. body_of s (map member ds)) (next_item fs i f h is)
 
 body_by : (b : Bool) (made rest : List Member) (m : Member)
     → made ++ (if b then rest else m ∷ rest) ≡ (if b then made else made ++ m ∷ []) ++ rest

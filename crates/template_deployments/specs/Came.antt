@@ -2,7 +2,7 @@
 use Rattle.std.specs.Prelude.{◌≡◌, ◌⊎◌, ℕ, List, [], map, Option, IfOk}
 use Rattle.command_reports.specs.declared.report.Report.{Report}
 use Rattle.deploy_histories.specs.Planned.{Planned}
-use Rattle.deployment_runs.specs.Runs.{by_seat}
+use Rattle.run_reports.specs.Runs.{by_seat}
 use Rattle.run_reports.specs.Deployments.{DeploymentRun, Surroundings, Deployed}
 use Rattle.run_reports.specs.Past.{event_of}
 use Rattle.run_reports.specs.Reported.{SaysRun, HasFailed}

@@ -3,11 +3,11 @@ use Rattle.std.proofs.Common.{◌≡◌, ◌≢◌, ◌≤◌, ◌<◌, ◌+◌,
 use Rattle.std.proofs.Common.{Some, None, if◌then◌else◌, arith}
 use Rattle.std.proofs.Common.{Result, Ok, Err, refl, sym, ap, ap₂, ◌∙◌, append_assoc}
 use Rattle.std.proofs.lemmas.List.{drop_all, append-nil}
+use Rattle.foundation.proofs.Lists.{next_item}
 use Rattle.arm_value.specs.Json.{Json, pairs}
 use Rattle.arm_value.specs.Pointer.{step, token}
 use Rattle.arm_value.specs.View.{json, member}
 use Rattle.arm_value.specs.declared.value.Field.{Field}
-use Rattle.arm_value.proofs.SetLemmas.{drop_from}
 use Rattle.template_parameters.specs.Given.{Entry, is_value, value_in, new_entry, entry_before, entry_by, given_in}
 
 -- the entries, and then what these give
@@ -32,7 +32,7 @@ turn : (names : List (List ℕ)) (fs : List Field) (i : ℕ) (f : Field) (o : Op
     → f ≡ get_or fs i f → o ≡ new_entry names f.name (json f.value)
     → given_from names fs i ≡ entry_by f.name o (given_from (names ++ f.name ∷ []) fs (i + 1))
 turn names fs i f o h is e =
-    ap (λ ds. given_in names (pairs (map member ds))) (drop_from fs i f h is)
+    ap (λ ds. given_in names (pairs (map member ds))) (next_item fs i f h is)
     ∙ ap (λ p. entry_by f.name p (given_from (names ++ f.name ∷ []) fs (i + 1))) (sym e)
 
 -- one entry more

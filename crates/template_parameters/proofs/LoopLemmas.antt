@@ -2,11 +2,11 @@
 use Rattle.std.proofs.Common.{◌≡◌, ◌≤◌, ◌<◌, ◌+◌, ℕ, length, get_or, drop, false, List, [], ◌∷◌, ◌++◌, map, Option}
 use Rattle.std.proofs.Common.{Some, None, if◌then◌else◌, sym, ap, ap₂, ◌∙◌, arith}
 use Rattle.std.proofs.lemmas.List.{drop_all}
+use Rattle.foundation.proofs.Lists.{next_item}
 use Rattle.arm_value.specs.Json.{Json, Row, Pairs, Member, row, pairs, nesting}
 use Rattle.arm_value.specs.View.{json, member}
 use Rattle.arm_value.specs.declared.value.Value.{Value}
 use Rattle.arm_value.specs.declared.value.Field.{Field}
-use Rattle.arm_value.proofs.SetLemmas.{drop_from}
 use Rattle.arm_value.proofs.JsonLemmas as parts
 use Rattle.template_parameters.specs.Literal.{literal, row_literal, pairs_literal}
 use Rattle.template_parameters.proofs.LiteralLemmas.{literal_nests}
@@ -24,7 +24,7 @@ pub literal_item : (all : Option Row) (found new : List Json) (vs : List Value) 
     → new ≡ found ++ k ∷ [] → all ≡ with_row new (row_literal (row (map json (drop (i + 1) vs))))
 literal_item all found new vs i v k o a h is e f n =
     let rest = row_literal (row (map json (drop (i + 1) vs))) in
-    a ∙ ap (λ ds. with_row found (row_literal (row (map json ds)))) (drop_from vs i v h is)
+    a ∙ ap (λ ds. with_row found (row_literal (row (map json ds)))) (next_item vs i v h is)
     ∙ ap (λ s. with_row found (item_before s rest)) (sym e ∙ f) ∙ with_row-push found k rest
     ∙ ap (λ g. with_row g rest) (sym n)
 
@@ -43,7 +43,7 @@ pub literal_member : (all : Option Pairs) (found new : List Member) (fs : List F
     → new ≡ found ++ (name, k) ∷ [] → all ≡ with_pairs new (pairs_literal (pairs (map member (drop (i + 1) fs))))
 literal_member all found new fs i f name k o a h is plain e s t n =
     let rest = pairs_literal (pairs (map member (drop (i + 1) fs))) in
-    a ∙ ap (λ ds. with_pairs found (pairs_literal (pairs (map member ds)))) (drop_from fs i f h is)
+    a ∙ ap (λ ds. with_pairs found (pairs_literal (pairs (map member ds)))) (next_item fs i f h is)
     ∙ ap (λ b. with_pairs found (if b then None else pair_before f.name (literal (json f.value)) rest)) plain
     ∙ ap₂ (λ (l : List ℕ) j. with_pairs found (pair_before l j rest)) (sym e) (sym s ∙ t)
     ∙ with_pairs-push found (name, k) rest ∙ ap (λ g. with_pairs g rest) (sym n)

@@ -7,9 +7,8 @@ use Rattle.arm_value.specs.Json.{Member}
 use Rattle.arm_value.specs.View.{json, member}
 use Rattle.arm_value.specs.declared.value.Field.{Field}
 use Rattle.arm_value.proofs.JsonLemmas.{map-take-more}
-use Rattle.arm_value.proofs.SetLemmas.{drop_from}
 use Rattle.template_meaning.specs.Parts.{is_copy, unlooped, copies_in}
-use Rattle.foundation.proofs.Lists.{map-both}
+use Rattle.foundation.proofs.Lists.{map-both, next_item}
 
 -- one part more
 pub part_more : {A T : Type 0} (f : A → T) (parts new : List T) (xs : List A) (i : ℕ) (x : A) (y : T)
@@ -29,7 +28,7 @@ unlooped_from : (fs : List Field) (i : ℕ) (f : Field) → i < length fs → f 
     → unlooped (map member (drop i fs))
     ≡ (if is_copy f.name then unlooped (map member (drop (i + 1) fs))
     else member f ∷ unlooped (map member (drop (i + 1) fs)))
-unlooped_from fs i f h is = ap (λ ds. unlooped (map member ds)) (drop_from fs i f h is)
+unlooped_from fs i f h is = ap (λ ds. unlooped (map member ds)) (next_item fs i f h is)
 
 pub part_kept : {T : Type 0} (p : Member → T) (all parts new : List T) (fs : List Field) (i : ℕ) (f : Field) (y : T)
     → all ≡ parts ++ map p (unlooped (map member (drop i fs))) → i < length fs → f ≡ get_or fs i f
@@ -60,7 +59,7 @@ unlooped_all p all parts fs i a h =
 copies_from : (fs : List Field) (i : ℕ) (f : Field) → i < length fs → f ≡ get_or fs i f
     → copies_in (map member (drop i fs))
     ≡ (if is_copy f.name then Some (json f.value) else copies_in (map member (drop (i + 1) fs)))
-copies_from fs i f h is = ap (λ ds. copies_in (map member ds)) (drop_from fs i f h is)
+copies_from fs i f h is = ap (λ ds. copies_in (map member ds)) (next_item fs i f h is)
 
 pub copies_here : (fs : List Field) (i : ℕ) (f : Field)
     → copies_in (map member fs) ≡ copies_in (map member (drop i fs)) → i < length fs → f ≡ get_or fs i f

@@ -3,6 +3,7 @@ use Rattle.std.proofs.Common.{◌≡◌, ◌≤◌, ◌||◌, ℕ, suc, nat_lt, 
 use Rattle.std.proofs.Common.{Bool, true, false, List, [], ◌∷◌, map, Option, Some, None, is_some, refl, sym, ap}
 use Rattle.std.proofs.Common.{ap₂, ◌∙◌, subst, arith, if◌then◌else◌}
 use Rattle.std.specs.List.{list_all}
+use Rattle.foundation.proofs.Words.{eq_word}
 use Rattle.arm_value.specs.Json.{Json, null, bool, int, text, array, object}
 use Rattle.arm_value.specs.Json.{Pairs, no_pairs, pair, pairs, pair_keys, nesting}
 use Rattle.arm_value.specs.Json.{pairs_nesting}
@@ -36,7 +37,7 @@ use Rattle.template_written.specs.Written.{written}
 use Rattle.template_written.proofs.SlotLemmas.{look_slot}
 use Rattle.written_parts.proofs.FaultLemmas.{Holds, decided_none, earlier_none}
 use Rattle.written_parts.proofs.FaultLemmas.{named_none, Apart, faulty_none, faulty_nothing, At}
-use Rattle.written_parts.proofs.FaultLemmas.{found_accepted, has_inside, look_single, same_text, exact_folds}
+use Rattle.written_parts.proofs.FaultLemmas.{found_accepted, has_inside, look_single, exact_folds}
 use Rattle.written_parts.proofs.ObjectLemmas.{SlotsPass, accepts_slots, apart_slots, slots_there}
 use Rattle.written_parts.proofs.ObjectLemmas.{object_passes, object_within, inside_within, free_nothing}
 use Rattle.written_parts.proofs.ValueLemmas.{by_object, missing_none, Kept}
@@ -104,7 +105,7 @@ word_by t true true e f g = by_inner t f
         ∙ ap (λ b. if b then Inner else Outer) (exact_folds (codes "inner") u h)
 word_by t true false e f g =
     ap₂ (λ w u. if is_same_folded w u then Inner else Outer) (ascii.word (codes "inner") refl)
-    (sym (same_text (codes "outer") t e))
+    (sym (eq_word (codes "outer") t e))
 word_by t false true e f g =
     ap (λ w. if is_same_folded w t then Inner else Outer) (ascii.word (codes "inner") refl)
     ∙ ap (λ b. if b then Inner else Outer) (exact_folds (codes "inner") t f)

@@ -3,12 +3,12 @@ use Rattle.std.proofs.Common.{◌≡◌, ◌<◌, ◌≤◌, ◌+◌, ℕ, zero,
 use Rattle.std.proofs.Common.{refl, sym, ap, ap₂, ◌∙◌, subst, arith, add-one}
 use Rattle.std.proofs.lemmas.List.{take_all, drop_all, append-nil}
 use Rattle.std.specs.List.Sorted.{IsStrictlySortedBy}
+use Rattle.foundation.proofs.Lists.{next_item}
 use Rattle.arm_value.specs.Json.{Json, Member, keys, key_cmp, nesting, items_nesting, members_nesting, IsInOrder}
 use Rattle.arm_value.specs.View.{json}
 use Rattle.arm_value.specs.declared.value.Value.{Value}
 use Rattle.arm_value.proofs.GatherLemmas.{front_in_order, append_one}
 use Rattle.arm_value.proofs.JsonLemmas.{map-take, map-take-more, IsInOrder-take}
-use Rattle.arm_value.proofs.SetLemmas.{drop_from}
 use Rattle.template_parts.specs.declared.content.Content.{Content}
 use Rattle.template_parts.specs.declared.content.Content.TheVariants as content
 use Rattle.template_parts.specs.declared.variable.Variable.{Variable}
@@ -67,7 +67,7 @@ plain_at : (all made : List Member) (vs : List Variable) (i : ℕ) (v : Variable
     → all ≡ made ++ plain_variables (drop i vs) → i < length vs → v ≡ get_or vs i v → v.content ≡ content.Value x
     → all ≡ made ++ (v.name, json x) ∷ plain_variables (drop (i + 1) vs)
 plain_at all made vs i v x a h is c =
-    a ∙ ap (λ ds. made ++ plain_variables ds) (drop_from vs i v h is)
+    a ∙ ap (λ ds. made ++ plain_variables ds) (next_item vs i v h is)
     ∙ ap (λ (k : Content). made ++ plain_before v.name k (plain_variables (drop (i + 1) vs))) c
 
 pub plain_nests : (all made : List Member) (vs : List Variable) (i : ℕ) (v : Variable) (x : Value) (n : ℕ)
@@ -100,7 +100,7 @@ pub plain_left : (all made : List Member) (vs : List Variable) (i : ℕ) (v : Va
     → all ≡ made ++ plain_variables (drop i vs) → i < length vs → v ≡ get_or vs i v
     → v.content ≡ content.Copy count input → all ≡ made ++ plain_variables (drop (i + 1) vs)
 plain_left all made vs i v count input a h is c =
-    a ∙ ap (λ ds. made ++ plain_variables ds) (drop_from vs i v h is)
+    a ∙ ap (λ ds. made ++ plain_variables ds) (next_item vs i v h is)
     ∙ ap (λ (k : Content). made ++ plain_before v.name k (plain_variables (drop (i + 1) vs))) c
 
 pub plain_all : (all made : List Member) (vs : List Variable) (i : ℕ) → all ≡ made ++ plain_variables (drop i vs)
@@ -119,7 +119,7 @@ loop_at : (all made : List Json) (vs : List Variable) (i : ℕ) (v : Variable) (
     → v.content ≡ content.Copy count input
     → all ≡ made ++ named_loop v.name (json count) (json input) ∷ variable_loops (drop (i + 1) vs)
 loop_at all made vs i v count input a h is c =
-    a ∙ ap (λ ds. made ++ variable_loops ds) (drop_from vs i v h is)
+    a ∙ ap (λ ds. made ++ variable_loops ds) (next_item vs i v h is)
     ∙ ap (λ (k : Content). made ++ loop_before v.name k (variable_loops (drop (i + 1) vs))) c
 
 pub loop_nests : (all made : List Json) (vs : List Variable) (i : ℕ) (v : Variable) (count input : Value) (n : ℕ)
@@ -147,7 +147,7 @@ pub loop_left : (all made : List Json) (vs : List Variable) (i : ℕ) (v : Varia
     → all ≡ made ++ variable_loops (drop i vs) → i < length vs → v ≡ get_or vs i v → v.content ≡ content.Value x
     → all ≡ made ++ variable_loops (drop (i + 1) vs)
 loop_left all made vs i v x a h is c =
-    a ∙ ap (λ ds. made ++ variable_loops ds) (drop_from vs i v h is)
+    a ∙ ap (λ ds. made ++ variable_loops ds) (next_item vs i v h is)
     ∙ ap (λ (k : Content). made ++ loop_before v.name k (variable_loops (drop (i + 1) vs))) c
 
 pub loop_all : (all made : List Json) (vs : List Variable) (i : ℕ) → all ≡ made ++ variable_loops (drop i vs)

@@ -8,6 +8,7 @@ use Rattle.std.specs.Ordering.{match_ordering}
 use Rattle.std.specs.Ordering.{ordering_reverse}
 use Rattle.std.proofs.lemmas.Cmp.{nat_list_cmp_total}
 use Rattle.std.proofs.lemmas.Slice.Eq.{bytes_eq-Decides}
+use Rattle.foundation.proofs.Words.{itself}
 use Rattle.arm_value.specs.Json.{Json, object, Member, pairs, put, key_cmp}
 use Rattle.arm_value.specs.Json.{members_nesting}
 use Rattle.arm_value.specs.Look.{fold, is_same_folded, first_by, or_else}
@@ -61,9 +62,6 @@ first_put_here p k j (m ∷ ms) t n =
 
 -- ---- the member of exactly one name
 
-is_itself : (k : List ℕ) → bytes_eq k k ≡ true
-is_itself k = (bytes_eq-Decides k k).1 refl
-
 -- no key comes after itself
 not_after : (k l : List ℕ) → key_cmp k l ≡ Greater → k ≡ l → ⊥
 not_after k l e same =
@@ -81,13 +79,13 @@ after_by k j m ms false d e h = h
 exact_by : (k : List ℕ) (j : Json) (m : Member) (ms : List Member) (o : Ordering) → key_cmp k m.0 ≡ o
     → first_by (bytes_eq k) (pairs (put k j ms)) ≡ Some j
     → first_by (bytes_eq k) (pairs (match_ordering o ((k, j) ∷ m ∷ ms) ((k, j) ∷ ms) (m ∷ put k j ms))) ≡ Some j
-exact_by k j m ms Less e h = ap (λ b. if b then Some j else first_by (bytes_eq k) (pairs (m ∷ ms))) (is_itself k)
-exact_by k j m ms Equal e h = ap (λ b. if b then Some j else first_by (bytes_eq k) (pairs ms)) (is_itself k)
+exact_by k j m ms Less e h = ap (λ b. if b then Some j else first_by (bytes_eq k) (pairs (m ∷ ms))) (itself k)
+exact_by k j m ms Equal e h = ap (λ b. if b then Some j else first_by (bytes_eq k) (pairs ms)) (itself k)
 exact_by k j m ms Greater e h = after_by k j m ms (bytes_eq k m.0) refl e h
 
 -- the value that was put at a key is found at it
 pub first_put_exact : (k : List ℕ) (j : Json) (ms : List Member) → first_by (bytes_eq k) (pairs (put k j ms)) ≡ Some j
-first_put_exact k j [] = ap (λ b. if b then Some j else None) (is_itself k)
+first_put_exact k j [] = ap (λ b. if b then Some j else None) (itself k)
 first_put_exact k j (m ∷ ms) = exact_by k j m ms (key_cmp k m.0) refl (first_put_exact k j ms)
 
 -- ---- what is found in an object of slots

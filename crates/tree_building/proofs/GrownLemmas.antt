@@ -4,6 +4,7 @@ use Rattle.std.proofs.Common.{ap₂, ◌∙◌, subst}
 use Rattle.std.proofs.lemmas.List.{append-nil, append_assoc}
 use Rattle.std.specs.Prelude.{IfOk}
 use Rattle.std.specs.declared.alloc.AllocError.{AllocError}
+use Rattle.arm_value.proofs.MemberLemmas.{put_each-append}
 use Rattle.foundation.proofs.AsciiWords.{word}
 use Rattle.arm_value.specs.Json.{Json, Member, array, row, object, pairs, put, put_each}
 use Rattle.emitted_trees.specs.Templates.{TemplateTree, TemplateMembers, TemplateValue}
@@ -36,17 +37,13 @@ own_is ms p e = ap (λ p. p.0) (e ∙ all_are ms [] [])
 pub loops_are : (ms : TemplateMembers) (p : Members) → p ≡ all_grown ms (both_of [] []) → p.1 ≡ loops ms
 loops_are ms p e = ap (λ p. p.1) (e ∙ all_are ms [] [])
 
-put_each_append : (ls ms ns : List Member) → put_each ls (ms ++ ns) ≡ put_each (put_each ls ms) ns
-put_each_append ls [] ns = refl
-put_each_append ls (m ∷ ms) ns = put_each_append (put m.0 m.1 ls) ms ns
-
 -- the object of members and of their loops
 pub object_is : (ms : TemplateMembers) (p : Members) (all : List Member) → p ≡ all_grown ms (both_of [] [])
     → all ≡ put_each p.0 (copy_member p.1) → object (pairs all) ≡ tree_json (t.object ms)
 object_is ms p all e h =
     ap (λ ms. object (pairs ms))
     (h ∙ ap₂ (λ own js. put_each own (copy_member js)) (own_is ms p e) (loops_are ms p e)
-    ∙ sym (put_each_append [] (own_members ms) (copy_member (loops ms))))
+    ∙ sym (put_each-append [] (own_members ms) (copy_member (loops ms))))
 
 -- the member `copy` of some loops
 pub copy_put : (own : List Member) (js : List Json) (r : Result (List Member) AllocError) → (length js ≡ 0 → ⊥)

@@ -7,7 +7,7 @@ use Rattle.arm_value.specs.Json.{items_nesting}
 use Rattle.arm_expr.specs.Tree.{Tree}
 use Rattle.bicep_resolved.specs.Source.{SourceTree, SourceTrees, PropertyTrees, ValueTree}
 use Rattle.bicep_resolved.specs.Source as s
-use Rattle.bicep_emission.specs.Emitted.{Frame, element}
+use Rattle.emitted_expressions.specs.Emitted.{Frame, element}
 use Rattle.emitted_expressions.specs.Sight.{Sight}
 use Rattle.emitted_trees.specs.EmittedTrees.{copy_index, has_copy}
 use Rattle.emitted_trees.specs.Templates.{TemplateMembers}

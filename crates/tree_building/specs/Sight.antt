@@ -2,7 +2,7 @@
 use Rattle.std.specs.Prelude.{ℕ, List, Option}
 use Rattle.arm_expr.specs.Tree.{Tree}
 use Rattle.bicep_resolved.specs.Source.{SourceTree, SourceTrees, PropertyTrees, ValueTree}
-use Rattle.bicep_emission.specs.Emitted.{Frame, emitted}
+use Rattle.emitted_expressions.specs.Emitted.{Frame, emitted}
 use Rattle.emitted_expressions.specs.Sight.{Sight}
 use Rattle.emitted_trees.specs.EmittedTrees as e
 use Rattle.emitted_trees.specs.Templates.{TemplateTree, TemplateItems, TemplateMembers, TemplateValue}

@@ -4,7 +4,7 @@ ghost use Rattle.arm_value.specs.Json.{Json, array, object, row, pairs, put, put
 ghost use Rattle.arm_value.specs.View.{json};
 ghost use Rattle.arm_expr.specs.Print.{printed};
 ghost use Rattle.arm_expr.specs.Tree.{Tree};
-ghost use Rattle.emitted_parts.specs.Built.{IsText};
+ghost use Rattle.emitted_expressions.specs.Built.{IsText};
 ghost use Rattle.emitted_trees.specs.Templates.{TemplateTree, TemplateItems, TemplateMembers, TemplateValue};
 ghost use Rattle.emitted_trees.specs.Templates as t;
 ghost use Rattle.emitted_trees.specs.Written.{items_json, tree_json, loop_json, copy_member};
@@ -13,7 +13,7 @@ ghost use Rattle.tree_building.specs.Built.{grown, all_grown, AreParts, AreField
 
 use arm_env::objects::{with_copy, with_value};
 use arm_value::{Fields, Items, OutOfMemory, Text, Value};
-use emitted_parts::lacks;
+use emitted_expressions::lacks;
 use std::alloc::Global;
 
 /// How often a loop runs, as the text of an expression in brackets, and its input.

@@ -1,10 +1,10 @@
 //! The texts of the expressions in a value.
 ghost use Rattle.std.specs.Prelude.{◌∷◌, option_map};
 ghost use Rattle.arm_expr.specs.Print.{printed};
-ghost use Rattle.bicep_emission.specs.Emitted.{element};
+ghost use Rattle.emitted_expressions.specs.Emitted.{element};
 ghost use Rattle.bicep_resolved.specs.View.{source_of};
 ghost use Rattle.emitted_expressions.specs.Sight.{Sight, frames_of, AreFrames};
-ghost use Rattle.emitted_parts.specs.Built.{IsText};
+ghost use Rattle.emitted_expressions.specs.Built.{IsText};
 ghost use Rattle.emitted_trees.specs.EmittedTrees.{copy_index};
 ghost use Rattle.tree_building.specs.Each.{IsSmall};
 ghost use Rattle.tree_building.specs.Sight as spec;

@@ -16,8 +16,7 @@ use crate::parts::{
 use crate::texts::Texts;
 use arm_value::{Items, OutOfMemory, Text, Value};
 use bicep_resolved::{Property, Source, SourceValue};
-use emitted_expressions::Turn;
-use emitted_parts::{lacks, letting_go};
+use emitted_expressions::{Turn, lacks, letting_go};
 use std::alloc::Global;
 
 // The text of what an expression becomes.

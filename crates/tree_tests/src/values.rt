@@ -79,6 +79,20 @@ fn what_is_beyond_a_limit_is_not_built(rt: HostRuntime) -> Result<(), Fail> {
     check(rt.alloc(), LIMITS)
 }
 
+const NESTING: &str = concat!(
+    r#"!!!!!!!!!!!!!!!!!!!!!!!!!!!!!!!!!!!!!!!!!!!!!!!!!!!!!!!!!!!!!!!v0 -> "["#,
+    "not(not(not(not(not(not(not(not(not(not(not(not(not(not(not(not(not(not(not(not(not(not(not(not(not(",
+    "not(not(not(not(not(not(not(not(not(not(not(not(not(not(not(not(not(not(not(not(not(not(not(not(not(",
+    "not(not(not(not(not(not(not(not(not(not(not(not(not(",
+    r#"parameters('p'))))))))))))))))))))))))))))))))))))))))))))))))))))))))))))))))]""#,
+    "\n!!!!!!!!!!!!!!!!!!!!!!!!!!!!!!!!!!!!!!!!!!!!!!!!!!!!!!!!!!!!!!!!v0 -> too deep",
+);
+
+#[test]
+fn what_nests_above_64_is_not_built(rt: HostRuntime) -> Result<(), Fail> {
+    check(rt.alloc(), NESTING)
+}
+
 const WHOLE: &str = concat!(
     r#"[for x in v0: x] -> [length(parameters('p'))] times "[parameters('p')[copyIndex('w')]]""#,
     r#" or [length(parameters('p'))] times "[parameters('p')[copyIndex()]]""#,

@@ -5,7 +5,7 @@ use Rattle.std.specs.Prelude.{Result, Ok, Err}
 use Rattle.std.specs.declared.vec.Vec.{Vec}
 use Rattle.std.specs.declared.alloc.Global.{Global}
 use Rattle.std.specs.declared.alloc.AllocError.{AllocError}
-use Rattle.bicep_emission.specs.Emitted.{Frame}
+use Rattle.emitted_parts.specs.Emitted.{Frame}
 use Rattle.emitted_parts.specs.Built.{AreWith}
 use Rattle.emitted_expressions.specs.Sight.{frame_of, frames_of, IsFrame}
 use Rattle.emitted_expressions.specs.declared.turns.Turn.{Turn}

@@ -2,8 +2,8 @@
 use Rattle.std.specs.Prelude.{◌≡◌, ℕ, Some, None, Result, Ok, Err}
 use Rattle.arm_value.specs.View.{json}
 use Rattle.arm_value.specs.declared.value.Value.{Value}
-use Rattle.emitted_trees.specs.Templates.{TemplateTree, TemplateValue}
-use Rattle.emitted_trees.specs.Written.{tree_json}
+use Rattle.tree_building.specs.Templates.{TemplateTree, TemplateValue}
+use Rattle.tree_building.specs.Written.{tree_json}
 use Rattle.tree_building.specs.Built.{Matches}
 use Rattle.tree_building.specs.declared.parts.Written.{Written}
 use Rattle.measured_trees.specs.Extremes.{Extremes, tree_extremes, value_extremes}

@@ -2,10 +2,10 @@
 ghost use Rattle.std.specs.Prelude.{◌∷◌, ◌++◌, [], option_map};
 ghost use Rattle.arm_expr.specs.Tree.{Tree};
 ghost use Rattle.arm_expr.specs.View.{tree_of};
-ghost use Rattle.bicep_emission.specs.Emitted.{Frame, element as frame_at};
+ghost use Rattle.emitted_parts.specs.Emitted.{Frame, element as frame_at};
 ghost use Rattle.emitted_expressions.specs.Sight.{frame_of, frames_of, IsFrame, AreFrames};
 ghost use Rattle.emitted_parts.specs.Built.{Is};
-ghost use Rattle.emitted_trees.specs.EmittedTrees.{copy_index as index_tree};
+ghost use Rattle.tree_building.specs.EmittedTrees.{copy_index as index_tree};
 
 use arm_expr::Expr;
 use arm_value::{OutOfMemory, Text};

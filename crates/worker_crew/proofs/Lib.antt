@@ -4,3 +4,4 @@ pub mod DealLemmas
 pub mod FinishLemmas
 pub mod CrewLemmas
 pub mod EndLemmas
+pub mod SeatLemmas

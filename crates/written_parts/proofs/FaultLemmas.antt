@@ -3,10 +3,11 @@ use Rattle.std.proofs.Common.{◌≡◌, ℕ, ◌&&◌, ◌++◌, bytes_eq, char
 use Rattle.std.proofs.Common.{List, [], ◌∷◌, Option, Some, None, option_map, is_some, if◌then◌else◌, refl, sym, ap, ◌∙◌}
 use Rattle.std.specs.List.{list_all, list_any}
 use Rattle.std.proofs.lemmas.Slice.Eq.{bytes_eq-Decides}
+use Rattle.foundation.proofs.Words.{eq_word, swapped}
 use Rattle.arm_value.specs.Json.{Json, object, Pairs, no_pairs, pair, pair_keys}
 use Rattle.arm_value.specs.Look.{fold, is_same_folded, first_by, look_in, or_else}
 use Rattle.foundation.proofs.AsciiWords.{word}
-use Rattle.foundation.proofs.TruthValues.{or_left, or_right, nor, both_ways}
+use Rattle.foundation.proofs.TruthValues.{or_left, or_right, nor}
 use Rattle.name_set.specs.Names.{is_named}
 use Rattle.template_faults.specs.Faults.{named, earlier}
 use Rattle.template_members.specs.Objects.{Single, Rule, member_by, faulty_by, members_fault}
@@ -62,25 +63,14 @@ named_none k (Some f) e = cc
 
 -- ---- names, in letters of any case
 
-pub itself : (w : List ℕ) → bytes_eq w w ≡ true
-itself w = (bytes_eq-Decides w w).1 refl
-
 pub same_fold : (a b : List ℕ) → is_same_folded a b ≡ true → fold a ≡ fold b
 same_fold a b e = (bytes_eq-Decides (fold a) (fold b)).0 e
 
-pub same_text : (a b : List ℕ) → bytes_eq a b ≡ true → a ≡ b
-same_text a b e = (bytes_eq-Decides a b).0 e
-
-pub turned : (a b : List ℕ) → bytes_eq a b ≡ bytes_eq b a
-turned a b =
-    both_ways (bytes_eq a b) (bytes_eq b a) (λ e. (bytes_eq-Decides b a).1 (sym ((bytes_eq-Decides a b).0 e)))
-    (λ e. (bytes_eq-Decides a b).1 (sym ((bytes_eq-Decides b a).0 e)))
-
 pub turned_folded : (a b : List ℕ) → is_same_folded a b ≡ is_same_folded b a
-turned_folded a b = turned (fold a) (fold b)
+turned_folded a b = swapped (fold a) (fold b)
 
 pub exact_folds : (a b : List ℕ) → bytes_eq a b ≡ true → is_same_folded a b ≡ true
-exact_folds a b e = (bytes_eq-Decides (fold a) (fold b)).1 (ap fold (same_text a b e))
+exact_folds a b e = (bytes_eq-Decides (fold a) (fold b)).1 (ap fold (eq_word a b e))
 
 -- ---- what is or is not there
 
@@ -255,7 +245,7 @@ none_exact single name k (pair l j ms) s e d =
     is_other : (b : Bool) → bytes_eq name l ≡ b → b ≡ false
     is_other true f =
         let g = exact_folds name l f in
-        let c : is_same_folded l k ≡ true = ap (λ n. is_same_folded n k) (sym (same_text name l f)) ∙ e in
+        let c : is_same_folded l k ≡ true = ap (λ n. is_same_folded n k) (sym (eq_word name l f)) ∙ e in
         sym c ∙ d.0 (s l g)
     is_other false f = refl
 
@@ -334,6 +324,6 @@ found_accepted rule name w at ms a =
     either_holds (λ j. rule name j ≡ None) (first_by (bytes_eq (chars name)) ms)
     (first_by (is_same_folded (chars name)) ms)
     (first_accepted rule (bytes_eq (chars name)) name ms at
-    (λ k e. ap fold (sym (same_text (chars name) k e) ∙ same)) a)
+    (λ k e. ap fold (sym (eq_word (chars name) k e) ∙ same)) a)
     (first_accepted rule (is_same_folded (chars name)) name ms at
     (λ k e. sym (same_fold (chars name) k e) ∙ ap fold same) a)

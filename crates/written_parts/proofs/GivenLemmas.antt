@@ -5,6 +5,7 @@ use Rattle.std.proofs.Common.{List, [], ◌∷◌, map, Option, Some, None, is_s
 use Rattle.std.proofs.Common.{if◌then◌else◌, Ordering, Less, Equal, Greater}
 use Rattle.std.specs.List.{list_any}
 use Rattle.std.specs.Ordering.{match_ordering}
+use Rattle.foundation.proofs.Words.{swapped, eq_word, itself}
 use Rattle.arm_expr.specs.Brackets.{is_bracketed, is_copy}
 use Rattle.arm_value.specs.Json.{Json, null, bool, int, text, array, object, Row, no_items, item, row, items, Member}
 use Rattle.arm_value.specs.Json.{no_pairs, pair, pairs, members, keys, put, key_cmp, nesting}
@@ -42,8 +43,8 @@ use Rattle.template_written.specs.Parts.{loop_slots, named_loop, plain_variables
 use Rattle.template_written.specs.Parts.{value_slot}
 use Rattle.template_written.specs.Parts.{argument_loop, argument_slots, value_loop}
 use Rattle.template_written.proofs.SlotLemmas.{look_slot}
-use Rattle.written_parts.proofs.FaultLemmas.{Holds, then_none, then_nothing, turned, same_text, Accepts, Differ, Apart}
-use Rattle.written_parts.proofs.FaultLemmas.{At, sound_members, found_accepted, any_back, itself, turned_folded}
+use Rattle.written_parts.proofs.FaultLemmas.{Holds, then_none, then_nothing, Accepts, Differ, Apart}
+use Rattle.written_parts.proofs.FaultLemmas.{At, sound_members, found_accepted, any_back, turned_folded}
 use Rattle.written_parts.proofs.FaultLemmas.{faulty_nothing}
 use Rattle.written_parts.proofs.ObjectLemmas.{object_within, inside_within, accepts_put, apart_put}
 use Rattle.written_parts.proofs.ValueLemmas.{kept_value, within_value, Kept}
@@ -54,10 +55,10 @@ use Rattle.template_written.proofs.KeptLemmas.{plain_none}
 
 -- both ways to say which member makes loops are the same
 pub copy_same : (k : List ℕ) → meaning.is_copy k ≡ is_copy k
-copy_same k = ap (λ w. bytes_eq w k) (ascii.word (codes "copy") refl) ∙ turned (codes "copy") k
+copy_same k = ap (λ w. bytes_eq w k) (ascii.word (codes "copy") refl) ∙ swapped (codes "copy") k
 
 is_the_copy : (k : List ℕ) → is_copy k ≡ true → k ≡ codes "copy"
-is_the_copy k e = same_text k (codes "copy") e
+is_the_copy k e = eq_word k (codes "copy") e
 
 -- a name that is another word in letters of any case makes no loops
 no_copy : (w k : List ℕ) → is_same_folded (codes "copy") w ≡ false → fold k ≡ fold w → is_copy k ≡ false
@@ -287,7 +288,7 @@ other_than_copy t (m ∷ ms) j c e =
         → (copies_in ms ≡ Some j → is_same_folded t (chars (codes "copy")) ≡ false)
         → (if b then Some m.1 else copies_in ms) ≡ Some j → is_same_folded t (chars (codes "copy")) ≡ false
     by_test true f h g =
-        ap (is_same_folded t) (same_text (chars (codes "copy")) m.0 f)
+        ap (is_same_folded t) (eq_word (chars (codes "copy")) m.0 f)
         ∙ or_left (is_same_folded t m.0) (is_named (keys ms) t) e
     by_test false f h g = h g
 
@@ -300,7 +301,7 @@ differs_from_copy n (m ∷ ms) j c d = by_test (meaning.is_copy m.0) refl (λ g.
         → (copies_in ms ≡ Some j → is_same_folded (chars (codes "copy")) n ≡ false)
         → (if b then Some m.1 else copies_in ms) ≡ Some j → is_same_folded (chars (codes "copy")) n ≡ false
     by_test true f h g =
-        ap (λ k. is_same_folded k n) (same_text (chars (codes "copy")) m.0 f) ∙ d.0 refl
+        ap (λ k. is_same_folded k n) (eq_word (chars (codes "copy")) m.0 f) ∙ d.0 refl
     by_test false f h g = h g
 
 none_differs : (k : List ℕ) (xs : List Member) → Differ every k (keys xs)
@@ -328,7 +329,7 @@ copy_alone (m ∷ ms) j c a = by_test (meaning.is_copy m.0) refl (λ g. copy_alo
         → first_by (is_same_folded (chars (codes "copy"))) (pairs (if b then unlooped ms else m ∷ unlooped ms)) ≡ None
     by_test true f h g =
         none_differs (chars (codes "copy")) ms
-        (subst (λ k. Differ every k (keys ms)) (sym (same_text (chars (codes "copy")) m.0 f)) a.0)
+        (subst (λ k. Differ every k (keys ms)) (sym (eq_word (chars (codes "copy")) m.0 f)) a.0)
     by_test false f h g =
         ap (λ b. if b then Some m.1 else first_by (is_same_folded (chars (codes "copy"))) (pairs (unlooped ms)))
         (differs_from_copy m.0 ms j g a.0)

@@ -11,7 +11,7 @@ use Rattle.arm_value.specs.Look.{fold, is_same_folded}
 use Rattle.arm_value.specs.View.{json}
 use Rattle.arm_value.proofs.TreeLemmas.{row-items}
 use Rattle.foundation.proofs.AsciiWords as ascii
-use Rattle.foundation.proofs.TruthValues.{and_false}
+use Rattle.foundation.proofs.TruthValues.{and_false, and_true}
 use Rattle.resource_members.specs.Copies.{loop_name_fault, is_mode, mode_fault, batch_fault, copy_member}
 use Rattle.resource_members.specs.Copies.{loop_fault, may_loop, copy_fault}
 use Rattle.resource_members.specs.Members.{word_fault, type_fault, name_fault}
@@ -228,16 +228,12 @@ declared_at here s names name r d k j e =
     else (if bytes_eq (fold (codes "resources")) f then children_fault s.rank else None))))))) e
     ∙ sym (ap (λ b. choose name b (is_declaration_member name)) r ∙ ap (λ b. choose name false b) d)
 
-and_both : (a b : Bool) → a ≡ true → b ≡ true → (a && b) ≡ true
-and_both true b e f = f
-and_both false b e f = e
-
 -- what is said of `existing` where the resource has a symbolic name
 existing_is : (here : Sight) (s : Setting) (names : List (List ℕ)) (k : List ℕ) (j : Json) → is_symbolic s.rank ≡ true
     → fold k ≡ fold (codes "existing") → member_fault here s names k j ≡ existing_fault s.is_deployment j
 unfolding is_declaration_member is_refused_member
 existing_is here s names k j y e =
-    let there = and_both (is_symbolic s.rank) (is_same_folded (codes "existing") k) y
+    let there = and_true (is_symbolic s.rank) (is_same_folded (codes "existing") k) y
     (ap (λ f. bytes_eq (fold (codes "existing")) f) e) in
     ap (λ b. if b then Some (WrongForm [])
     else (if is_declaration_member k then declaring_fault here s names k j else other_fault here s k j))

@@ -2,13 +2,13 @@ use Rattle.std.proofs.Common.{Some, None, List, option_map, [], sym, ap, ◌∙�
 use Rattle.std.proofs.lemmas.Result.{err_from_is_err_and}
 use Rattle.arm_value.specs.Json.{Member, put, put_each}
 use Rattle.arm_value.specs.View.{member}
+use Rattle.arm_value.proofs.GatherLemmas.{put_each-push}
 use Rattle.arm_env.specs.Held.{output_member}
 use Rattle.arm_env.specs.Sight.{declared_of}
 use Rattle.reading.specs.Knowledge.{told, value}
 use Rattle.arm_env.specs.Answer.{so_far, outcome_told}
 use Rattle.arm_env.specs.declared.entries.Declared.{Declared}
 use Rattle.arm_env.proofs.Gather.{gathered-nil, one_value, one_none, one_stops}
-use Rattle.arm_env.proofs.HeldLemmas.{put_each-more}
 use Rattle.arm_env.proofs.outputs.output_fields.Goals as goal
 use Rattle.arm_env.proofs.outputs.output_fields.Goals.{in-Some+in_ok-put_field-in-Some, in-None}
 
@@ -36,7 +36,7 @@ loop-output-preserved g c =
           c.in_ok-member.ensures.value ∙ ap (λ o. value (option_map member o)) w.in-Some.is in
           one_value Member p (List Member) (put_each []) Declared
           (λ x. output_member c.args.key.now (declared_of x)) (λ ms m. put m.0 m.1 ms)
-          (put_each-more []) c.args.outputs.now c.loop-output.output-index c.output-item.result
+          (put_each-push []) c.args.outputs.now c.loop-output.output-index c.output-item.result
           c.loop-output.complete c.loop-output.fields
           (member w.in-Some.member) c.loop-output-test.true c.output-item.is
           c.loop-output.invariant found

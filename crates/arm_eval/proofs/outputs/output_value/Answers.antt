@@ -2,7 +2,7 @@ use Rattle.std.proofs.Common.{Option, option_map, sym, ap, ◌∙◌, subst}
 use Rattle.std.proofs.lemmas.Result.{err_from_is_err_and}
 use Rattle.arm_value.specs.Json.{Json}
 use Rattle.arm_value.specs.View.{json}
-use Rattle.function_numbers.specs.Kinds.{truth_of}
+use Rattle.arm_env.specs.Kinds.{truth_of}
 use Rattle.reading.specs.Knowledge.{Told, told}
 use Rattle.arm_env.specs.Look.{Look}
 use Rattle.arm_env.specs.Answer.{Gives}

@@ -7,5 +7,5 @@ returns c =
     c.in_ok-id.ensures
     ∙ sym (reading_by_parts c.args.segments.now _ _ _ _ _ _ _ _ c.in-len7-up.len_at_least refl c.root-item.is
     c.subscriptions-item.is c.subscription-item.is c.groups-item.is c.group-item.is c.providers-item.is
-    c.provider-item.is (sym c.is_blank.ensures ∙ c.if-not-is_blank.false) (sym c.are_words.ensures
+    c.provider-item.is (sym c.is_empty.ensures ∙ c.if-not-is_empty.false) (sym c.are_words.ensures
     ∙ c.if-not-are_words.false))

@@ -2,7 +2,7 @@ use Rattle.std.proofs.Common.{map, sym, subst, ◌∙◌}
 use Rattle.bicep_symbols.specs.declared.entry.Entry.{Entry}
 use Rattle.bicep_circles.specs.Links.{links}
 use Rattle.bicep_circles.specs.Orders.{IsLinkOrder}
-use Rattle.bicep_mentions.specs.Entries.{misplaced_variable}
+use Rattle.bicep_states.specs.Entries.{misplaced_variable}
 use Rattle.bicep_checks.proofs.KindLemmas.{same_file}
 use Rattle.bicep_checks.proofs.circles.state_place.Goals as goal
 

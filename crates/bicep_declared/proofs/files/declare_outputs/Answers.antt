@@ -1,7 +1,8 @@
 use Rattle.std.proofs.Common.{◌≡◌, ◌<◌, map, ap, sym, ◌∙◌, drop, [], length, arith}
 use Rattle.std.proofs.lemmas.List.{drop_all}
+use Rattle.foundation.proofs.Lists.{next_item}
 use Rattle.bicep_found.specs.Found.{all_found}
-use Rattle.bicep_found.proofs.GatherLemmas.{after, after-none, more_some, none_some, all_given, next_item, at_rest}
+use Rattle.bicep_found.proofs.GatherLemmas.{after, after-none, more_some, none_some, all_given, at_rest}
 use Rattle.bicep_names.specs.Scope.{scope}
 use Rattle.bicep_declared.specs.Declare.{part_output}
 use Rattle.bicep_declared.specs.View.{output_tree, outputs_tree, site_tree}

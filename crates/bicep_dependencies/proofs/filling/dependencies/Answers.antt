@@ -6,7 +6,7 @@ use Rattle.std.proofs.lemmas.List.{length-map, get_or-map}
 use Rattle.depend_graph.specs.Sets.{keys_of_each}
 use Rattle.bicep_symbols.specs.declared.entry.Entry.{Entry}
 use Rattle.bicep_declared.specs.View.{declared_tree}
-use Rattle.bicep_circles.specs.Links.{links}
+use Rattle.bicep_mentions.specs.Links.{links}
 use Rattle.bicep_mentions.proofs.OrderLemmas.{has_place}
 use Rattle.bicep_dependencies.proofs.FillLemmas.{filled_begun, filled_after, filled_all}
 use Rattle.bicep_dependencies.proofs.filling.dependencies.Goals as goal

@@ -1,6 +1,6 @@
 use Rattle.std.proofs.Common.{◌+◌, ◌*◌}
-use Rattle.bicep_emit.specs.Modules.{OfEach}
-use Rattle.bicep_emit.specs.Programs.{sources_in}
+use Rattle.bicep_emit.specs.Inner.{IsLeast}
+use Rattle.bicep_emit.specs.Modules.{IsWholeOf, OfEach}
 use Rattle.bicep_emit.proofs.ModuleLemmas.{Goes}
 use Rattle.bicep_emit.proofs.programs.+files.Given as goal
 
@@ -25,4 +25,4 @@ decreases-deeper l = 6 * l.depth
 
 abbrev pub invariant-modules-loop-entry : goal.invariant-modules-loop-entry
 invariant-modules-loop-entry l =
-    OfEach l.parts (λ ss rs. Goes (sources_in ss rs) l.entries l.entry-index l.all.items)
+    OfEach l.parts (λ z ss rs. Goes (IsWholeOf z ss rs) l.entries l.entry-index l.all.templates.items) × IsLeast l.all

@@ -3,7 +3,7 @@ use Rattle.std.specs.Prelude.{IfErr, IfOk}
 use Rattle.bicep_program.specs.declared.file.SourceFile.{SourceFile as Text}
 use Rattle.resolved_program.specs.declared.resolved.ResolvedFile.{ResolvedFile}
 use Rattle.program_parts.specs.FileOrder.{FileOrder}
-use Rattle.program_parts.specs.Files.{IsRead}
+use Rattle.program_parts.specs.Programs.{IsRead}
 use Rattle.program_parts.specs.Parts.{AreOrdersOfAll}
 use Rattle.bicep_emit.specs.Faults.{IsEmissionFault, IsWholeProgram}
 use Rattle.bicep_emit.specs.Programs.{IsEmission}
@@ -34,24 +34,28 @@ pub returns-in-Ok-clause-emitted : goal.returns-in-Ok-clause-emitted
 returns-in-Ok-clause-emitted c =
     let p = c.args.program.now in
     let d = c.args.checked.now in
-    other_value (IsWholeProgram p.files.items d.resolved.files.items) (IsEmission p d)
-    (is_emission p d c.whole_templates_are_emitted.ensures) c.ordered.result
-    (subst (λ (ss : List Text). IfOk c.ordered.result (IsWholeProgram ss d.resolved.files.items))
+    other_value (IsWholeProgram c.args.form p.files.items d.resolved.files.items) (IsEmission c.args.form p d)
+    (is_emission c.args.form p d c.whole_templates_are_emitted.ensures) c.ordered.result
+    (subst (λ (ss : List Text). IfOk c.ordered.result (IsWholeProgram c.args.form ss d.resolved.files.items))
     c.as_slice-sources.ensures.value
-    (subst (λ (rs : List ResolvedFile). IfOk c.ordered.result (IsWholeProgram c.as_slice-sources.result.now rs))
+    (subst (λ (rs : List ResolvedFile). IfOk c.ordered.result
+    (IsWholeProgram c.args.form c.as_slice-sources.result.now rs))
     c.as_slice-files.ensures.value c.ordered.ensures.whole))
 
 pub returns-in-Ok-clause-fault : goal.returns-in-Ok-clause-fault
 returns-in-Ok-clause-fault c =
-    subst (λ (ss : List Text). IfErr c.ordered.result (IsEmissionFault ss c.args.checked.now.resolved.files.items))
+    subst (λ (ss : List Text). IfErr c.ordered.result
+    (IsEmissionFault c.args.form ss c.args.checked.now.resolved.files.items))
     c.as_slice-sources.ensures.value
-    (subst (λ (rs : List ResolvedFile). IfErr c.ordered.result (IsEmissionFault c.as_slice-sources.result.now rs))
+    (subst (λ (rs : List ResolvedFile). IfErr c.ordered.result
+    (IsEmissionFault c.args.form c.as_slice-sources.result.now rs))
     c.as_slice-files.ensures.value c.ordered.ensures.fault)
 
 pub returns-in-Err-clause-fault : goal.returns-in-Err-clause-fault
 returns-in-Err-clause-fault c =
-    subst (λ (ss : List Text). IsEmissionFault ss c.args.checked.now.resolved.files.items c.in-Err.fault)
+    subst (λ (ss : List Text). IsEmissionFault c.args.form ss c.args.checked.now.resolved.files.items c.in-Err.fault)
     c.as_slice-sources.ensures.value
-    (subst (λ (rs : List ResolvedFile). IsEmissionFault c.as_slice-sources.result.now rs c.in-Err.fault)
+    (subst (λ (rs : List ResolvedFile). IsEmissionFault c.args.form c.as_slice-sources.result.now rs c.in-Err.fault)
     c.as_slice-files.ensures.value
-    (file_fault c.as_slice-sources.result.now c.as_slice-files.result.now c.in-Err.fault c.in-Err.ensures.fault))
+    (file_fault c.args.form c.as_slice-sources.result.now c.as_slice-files.result.now c.in-Err.fault
+    c.in-Err.ensures.fault))

@@ -1,4 +1,4 @@
-use Rattle.arm_value.specs.Json.{Json}
+use Rattle.function_prints.specs.Json.{Json}
 use Rattle.deploy_cells.specs.Cells.{Cell}
 use Rattle.reading.proofs.Growth.{told_still}
 use Rattle.bicep_meaning.specs.Meaning.{value}

@@ -1,9 +1,10 @@
 use Rattle.std.proofs.Common.{◌≡◌, ◌<◌, map, ap, sym, ◌∙◌, drop, [], length, arith}
 use Rattle.std.proofs.lemmas.List.{drop_all}
+use Rattle.foundation.proofs.Lists.{next_item}
 use Rattle.bicep_resolved.specs.View.{source_of, piece_of, property_of, sources, pieces, properties}
 use Rattle.bicep_found.specs.Found.{all_found}
 use Rattle.bicep_found.proofs.GatherLemmas.{after, after-none, more_found, more_some, none_given, none_some, all_given}
-use Rattle.bicep_found.proofs.GatherLemmas.{next_item, at_rest}
+use Rattle.bicep_found.proofs.GatherLemmas.{at_rest}
 use Rattle.bicep_names.proofs.ArmLemmas.{of_equal, access_by, index_by, prefix_by}
 use Rattle.bicep_names.specs.Parts.{sources_of, pieces_of, properties_of}
 use Rattle.bicep_names.specs.Scope.{scope}

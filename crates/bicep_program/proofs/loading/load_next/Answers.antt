@@ -1,12 +1,13 @@
 use Rattle.std.proofs.Common.{◌≡◌, ◌+◌, ◌∙◌, sym, subst, length, map, drop}
 use Rattle.std.specs.List.{AllByRecursion}
+use Rattle.std.proofs.lemmas.List.{length-map}
 use Rattle.bicep_tree.specs.View.{file_of}
 use Rattle.module_links.specs.Links.{entry_names, Adds, AreLinked}
 use Rattle.bicep_program.specs.Sources.{folder_of, IsReadAs}
 use Rattle.bicep_program.specs.Program.{module_paths, program_file}
 use Rattle.bicep_program.specs.Refused.{TreeCounts}
 use Rattle.bicep_program.specs.Loading.{IsNoted, HasCome}
-use Rattle.bicep_program.proofs.FileLemmas.{length-map, on_ok, none_of}
+use Rattle.bicep_program.proofs.FileLemmas.{on_ok, none_of}
 use Rattle.bicep_program.proofs.LoadLemmas.{come_next}
 use Rattle.bicep_program.proofs.EndLemmas.{Step, here_as, drop_as, reached_at, last_noted, too_many_from, too_many_step}
 use Rattle.bicep_program.proofs.loading.load_next.Goals as goal
@@ -27,7 +28,7 @@ returns-in-Ok-Some-clause-come g c =
     (file_of c.in-Ok.read.1.items) c.in-Ok-Some.modules.items come (rw length-map c.requires.next)
     (here_as c.args.entries.now.items c.as_slice.result.now c.len-number.result
     (length (map program_file c.args.files.now.items)) c.in-Ok.read.0 c.as_slice.ensures.value
-    (c.len-number.ensures ∙ c.args.files.now.ok.0 ∙ sym (length-map program_file c.args.files.now.items))
+    (c.len-number.ensures ∙ c.args.files.now.ok.0 ∙ sym (length-map c.args.files.now.items program_file))
     c.in-Ok.ensures.named)
     c.in-Ok.ensures.read
     (subst (λ xs. Adds c.in-Ok.read.0 (module_paths (file_of xs)) c.args.entries.now.items
@@ -39,7 +40,7 @@ returns-in-Ok-Some-clause-come g c =
 pub returns-in-Ok-None-clause-fault : goal.returns-in-Ok-None-clause-fault
 returns-in-Ok-None-clause-fault g c = rw c.refuse.ensures (λ main come.
     let n : c.len-number.result ≡ length (map program_file c.args.files.now.items) =
-    c.len-number.ensures ∙ c.args.files.now.ok.0 ∙ sym (length-map program_file c.args.files.now.items) in
+    c.len-number.ensures ∙ c.args.files.now.ok.0 ∙ sym (length-map c.args.files.now.items program_file) in
     let after = drop_as c.len-number.result (length (map program_file c.args.files.now.items)) c.deref.result.now
     c.link_file.new.entries.items n c.deref.ensures.value in
     let step : Step (folder_of g.T.Tree.tells_files (g.T.Tree.file c.args.tree.now)) main
@@ -48,7 +49,7 @@ returns-in-Ok-None-clause-fault g c = rw c.refuse.ensures (λ main come.
       come = come;
       here = (here_as c.args.entries.now.items c.as_slice.result.now c.len-number.result
           (length (map program_file c.args.files.now.items)) c.in-Ok.read.0 c.as_slice.ensures.value
-          (c.len-number.ensures ∙ c.args.files.now.ok.0 ∙ sym (length-map program_file c.args.files.now.items))
+          (c.len-number.ensures ∙ c.args.files.now.ok.0 ∙ sym (length-map c.args.files.now.items program_file))
           c.in-Ok.ensures.named);
       read = c.in-Ok.ensures.read;
       adds = (subst (λ xs. Adds c.in-Ok.read.0 (module_paths (file_of xs)) c.args.entries.now.items
@@ -74,7 +75,7 @@ returns-in-Err-link_file-clause-fault g c = rw c.refuse-in-Err-link_file.ensures
     c.args.entries.now.items (length (map program_file c.args.files.now.items)) c.in-Ok.read.0 come.noted
     (here_as c.args.entries.now.items c.as_slice.result.now c.len-number.result
     (length (map program_file c.args.files.now.items)) c.in-Ok.read.0 c.as_slice.ensures.value
-    (c.len-number.ensures ∙ c.args.files.now.ok.0 ∙ sym (length-map program_file c.args.files.now.items))
+    (c.len-number.ensures ∙ c.args.files.now.ok.0 ∙ sym (length-map c.args.files.now.items program_file))
     c.in-Ok.ensures.named))
     (subst (λ xs. IsReadAs (folder_of g.T.Tree.tells_files (g.T.Tree.file c.args.tree.now)) c.in-Ok.read.0
     (file_of xs)) (sym c.as_slice-2.ensures.value) c.in-Ok.ensures.read))

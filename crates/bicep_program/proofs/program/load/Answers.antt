@@ -1,8 +1,8 @@
 use Rattle.std.proofs.Common.{◌≡◌, ◌∙◌, subst, length, map, chars, refl, arith}
+use Rattle.std.proofs.lemmas.List.{length-map}
 use Rattle.bicep_program.specs.Sources.{folder_of}
 use Rattle.bicep_program.specs.Program.{links_of, program_file}
 use Rattle.bicep_program.specs.Graphs.{AreWithin}
-use Rattle.bicep_program.proofs.FileLemmas.{length-map}
 use Rattle.bicep_program.proofs.EndLemmas.{all_within, program_ok, circle_err}
 use Rattle.bicep_program.proofs.program.load.Goals as goal
 
@@ -36,10 +36,10 @@ program_of-requires-clause-within g c =
       c.loop-tree.entries.ok.0,
     ) in
     subst (λ n. AreWithin n (links_of (map program_file c.loop-tree.files.items)))
-    (length-map program_file c.loop-tree.files.items)
+    (length-map c.loop-tree.files.items program_file)
     (all_within (folder_of g.T.Tree.tells_files (g.T.Tree.file c.args.tree.now)) (chars c.args.main.now)
     c.loop-tree.entries.items (map program_file c.loop-tree.files.items) c.loop-tree.invariant.come
-    (length-map program_file c.loop-tree.files.items ∙ all))
+    (length-map c.loop-tree.files.items program_file ∙ all))
 
 pub returns-clause-program : goal.returns-clause-program
 returns-clause-program g c =
@@ -55,7 +55,7 @@ returns-clause-program g c =
     ) in
     program_ok c.program_of.result (folder_of g.T.Tree.tells_files (g.T.Tree.file c.args.tree.now))
     (chars c.args.main.now) c.loop-tree.entries.items (map program_file c.loop-tree.files.items)
-    c.loop-tree.invariant.come (length-map program_file c.loop-tree.files.items ∙ all)
+    c.loop-tree.invariant.come (length-map c.loop-tree.files.items program_file ∙ all)
     (rw length-map (omega (arith, all, c.loop-tree.invariant.few))) c.program_of.ensures.files
     c.program_of.ensures.circle_free
 
@@ -73,4 +73,4 @@ returns-clause-fault g c =
     ) in
     circle_err c.program_of.result (folder_of g.T.Tree.tells_files (g.T.Tree.file c.args.tree.now))
     (chars c.args.main.now) c.loop-tree.entries.items (map program_file c.loop-tree.files.items)
-    c.loop-tree.invariant.come (length-map program_file c.loop-tree.files.items ∙ all) c.program_of.ensures.fault
+    c.loop-tree.invariant.come (length-map c.loop-tree.files.items program_file ∙ all) c.program_of.ensures.fault

@@ -1,8 +1,8 @@
 use Rattle.std.proofs.Common.{map, subst}
 use Rattle.bicep_symbols.specs.declared.entry.Entry.{Entry}
 use Rattle.bicep_declared.specs.View.{declared_tree}
-use Rattle.bicep_circles.specs.Links.{links}
-use Rattle.bicep_circles.specs.Orders.{AreSorted}
+use Rattle.bicep_numbers.specs.Links.{links}
+use Rattle.bicep_numbers.specs.Orders.{AreSorted}
 use Rattle.bicep_types.proofs.FileLemmas.{no_circle_in, order_in}
 use Rattle.bicep_types.proofs.files.types_of.Goals as goal
 

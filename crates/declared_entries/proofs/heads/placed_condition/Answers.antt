@@ -1,6 +1,6 @@
 use Rattle.std.proofs.Common.{◌∷◌, [], length}
 use Rattle.emission_laws.specs.Holes.{fill, holes, nearest}
-use Rattle.ordered_emissions.proofs.HeadLemmas.{has_heads}
+use Rattle.declared_table.proofs.HeadLemmas.{has_heads}
 use Rattle.declared_table.specs.Seen.{file_in, files_in, whole_in, is_known}
 use Rattle.declared_entries.proofs.KnownLemmas.{holes_known, holes_unknown}
 use Rattle.declared_entries.proofs.heads.placed_condition.Goals as goal

@@ -1,6 +1,6 @@
 use Rattle.std.proofs.Common.{length}
 use Rattle.bicep_resolved.specs.View.{value_of}
-use Rattle.ordered_emissions.proofs.HoleLemmas.{known_values}
+use Rattle.declared_table.proofs.HoleLemmas.{known_values}
 use Rattle.declared_table.specs.Seen.{file_in, files_in, is_known}
 use Rattle.declared_entries.proofs.names.own_value.Goals as goal
 

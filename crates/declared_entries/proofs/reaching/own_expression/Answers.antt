@@ -1,6 +1,6 @@
 use Rattle.std.proofs.Common.{length}
 use Rattle.bicep_resolved.specs.View.{source_of}
-use Rattle.ordered_emissions.proofs.HoleLemmas.{known_expressions}
+use Rattle.declared_table.proofs.HoleLemmas.{known_expressions}
 use Rattle.declared_table.specs.Seen.{file_in, files_in, is_known}
 use Rattle.declared_entries.proofs.reaching.own_expression.Goals as goal
 

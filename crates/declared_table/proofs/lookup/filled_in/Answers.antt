@@ -1,7 +1,7 @@
 use Rattle.std.proofs.Common.{sym, subst, refl}
 use Rattle.foundation.proofs.Comparisons.{lt_of_true, le_of_false}
-use Rattle.emission_laws.specs.Holes.{fill, nearest}
-use Rattle.emitted_parts.specs.Built.{Is}
+use Rattle.ordered_emissions.specs.Holes.{fill, nearest}
+use Rattle.emitted_expressions.specs.Built.{Is}
 use Rattle.emitted_expressions.specs.Sight.{frame_of}
 use Rattle.declared_table.proofs.RunLemmas.{first_run, no_run}
 use Rattle.declared_table.proofs.lookup.filled_in.Goals as goal

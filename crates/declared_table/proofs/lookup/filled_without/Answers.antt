@@ -1,6 +1,6 @@
 use Rattle.std.proofs.Common.{[], sym, subst}
-use Rattle.emission_laws.specs.Holes.{fill, nearest}
-use Rattle.emitted_parts.specs.Built.{Is}
+use Rattle.ordered_emissions.specs.Holes.{fill, nearest}
+use Rattle.emitted_expressions.specs.Built.{Is}
 use Rattle.declared_table.proofs.lookup.filled_without.Goals as goal
 
 pub returns-in-Ok : goal.returns-in-Ok

@@ -1,8 +1,8 @@
 use Rattle.std.proofs.Common.{map, sym, subst, refl}
 use Rattle.foundation.proofs.Comparisons.{lt_of_true, le_of_false}
-use Rattle.emission_laws.specs.Holes.{fill, nearest}
-use Rattle.emitted_declarations.specs.Declared.{id_of_parts}
-use Rattle.emitted_parts.specs.Built.{Is}
+use Rattle.ordered_emissions.specs.Holes.{fill, nearest}
+use Rattle.kept_parts.specs.Declared.{id_of_parts}
+use Rattle.emitted_expressions.specs.Built.{Is}
 use Rattle.emitted_expressions.specs.Sight.{frame_of}
 use Rattle.declared_table.proofs.RunLemmas.{first_run, no_run}
 use Rattle.declared_table.proofs.lookup.id_in.Goals as goal

@@ -1,7 +1,7 @@
 use Rattle.std.proofs.Common.{[], map, sym, subst}
-use Rattle.emission_laws.specs.Holes.{fill, nearest}
-use Rattle.emitted_declarations.specs.Declared.{id_of_parts}
-use Rattle.emitted_parts.specs.Built.{Is}
+use Rattle.ordered_emissions.specs.Holes.{fill, nearest}
+use Rattle.kept_parts.specs.Declared.{id_of_parts}
+use Rattle.emitted_expressions.specs.Built.{Is}
 use Rattle.declared_table.proofs.lookup.id_without.Goals as goal
 
 pub returns-in-Ok : goal.returns-in-Ok

@@ -2,7 +2,7 @@ use Rattle.std.proofs.Common.{ℕ, map, ap}
 use Rattle.std.specs.declared.vec.Vec.{Vec}
 use Rattle.std.specs.declared.alloc.Global.{Global}
 use Rattle.tag_needs.specs.Tags.{tags_of}
-use Rattle.plan_needs.proofs.InstanceLemmas.{names_listed}
+use Rattle.argument_faults.proofs.InstanceLemmas.{names_listed}
 use Rattle.dependency_faults.proofs.NameLemmas.{with_none}
 use Rattle.dependency_faults.proofs.names.keyed_names.Goals as goal
 

@@ -1,5 +1,5 @@
 use Rattle.std.proofs.Common.{◌∙◌}
-use Rattle.plan_needs.proofs.InstanceLemmas.{no_key}
+use Rattle.argument_faults.proofs.InstanceLemmas.{no_key}
 use Rattle.dependency_faults.proofs.names.names_of.Goals as goal
 
 pub unreachable-requires : goal.unreachable-requires

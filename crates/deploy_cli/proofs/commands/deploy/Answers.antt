@@ -16,3 +16,6 @@ returns-in-Ok-clause-came g c =
     (λ (b : List ℕ). HasDeployedBytes p.may p.tells p.faults p.calls c.args.seats.now run.new.seats run.result
     g.T.Tree.tells_files file b d)
     c.as_slice.ensures run.ensures.came)
+
+pub returns-in-Ok-clause-seats : goal.returns-in-Ok-clause-seats
+returns-in-Ok-clause-seats g c = c.deploy_bytes-outcome.ensures.came.ready

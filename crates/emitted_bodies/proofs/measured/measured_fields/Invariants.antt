@@ -1,6 +1,6 @@
 use Rattle.std.proofs.Common.{List, map, drop}
 use Rattle.bicep_resolved.specs.View.{property_of, properties}
-use Rattle.bicep_emission.specs.Emitted.{Frame}
+use Rattle.measured_expressions.specs.Emitted.{Frame}
 use Rattle.measured_expressions.specs.Spans.{AreSpans}
 use Rattle.measured_trees.specs.Extremes.{members_extremes}
 use Rattle.measured_trees.specs.Measures.{Begins}

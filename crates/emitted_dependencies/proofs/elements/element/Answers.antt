@@ -5,7 +5,7 @@ use Rattle.filled_tables.specs.Seen.{file_in, files_in}
 use Rattle.emitted_files.specs.Files.{id_by, dependency}
 use Rattle.emitted_trees.specs.Templates as t
 use Rattle.source_worlds.specs.Numbers.{or_empty}
-use Rattle.tree_building.specs.Built.{IsTree}
+use Rattle.filled_tables.specs.Built.{IsTree}
 use Rattle.emitted_dependencies.proofs.ElementLemmas.{of_loop, of_one}
 use Rattle.emitted_dependencies.proofs.elements.element.Goals as goal
 

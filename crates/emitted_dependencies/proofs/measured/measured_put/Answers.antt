@@ -2,7 +2,7 @@ use Rattle.std.proofs.Common.{subst}
 use Rattle.std.specs.Prelude.{option_map}
 use Rattle.bicep_declared.specs.View.{declared_tree}
 use Rattle.filled_tables.specs.Seen.{file_in, files_in}
-use Rattle.emitted_dependencies.specs.Elements.{IsPutAt}
+use Rattle.emitted_dependencies.specs.Elements.{IsPutAt, element_extremes}
 use Rattle.emitted_dependencies.proofs.LoopLemmas.{takes, takes_nothing}
 use Rattle.emitted_dependencies.proofs.measured.measured_put.Goals as goal
 
@@ -14,9 +14,11 @@ measured_element-requires-clause-declared c =
 pub returns-in-Some : goal.returns-in-Some
 returns-in-Some c =
     let s = c.args.table.now in
-    takes (files_in s) (file_in s) c.args.form c.measured_element.result c.args.number
+    takes (files_in s) (file_in s) c.args.form c.enclosed.result c.args.number
     (subst (λ o. IsPutAt (file_in s) c.args.number (option_map (λ d. declared_tree d.now) o)) c.in-Some.is
-    c.put_declaration.ensures).1 c.measured_element.ensures
+    c.put_declaration.ensures).1
+    (c.enclosed.ensures (element_extremes (files_in s) (file_in s) c.args.form c.args.number)
+    c.measured_element.ensures)
 
 pub returns-in-None : goal.returns-in-None
 returns-in-None c =

@@ -6,7 +6,7 @@ use Rattle.emitted_expressions.specs.Sight.{frames_of}
 use Rattle.emitted_resources.specs.Values.{IsContent}
 use Rattle.emitted_resources.specs.Filled.{emission_sight}
 use Rattle.emitted_resources.specs.Buildable.{MayBeBuilt}
-use Rattle.tree_building.specs.Sight.{value}
+use Rattle.emitted_resources.specs.Sight.{value}
 use Rattle.emitted_modules.specs.Arguments.{argument_value}
 use Rattle.emitted_modules.proofs.arguments.argument_content.Goals as goal
 

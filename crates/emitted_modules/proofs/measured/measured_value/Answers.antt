@@ -5,7 +5,7 @@ use Rattle.bicep_resolved.specs.View.{value_of}
 use Rattle.emitted_resources.specs.Extremes.{value_extremes}
 use Rattle.emitted_resources.specs.Filled.{emission_sight}
 use Rattle.emitted_resources.specs.Measures.{IsOf}
-use Rattle.tree_building.specs.Sight.{value}
+use Rattle.emitted_resources.specs.Sight.{value}
 use Rattle.emitted_modules.specs.Arguments.{argument_value}
 use Rattle.emitted_modules.proofs.measured.measured_value.Goals as goal
 

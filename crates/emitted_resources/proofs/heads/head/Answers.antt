@@ -1,6 +1,6 @@
 use Rattle.std.proofs.Common.{sym, subst}
 use Rattle.bicep_declared.specs.View.{body_tree}
-use Rattle.emitted_trees.specs.EmittedTrees.{count_of}
+use Rattle.emitted_values.specs.EmittedTrees.{count_of}
 use Rattle.emitted_values.specs.Values.{AreBoth}
 use Rattle.emitted_values.specs.Seen.{whole_in}
 use Rattle.emitted_values.proofs.FilledLemmas.{items_given}

@@ -1,7 +1,7 @@
 use Rattle.std.proofs.Common.{Some, option_map, sym, subst}
 use Rattle.bicep_resolved.specs.View.{loop_of}
 use Rattle.emitted_values.specs.Values.{AreBoth}
-use Rattle.emitted_trees.specs.EmittedTrees.{count_of}
+use Rattle.emitted_values.specs.EmittedTrees.{count_of}
 use Rattle.emitted_values.specs.Seen.{sight}
 use Rattle.emitted_resources.specs.Heads.{IsLoopOf}
 use Rattle.emitted_resources.proofs.loops.copy.Goals as goal

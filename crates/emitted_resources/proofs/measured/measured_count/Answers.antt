@@ -1,6 +1,6 @@
 use Rattle.std.proofs.Common.{option_map, sym, subst}
 use Rattle.bicep_resolved.specs.View.{loop_of}
-use Rattle.emitted_trees.specs.EmittedTrees.{count_of}
+use Rattle.emitted_values.specs.EmittedTrees.{count_of}
 use Rattle.measured_trees.specs.Measures.{IsOf}
 use Rattle.emitted_values.specs.Seen.{sight}
 use Rattle.emitted_resources.specs.Limits.{count_extremes}

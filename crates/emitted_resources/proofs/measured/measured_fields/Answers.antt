@@ -3,7 +3,7 @@ use Rattle.std.specs.Prelude.{IfOk, option_to_list}
 use Rattle.bicep_declared.specs.View.{body_tree}
 use Rattle.bicep_resolved.specs.View.{property_of, properties}
 use Rattle.emitted_values.specs.Files.{frames_around}
-use Rattle.emitted_trees.specs.Templates as t
+use Rattle.emitted_values.specs.Templates as t
 use Rattle.emitted_values.specs.Seen.{whole_in}
 use Rattle.measured_expressions.specs.Spans.{AreSpans}
 use Rattle.measured_trees.specs.Extremes.{tree_extremes}

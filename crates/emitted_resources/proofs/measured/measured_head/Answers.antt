@@ -2,7 +2,7 @@ use Rattle.std.proofs.Common.{refl, subst}
 use Rattle.bicep_declared.specs.View.{body_tree}
 use Rattle.emitted_values.specs.Files.{frames_around}
 use Rattle.emitted_sizes.specs.Extent.{IsOf as IsExtent}
-use Rattle.emitted_trees.specs.EmittedTrees.{count_of}
+use Rattle.emitted_values.specs.EmittedTrees.{count_of}
 use Rattle.measured_trees.specs.Extremes.{joined}
 use Rattle.measured_trees.specs.Measures.{IsOf}
 use Rattle.emitted_values.specs.Seen.{whole_in}

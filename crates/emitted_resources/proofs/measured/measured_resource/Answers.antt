@@ -1,5 +1,5 @@
 use Rattle.bicep_declared.specs.View.{body_tree}
-use Rattle.emitted_trees.specs.Templates as t
+use Rattle.emitted_values.specs.Templates as t
 use Rattle.emitted_values.specs.Seen.{whole_in}
 use Rattle.measured_trees.specs.Extremes.{tree_extremes}
 use Rattle.emitted_resources.specs.Limits.{head_extremes, members_at}

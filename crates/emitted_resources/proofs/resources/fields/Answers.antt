@@ -2,9 +2,9 @@ use Rattle.std.proofs.Common.{◌≤◌, ap, map, ◌∙◌, sym, subst}
 use Rattle.bicep_resolved.specs.View.{property_of, properties}
 use Rattle.bicep_declared.specs.View.{body_tree}
 use Rattle.emitted_expressions.specs.Sight.{frames_of}
-use Rattle.tree_building.specs.Built.{AreFields}
-use Rattle.tree_building.specs.Depth.{members_depth}
-use Rattle.tree_building.specs.Each.{MembersAreSmall}
+use Rattle.emitted_values.specs.Built.{AreFields}
+use Rattle.emitted_values.specs.Depth.{members_depth}
+use Rattle.emitted_values.specs.Each.{MembersAreSmall}
 use Rattle.emitted_resources.specs.Limits.{members_at}
 use Rattle.emitted_resources.proofs.HeadLemmas.{members_placed}
 use Rattle.emitted_resources.proofs.resources.fields.Goals as goal

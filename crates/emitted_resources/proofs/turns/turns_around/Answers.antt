@@ -1,10 +1,10 @@
 use Rattle.std.proofs.Common.{None, option_map, sym, subst}
 use Rattle.bicep_resolved.specs.View.{loop_of}
-use Rattle.bicep_emission.specs.Emitted.{element}
+use Rattle.emitted_expressions.specs.Emitted.{element}
 use Rattle.emitted_expressions.specs.Sight.{AreFrames}
 use Rattle.emitted_values.specs.Files.{frames_around}
-use Rattle.emitted_parts.specs.Built.{Is}
-use Rattle.emitted_trees.specs.EmittedTrees.{copy_index}
+use Rattle.emitted_expressions.specs.Built.{Is}
+use Rattle.emitted_values.specs.EmittedTrees.{copy_index}
 use Rattle.emitted_values.specs.Seen.{whole_in}
 use Rattle.emitted_values.proofs.FilledLemmas.{items_given}
 use Rattle.emitted_resources.proofs.turns.turns_around.Goals as goal

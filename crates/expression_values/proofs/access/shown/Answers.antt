@@ -2,7 +2,7 @@ use Rattle.std.proofs.Common.{refl, subst}
 use Rattle.arm_value.specs.Json.{Json, object, pairs}
 use Rattle.arm_value.specs.View.{json}
 use Rattle.arm_env.specs.Part.{kept}
-use Rattle.reading.specs.Knowledge.{finished}
+use Rattle.arm_env.specs.Knowledge.{finished}
 use Rattle.arm_env.specs.Answer.{Gives}
 use Rattle.expression_values.proofs.AccessLemmas.{kept_same, shown_put}
 use Rattle.expression_values.proofs.access.shown.Goals as goal

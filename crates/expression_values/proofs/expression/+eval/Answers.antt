@@ -7,14 +7,14 @@ use Rattle.arm_value.specs.Json.{Json, bool, null}
 use Rattle.arm_value.specs.View.{json}
 use Rattle.arm_expr.specs.View.{tree_of}
 use Rattle.arm_expr.specs.declared.expr.Expr.{Expr}
-use Rattle.function_numbers.specs.Kinds.{truth_of}
-use Rattle.reading.specs.Reading.{pure}
+use Rattle.arm_functions.specs.Kinds.{truth_of}
+use Rattle.arm_env.specs.Reading.{pure}
 use Rattle.expression_values.specs.Row.{if_row, all_true, one_true, first_there, unless_false, unless_true}
 use Rattle.expression_values.specs.Row.{is_null, chosen}
 use Rattle.arm_env.specs.Look.{Look, Looking}
 use Rattle.expression_values.specs.Meaning.{value, held}
-use Rattle.reading.specs.Knowledge as knowledge
-use Rattle.reading.specs.Knowledge.{told, finished}
+use Rattle.arm_env.specs.Knowledge as knowledge
+use Rattle.arm_env.specs.Knowledge.{told, finished}
 use Rattle.arm_env.specs.Answer.{Gives}
 use Rattle.arm_env.specs.Sight.{here, held_of}
 use Rattle.expression_values.specs.Args.{outs, all_json}

@@ -2,7 +2,7 @@ use Rattle.std.proofs.Common.{◌≡◌, drop, take, map, option_map}
 use Rattle.arm_expr.specs.View.{tree_of}
 use Rattle.expression_values.specs.Row.{all_true, one_true, first_there}
 use Rattle.expression_values.specs.Meaning.{value}
-use Rattle.reading.specs.Knowledge.{told, finished}
+use Rattle.arm_env.specs.Knowledge.{told, finished}
 use Rattle.arm_env.specs.Answer.{gathered}
 use Rattle.arm_env.specs.Sight.{here}
 use Rattle.expression_values.specs.Args.{outs, all_json}

@@ -1,6 +1,6 @@
 use Rattle.std.proofs.Common.{map, sym, subst}
 use Rattle.arm_value.specs.View.{json}
-use Rattle.reading.specs.Knowledge.{Told, told}
+use Rattle.arm_env.specs.Knowledge.{Told, told}
 use Rattle.arm_env.specs.Look.{Look}
 use Rattle.arm_env.specs.Held.{Held}
 use Rattle.arm_env.specs.Answer.{Gives}
@@ -10,7 +10,7 @@ use Rattle.arm_env.specs.declared.function.Strict.{Strict}
 use Rattle.expression_values.specs.Meaning.{strict_row}
 use Rattle.expression_values.proofs.IdLemmas.{id_is}
 use Rattle.expression_values.proofs.strict.strict_row.Goals as goal
-use Rattle.function_texts.specs.Cuts.{texts_in}
+use Rattle.arm_functions.specs.Cuts.{texts_in}
 
 pub returns-in-ResourceId : goal.returns-in-ResourceId
 returns-in-ResourceId g c =

@@ -2,7 +2,7 @@ use Rattle.std.proofs.Common.{◌≡◌, ◌∷◌, ◌++◌, ◌+◌, [], List,
 use Rattle.std.proofs.Common.{subst}
 use Rattle.arm_value.specs.View.{json}
 use Rattle.expression_values.proofs.strict.texts_in.Goals as goal
-use Rattle.function_texts.specs.Cuts.{texts_in}
+use Rattle.arm_functions.specs.Cuts.{texts_in}
 use Rattle.arm_functions.proofs.CallLemmas.{text_ends, text_fails, text_more}
 
 pub returns-in-None : goal.returns-in-None

@@ -1,7 +1,7 @@
 use Rattle.std.proofs.Common.{◌≡◌, ◌++◌, drop, map, option_map}
 use Rattle.arm_value.specs.View.{json}
 use Rattle.expression_values.proofs.strict.texts_in.Given as goal
-use Rattle.function_texts.specs.Cuts.{texts_in}
+use Rattle.arm_functions.specs.Cuts.{texts_in}
 
 abbrev pub invariant-loop-arg : goal.invariant-loop-arg
 invariant-loop-arg l =

@@ -2,7 +2,7 @@ use Rattle.std.proofs.Common.{sym, subst, List, ℕ}
 use Rattle.plan_sight.specs.declared.lack.Lack.TheVariants as lack
 use Rattle.plan_sight.specs.Seen.{Lacks}
 use Rattle.plan_table.specs.Lines.{line_at}
-use Rattle.plan_values.specs.Values.{told_raw}
+use Rattle.plan_start.specs.Values.{told_raw}
 use Rattle.lack_faults.specs.Lacks.{IsLackAt}
 use Rattle.fault_finding.proofs.LineLemmas.{none_lacks, line_lacks, state_lacks, missing_at, spot_read}
 use Rattle.fault_finding.proofs.lines.lacking_fault.Goals as goal

@@ -4,11 +4,11 @@ use Rattle.file_limits.proofs.FitLemmas.{all_fit}
 use Rattle.file_limits.proofs.laws.files_within_the_limits_fit.Goals as goal
 
 pub returns : goal.returns
-returns c = λ s rs inner around a h.
+returns c = λ z s rs ms os inner around a h.
     let f = file_in s in
     let fs = files_in s in
     let k = length f.symbols in
-    all_fit s rs inner around a
+    all_fit z s rs ms os inner around a
     record {
       expressions = c.emissions_are_printable.ensures.expressions f fs a.file k;
       items = c.emissions_are_printable.ensures.items f fs a.file k;

@@ -18,7 +18,7 @@ pub loop-number-preserved : goal.loop-number-preserved
 loop-number-preserved c = record {
   most = omega (arith, c.loop-number-test.true);
   so_far = λ x h.
-      let y = declaration_extremes c.args.table.now c.args.rules.now x in
+      let y = declaration_extremes c.args.form c.args.table.now c.args.rules.now c.args.metadata.now x in
       next_over y c.loop-number.number c.with-all.result
       (c.with-all.ensures.both (over y c.loop-number.number) (y c.loop-number.number)
       (c.loop-number.invariant.so_far x h) (c.in_ok-one.ensures x h));
@@ -28,6 +28,7 @@ pub returns : goal.returns
 returns c = λ x h.
     let ds = (file_in c.args.table.now).declared.declarations in
     let a = same_size declared_tree c.args.declarations.now ds c.requires.declared in
-    all_over (declaration_extremes c.args.table.now c.args.rules.now x) c.loop-number.number (length ds)
-    c.loop-number.all (omega (arith, a, c.loop-number-test.false, c.loop-number.invariant.most))
+    all_over (declaration_extremes c.args.form c.args.table.now c.args.rules.now c.args.metadata.now x)
+    c.loop-number.number (length ds) c.loop-number.all
+    (omega (arith, a, c.loop-number-test.false, c.loop-number.invariant.most))
     (c.loop-number.invariant.so_far x h)

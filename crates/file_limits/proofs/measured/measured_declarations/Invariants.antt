@@ -6,4 +6,5 @@ use Rattle.file_limits.proofs.measured.measured_declarations.Given as goal
 -- what the declarations before take
 abbrev pub invariant-loop-number : goal.invariant-loop-number
 invariant-loop-number l =
-    SoFarWith l.inner (λ x. declaration_extremes l.table l.rules x) (length l.declarations) l.number l.all
+    SoFarWith l.inner (λ x. declaration_extremes l.form l.table l.rules l.metadata x) (length l.declarations) l.number
+    l.all

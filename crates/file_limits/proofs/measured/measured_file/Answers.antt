@@ -19,8 +19,10 @@ pub returns : goal.returns
 returns c = λ x h.
     let s = c.args.table.now in
     let rs = c.args.rules.now in
-    let parts = parts_extremes s rs x in
+    let ms = c.args.symbols.now in
+    let os = c.args.outputs.now in
+    let parts = parts_extremes c.args.form s rs ms os x in
     c.enclosed-2.ensures (enclosed parts)
     (c.enclosed.ensures parts
-    (c.with.ensures.both (all_declarations s rs x) (all_outputs s) (c.in_ok-all.ensures x h)
-    c.in_ok-outputs.ensures))
+    (c.with.ensures.both (all_declarations c.args.form s rs ms x) (all_outputs s os) (c.in_ok-all.ensures x h)
+    c.in_ok-of_outputs.ensures))

@@ -11,7 +11,7 @@ returns c = λ x h.
     let n = c.args.number in
     let b = body_tree c.args.body.now in
     let y = head_extremes (whole_in s) n b.each in
-    let z = needs_extremes s n b in
+    let z = needs_extremes c.args.form s n b in
     let p = properties_extremes s n b x in
     c.with-2.ensures.both y (joined z (enclosed p)) c.measured_head.ensures
     (c.with.ensures.both z (enclosed p) c.measured_needs-needs.ensures

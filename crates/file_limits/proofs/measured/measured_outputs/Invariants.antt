@@ -4,5 +4,5 @@ use Rattle.file_limits.specs.Extremes.{output_extremes}
 use Rattle.file_limits.proofs.measured.measured_outputs.Given as goal
 
 -- what the outputs before take
-abbrev pub invariant-loop-output : goal.invariant-loop-output
-invariant-loop-output l = SoFar (output_extremes l.table) (length l.outputs) l.output-index l.all
+abbrev pub invariant-loop-number : goal.invariant-loop-number
+invariant-loop-number l = SoFar (output_extremes l.table l.metadata) (length l.outputs) l.number l.all

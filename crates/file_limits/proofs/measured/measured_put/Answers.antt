@@ -8,5 +8,5 @@ returns c =
     let s = c.args.table.now in
     let n = c.args.number in
     let b = body_tree c.args.body.now in
-    c.with.ensures.both (resource_extremes s n b) (needs_extremes s n b) c.in_ok-resource.ensures
+    c.with.ensures.both (resource_extremes s n b) (needs_extremes c.args.form s n b) c.in_ok-resource.ensures
     c.measured_needs.ensures

@@ -3,13 +3,13 @@ use Rattle.std.specs.Prelude.{option_map, slice_get}
 use Rattle.bicep_declared.specs.View.{output_tree}
 use Rattle.emitted_values.specs.Metadata.{metadata_at}
 use Rattle.emitted_values.specs.Seen.{file_in}
+use Rattle.std.proofs.lemmas.Option.{slice_get_past}
 use Rattle.file_lists.specs.Found.{IsNext}
 use Rattle.file_lists.specs.Lists.{output_text, output_name, noted_at, IsNoted}
 use Rattle.file_lists.proofs.FirstLemmas.{none_listed, next_listed, all_first}
 use Rattle.file_lists.proofs.LimitLemmas.{item_is, same_size, same_name}
 use Rattle.file_lists.proofs.OutputLemmas.{are_outputs, have_metadata, none_noted, noted_is}
 use Rattle.file_lists.proofs.SizeLemmas.{at_most_numbers}
-use Rattle.file_lists.proofs.VariableLemmas.{past_end}
 use Rattle.file_lists.proofs.output_list.outputs_of.Goals as goal
 
 pub loop-number-init : goal.loop-number-init
@@ -49,7 +49,7 @@ returns-clause-outputs c =
     are_outputs s ms c.loop-number.all
     (all_first output_text (file_in s).outputs c.requires.differ (noted_at s ms) output_name (IsNoted s)
     c.loop-number.number c.loop-number.all
-    (λ n l. none_noted s ms n (past_end (file_in s).declared.outputs n (omega (arith, a, l, c.loop-number-test.false))))
+    (λ n l. none_noted s ms n (slice_get_past (file_in s).declared.outputs n (omega (arith, a, l, c.loop-number-test.false))))
     c.loop-number.invariant.first)
 
 pub returns-clause-metadata : goal.returns-clause-metadata
@@ -60,7 +60,7 @@ returns-clause-metadata c =
     have_metadata s ms c.loop-number.all
     (all_first output_text (file_in s).outputs c.requires.differ (noted_at s ms) output_name (IsNoted s)
     c.loop-number.number c.loop-number.all
-    (λ n l. none_noted s ms n (past_end (file_in s).declared.outputs n (omega (arith, a, l, c.loop-number-test.false))))
+    (λ n l. none_noted s ms n (slice_get_past (file_in s).declared.outputs n (omega (arith, a, l, c.loop-number-test.false))))
     c.loop-number.invariant.first)
 
 pub returns-clause-order : goal.returns-clause-order
@@ -71,5 +71,5 @@ returns-clause-count c =
     let s = c.args.table.now in
     let ms = c.args.metadata.now in
     let os = (file_in s).declared.outputs in
-    at_most_numbers (noted_at s ms) (length os) (λ n l. none_noted s ms n (past_end os n l)) c.loop-number.number
+    at_most_numbers (noted_at s ms) (length os) (λ n l. none_noted s ms n (slice_get_past os n l)) c.loop-number.number
     c.loop-number.all c.loop-number.invariant.size

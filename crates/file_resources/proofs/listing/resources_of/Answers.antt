@@ -2,97 +2,106 @@ use Rattle.std.proofs.Common.{◌<◌, None, length, refl, sym, ◌∙◌, subst
 use Rattle.std.proofs.lemmas.List.{length-map}
 use Rattle.std.specs.Prelude.{option_map, IfOk}
 use Rattle.template_tree.specs.View.{template_tree}
-use Rattle.template_parts.specs.declared.mode.Form.TheVariants.{One}
-use Rattle.source_worlds.specs.Numbers.{in_template}
 use Rattle.emitted_modules.specs.Seen.{file_in}
 use Rattle.file_resources.specs.Built.{templates_of, IsGrown, AreBuilt, HaveMetadata}
 use Rattle.file_resources.specs.Fits.{MayBeBuilt}
-use Rattle.file_resources.proofs.ListLemmas.{template_is, given_is, others_stay, size_stays, declared_is, same_size}
-use Rattle.file_resources.proofs.ListLemmas.{begin, grown, all_built, IsNoted, noted_part, are_built, have_metadata}
+use Rattle.file_resources.proofs.ListLemmas.{template_is, given_is, others_stay, size_stays, resource_at, is_below}
+use Rattle.file_resources.proofs.ListLemmas.{differ, begin, grown, all_built, IsNoted, are_built, have_metadata}
 use Rattle.file_resources.proofs.listing.resources_of.Goals as goal
 
-pub loop-number-init : goal.loop-number-init
-loop-number-init c =
-    let s = c.args.table.now in
-    let count = length (file_in s).declared.declarations in
-    record {
-      built = begin (file_in s) (IsNoted s c.args.metadata.now (templates_of c.args.templates.items)) count
-          c.new-all.result c.new-all.ensures;
-      left = λ m l. refl;
-      size = refl;
-    }
+pub loop-place-init : goal.loop-place-init
+loop-place-init c = record {
+  built = begin
+      (IsNoted c.args.form c.args.table.now c.args.metadata.now (templates_of c.args.templates.items))
+      c.args.numbers.now c.new-all.result c.new-all.ensures;
+  left = λ k m l h. refl;
+  size = refl;
+}
+
+pub number_at-number-requires : goal.number_at-number-requires
+number_at-number-requires c = c.loop-place-test.true
 
 pub template_at-template-requires : goal.template_at-template-requires
 template_at-template-requires c =
-    let ds = (file_in c.args.table.now).declared.declarations in
+    let f = file_in c.args.table.now in
+    let ns = c.args.numbers.now in
     let ts = c.args.templates.items in
-    let l = c.loop-number-test.true in
-    let a = same_size c.args.declarations.now ds c.requires.declared in
+    let n = c.number_at-number.result in
+    let at = c.number_at-number.ensures in
+    let l = is_below f n (resource_at f c.args.form ns c.loop-place.place n c.requires.numbers at) in
     let b = length-map ts (option_map template_tree) in
-    omega (arith, l, a, b, c.requires.built.all, c.loop-number.invariant.size)
+    omega (arith, l, b, c.requires.built.all, c.loop-place.invariant.size)
 
-pub with_part-requires-clause-declared : goal.with_part-requires-clause-declared
-with_part-requires-clause-declared c =
-    declared_is c.args.declarations.now (file_in c.args.table.now).declared.declarations c.loop-number.number
-    c.index-declarations-number.result c.requires.declared c.loop-number-test.true c.index-declarations-number.is
+pub with_part-requires-clause-resource : goal.with_part-requires-clause-resource
+with_part-requires-clause-resource c =
+    let ns = c.args.numbers.now in
+    let n = c.number_at-number.result in
+    resource_at (file_in c.args.table.now) c.args.form ns c.loop-place.place n c.requires.numbers
+    c.number_at-number.ensures
 
 pub with_part-requires-clause-built : goal.with_part-requires-clause-built
 with_part-requires-clause-built c =
     let s = c.args.table.now in
-    let ds = (file_in s).declared.declarations in
+    let f = file_in s in
+    let ns = c.args.numbers.now in
     let ts = c.args.templates.items in
-    let n = c.loop-number.number in
-    let a = same_size c.args.declarations.now ds c.requires.declared in
+    let i = c.loop-place.place in
+    let n = c.number_at-number.result in
+    let at = c.number_at-number.ensures in
+    let below = is_below f n (resource_at f c.args.form ns i n c.requires.numbers at) in
     let b = length-map ts (option_map template_tree) in
-    let l : n < length ts = omega (arith, c.loop-number-test.true, a, b, c.requires.built.all) in
+    let l : n < length ts = omega (arith, below, b, c.requires.built.all) in
     subst (MayBeBuilt s n)
     (given_is ts n l c.template_at-template.result
-    (c.template_at-template.ensures.value ∙ c.loop-number.invariant.left n (omega arith))) (c.requires.built.each n)
+    (c.template_at-template.ensures.value ∙ c.loop-place.invariant.left i n (omega arith) at)) (c.requires.built.each n)
 
-pub loop-number-preserved : goal.loop-number-preserved
-loop-number-preserved c =
+pub loop-place-preserved : goal.loop-place-preserved
+loop-place-preserved c =
+    let z = c.args.form in
     let s = c.args.table.now in
-    let ds = (file_in s).declared.declarations in
+    let f = file_in s in
+    let ns = c.args.numbers.now in
     let ts = c.args.templates.items in
-    let n = c.loop-number.number in
-    let t = c.template_at-template.result in
-    let a = same_size c.args.declarations.now ds c.requires.declared in
+    let i = c.loop-place.place in
+    let n = c.number_at-number.result in
+    let at = c.number_at-number.ensures in
+    let below = is_below f n (resource_at f z ns i n c.requires.numbers at) in
     let b = length-map ts (option_map template_tree) in
-    let l : n < length ts = omega (arith, c.loop-number-test.true, a, b, c.requires.built.all) in
-    let m : n < length ds = omega (arith, c.loop-number-test.true, a) in
+    let l : n < length ts = omega (arith, below, b, c.requires.built.all) in
+    let is = template_is ts n l c.template_at-template.result
+    (c.template_at-template.ensures.value ∙ c.loop-place.invariant.left i n (omega arith) at) in
     let ms = c.args.metadata.now in
-    let is = template_is ts n l t
-    (c.template_at-template.ensures.value ∙ c.loop-number.invariant.left n (omega arith)) in
-    let g = subst (λ o. IsGrown s ms n o c.loop-number.all c.in-Ok.more) is c.in-Ok.ensures in
+    let g = subst (λ o. IsGrown z s ms n o c.loop-place.all c.in-Ok.more) is c.in-Ok.ensures in
     record {
-      built = grown (file_in s) (IsNoted s ms (templates_of ts)) (length ds) n c.loop-number.all c.in-Ok.more m g.0
-          (noted_part s ms (templates_of ts) n g.0 g.1.0 g.1.1.0) g.1.1.1 c.loop-number.invariant.built;
-      left = λ k h. others_stay c.loop-number.rest.items c.template_at-template.new.templates.items n k None
-          c.template_at-template.ensures.after (omega (arith, h)) ∙ c.loop-number.invariant.left k (omega (arith, h));
-      size = size_stays c.loop-number.rest.items c.template_at-template.new.templates.items n None
-          c.template_at-template.ensures.after ∙ c.loop-number.invariant.size;
+      built = grown (IsNoted z s ms (templates_of ts)) ns i n c.loop-place.all c.in-Ok.more g.0 at g.1.0 g.1.1
+          c.loop-place.invariant.built;
+      left = λ k m h g. others_stay c.loop-place.rest.items c.template_at-template.new.templates.items n m None
+          c.template_at-template.ensures.after (differ z f ns i k n m c.requires.numbers (omega (arith, h)) at g)
+          ∙ c.loop-place.invariant.left k m (omega (arith, h)) g;
+      size = size_stays c.loop-place.rest.items c.template_at-template.new.templates.items n None
+          c.template_at-template.ensures.after ∙ c.loop-place.invariant.size;
     }
 
 pub returns-clause-built : goal.returns-clause-built
 returns-clause-built c =
+    let z = c.args.form in
     let s = c.args.table.now in
-    let ds = (file_in s).declared.declarations in
-    let us = templates_of c.args.templates.items in
+    let ns = c.args.numbers.now in
     let ms = c.args.metadata.now in
-    let a = same_size c.args.declarations.now ds c.requires.declared in
-    subst (λ r. IfOk r (AreBuilt s us (in_template One (file_in s)))) (sym c.letting_go.ensures)
-    (are_built s ms us (in_template One (file_in s)) c.loop-number.all
-    (all_built (file_in s) (IsNoted s ms us) (length ds) c.loop-number.number c.loop-number.all
-    (omega (arith, a, c.loop-number-test.false)) c.loop-number.invariant.built))
+    let us = templates_of c.args.templates.items in
+    subst (λ r. IfOk r (AreBuilt z s us ns)) (sym c.letting_go.ensures)
+    (are_built z s ms us ns c.loop-place.all
+    (all_built (IsNoted z s ms us) ns c.loop-place.place c.loop-place.all
+    (omega (arith, c.loop-place-test.false)) c.loop-place.invariant.built))
 
 pub returns-clause-metadata : goal.returns-clause-metadata
 returns-clause-metadata c =
+    let z = c.args.form in
     let s = c.args.table.now in
-    let ds = (file_in s).declared.declarations in
-    let us = templates_of c.args.templates.items in
+    let ns = c.args.numbers.now in
     let ms = c.args.metadata.now in
-    let a = same_size c.args.declarations.now ds c.requires.declared in
-    subst (λ r. IfOk r (HaveMetadata ms (in_template One (file_in s)))) (sym c.letting_go.ensures)
-    (have_metadata s ms us (in_template One (file_in s)) c.loop-number.all
-    (all_built (file_in s) (IsNoted s ms us) (length ds) c.loop-number.number c.loop-number.all
-    (omega (arith, a, c.loop-number-test.false)) c.loop-number.invariant.built))
+    let us = templates_of c.args.templates.items in
+    subst (λ r. IfOk r (HaveMetadata ms ns)) (sym c.letting_go.ensures)
+    (have_metadata z s ms us ns c.loop-place.all
+    (all_built (IsNoted z s ms us) ns c.loop-place.place c.loop-place.all
+    (omega (arith, c.loop-place-test.false)) c.loop-place.invariant.built))

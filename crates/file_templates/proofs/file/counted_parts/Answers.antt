@@ -11,7 +11,7 @@ returns-in-Some-clause-fault c =
 
 pub returns-in-None-clause-parts : goal.returns-in-None-clause-parts
 returns-in-None-clause-parts c =
-    counted (text_of c.args.source.now) c.args.table.now (sym c.in-None.ensures) c.parts_of.result
+    counted c.args.form (text_of c.args.source.now) c.args.table.now (sym c.in-None.ensures) c.parts_of.result
     c.parts_of.ensures.parts
 
 pub returns-in-None-clause-fault : goal.returns-in-None-clause-fault

@@ -21,7 +21,7 @@ tabled-requires-clause-table c = (
 pub returns-in-Ok-clause-parts : goal.returns-in-Ok-clause-parts
 returns-in-Ok-clause-parts c =
     let t = text_of c.args.source.now in
-    with_table t c.args.file.now c.args.files.now c.in-Ok.table
+    with_table c.args.form t c.args.file.now c.args.files.now c.in-Ok.table
     (tabled_by t c.args.file.now c.args.files.now c.requires.checked c.args.order.now c.requires.order
     c.requires.loops c.checked_files_have_kinds.ensures c.checked_names_differ.ensures
     c.checked_files_are_placed.ensures c.in-Ok.table c.in-Ok.ensures) c.tabled.result c.tabled.ensures.parts

@@ -17,13 +17,14 @@ measured_parts-requires-clause-mentioned c =
 pub returns-in-Ok-clause-parts : goal.returns-in-Ok-clause-parts
 returns-in-Ok-clause-parts c =
     let s = c.args.table.now in
-    with_mentions s c.args.rules.items c.args.metadata c.in-Ok.mentioned.items
+    with_mentions c.args.form s c.args.rules.items c.args.metadata c.in-Ok.mentioned.items
     (mentions_in c.args.file.now s c.requires.table.0 c.requires.table.1 c.in-Ok.mentioned c.in-Ok.ensures)
     c.measured_parts.result c.measured_parts.ensures.parts
 
 pub returns-in-Err-clause-parts : goal.returns-in-Err-clause-parts
 returns-in-Err-clause-parts c =
-    no_value (AreMentionedParts c.args.table.now c.args.rules.items c.args.metadata) c.refuse.result fault.OutOfMemory
+    no_value (AreMentionedParts c.args.form c.args.table.now c.args.rules.items c.args.metadata) c.refuse.result
+    fault.OutOfMemory
     c.refuse.ensures
 
 pub returns-in-Err-clause-fault : goal.returns-in-Err-clause-fault

@@ -10,6 +10,6 @@ returns-in-Ok-clause-parts c =
     let t = text_of c.args.source.now in
     let s = c.args.table.now in
     let rules = rules_in c.args.file.now s t c.requires.table c.in-Ok.rules c.in-Ok.ensures in
-    all_parts t s c.in-Ok.rules.items rules
+    all_parts c.args.form t s c.in-Ok.rules.items rules
     (c.parameters_are_there.ensures t s c.in-Ok.rules.items c.requires.table.1.kinds rules) c.ruled_parts.result
     c.ruled_parts.ensures.parts

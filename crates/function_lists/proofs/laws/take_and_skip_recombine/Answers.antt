@@ -1,7 +1,7 @@
 use Rattle.std.proofs.Common.{◌≡◌, ℕ, List, ◌++◌, take, drop, ap₂, ◌∙◌}
 use Rattle.std.proofs.lemmas.List.{take-append-drop}
+use Rattle.arm_value.proofs.SameLemmas.{items-row}
 use Rattle.arm_value.specs.Json.{Json, row, items}
-use Rattle.function_numbers.proofs.RowLemmas.{items_of_row}
 use Rattle.function_lists.specs.Ends.{amount}
 use Rattle.function_lists.proofs.ValueLemmas.{array_of_is}
 use Rattle.function_lists.proofs.laws.take_and_skip_recombine.Goals as goal
@@ -16,4 +16,4 @@ pub returns-clause-arrays : goal.returns-clause-arrays
 returns-clause-arrays c js front rest n a b =
     let f = array_of_is (take (amount n) (items (row js))) front a in
     let r = array_of_is (drop (amount n) (items (row js))) rest b in
-    ap₂ (λ (x y : List Json). x ++ y) f r ∙ take-append-drop (amount n) (items (row js)) ∙ items_of_row js
+    ap₂ (λ (x y : List Json). x ++ y) f r ∙ take-append-drop (amount n) (items (row js)) ∙ items-row js

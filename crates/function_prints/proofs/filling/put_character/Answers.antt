@@ -1,7 +1,7 @@
 use Rattle.std.proofs.Common.{◌∙◌, ap, rules}
 use Rattle.std.specs.Str.{chars}
 use Rattle.std.proofs.lemmas.Str.{IsUtf8-had}
-use Rattle.foundation.proofs.Characters.{chars-push}
+use Rattle.function_texts.proofs.Characters.{chars-push}
 use Rattle.function_prints.proofs.filling.put_character.Goals as goal
 
 pub returns : goal.returns

@@ -1,4 +1,4 @@
-use Rattle.plan_cells.proofs.PointLemmas.{later_point}
+use Rattle.deploy_histories.proofs.PointLemmas.{later_point}
 use Rattle.deploy_histories.specs.Planned.{course}
 use Rattle.deploy_histories.specs.Events.{after_all}
 use Rattle.deploy_histories.specs.Points.{point}

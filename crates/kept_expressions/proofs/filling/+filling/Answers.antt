@@ -8,17 +8,17 @@ use Rattle.foundation.proofs.Lists.{next_item}
 use Rattle.kept_expressions.proofs.FillingLemmas.{hole_filled, call_filled}
 use Rattle.kept_expressions.proofs.filling.+filling.Goals as goal
 
-pub called-returns-then-is_blank : goal.called-returns-then-is_blank
-called-returns-then-is_blank t c = λ f p q.
+pub called-returns-then-is_empty : goal.called-returns-then-is_empty
+called-returns-then-is_empty t c = λ f p q.
     let es = trees (map tree_of c.args.arguments.now) in
     is_also (in_hole f es) (fill f (call c.args.name.now es)) c.hole.result
-    (hole_filled f c.args.name.now es (sym c.is_blank.ensures ∙ c.if-is_blank.true)) (c.hole.ensures f p q)
+    (hole_filled f c.args.name.now es (sym c.is_empty.ensures ∙ c.if-is_empty.true)) (c.hole.ensures f p q)
 
-pub called-returns-else-is_blank : goal.called-returns-else-is_blank
-called-returns-else-is_blank t c = λ f p q.
+pub called-returns-else-is_empty : goal.called-returns-else-is_empty
+called-returns-else-is_empty t c = λ f p q.
     let es = trees (map tree_of c.args.arguments.now) in
     is_also (call c.args.name.now (fill_all f es)) (fill f (call c.args.name.now es)) c.named.result
-    (call_filled f c.args.name.now es (sym c.is_blank.ensures ∙ c.if-is_blank.false))
+    (call_filled f c.args.name.now es (sym c.is_empty.ensures ∙ c.if-is_empty.false))
     (c.named.ensures c.args.name.now (fill_all f es) c.copy.ensures (c.all_filled.ensures f p q))
 
 pub all_filled-loop-part-preserved : goal.all_filled-loop-part-preserved

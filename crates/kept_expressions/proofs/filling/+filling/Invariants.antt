@@ -2,7 +2,7 @@ use Rattle.std.proofs.Common.{◌≡◌, map, drop}
 use Rattle.std.specs.Prelude.{option_map}
 use Rattle.arm_expr.specs.Tree.{trees}
 use Rattle.arm_expr.specs.View.{tree_of}
-use Rattle.bicep_emission.specs.Emitted.{Frame}
+use Rattle.emitted_parts.specs.Emitted.{Frame}
 use Rattle.measured_holes.specs.Holes.{fill_all}
 use Rattle.emitted_parts.proofs.BuiltLemmas.{onto}
 use Rattle.kept_expressions.specs.Limits.{IsPut}

@@ -1,5 +1,5 @@
 use Rattle.std.proofs.Common.{refl, ap, sym, ◌∙◌}
-use Rattle.bicep_emission.specs.Emitted.{no_value}
+use Rattle.emitted_parts.specs.Emitted.{no_value}
 use Rattle.kept_expressions.specs.Limits.{is_within}
 use Rattle.kept_parts.proofs.frames.kept_nothing.Goals as goal
 

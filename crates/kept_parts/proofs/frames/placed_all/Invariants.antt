@@ -1,6 +1,6 @@
 use Rattle.std.proofs.Common.{List, map, take}
 use Rattle.arm_expr.specs.Tree.{Tree}
-use Rattle.bicep_emission.specs.Emitted.{Frame}
+use Rattle.emitted_parts.specs.Emitted.{Frame}
 use Rattle.emission_laws.specs.Holes.{fill}
 use Rattle.kept_expressions.specs.Kept.{AreKeptHoles}
 use Rattle.kept_parts.specs.Frames.{IsKeptFrame}

@@ -1,5 +1,5 @@
 use Rattle.std.proofs.Common.{◌+◌, sym, subst}
-use Rattle.bicep_emission.specs.Emitted.{Frame}
+use Rattle.emitted_parts.specs.Emitted.{Frame}
 use Rattle.emission_laws.specs.Holes.{fill}
 use Rattle.emitted_sizes.specs.Extent.{IsOf, bounded}
 use Rattle.kept_expressions.specs.Probes.{deep, wide, probe}

@@ -1,6 +1,6 @@
 use Rattle.std.proofs.Common.{ℕ, List, map, drop}
 use Rattle.arm_expr.specs.Tree.{Tree, text, trees, more}
-use Rattle.bicep_emission.specs.Emitted.{Frame}
+use Rattle.emitted_parts.specs.Emitted.{Frame}
 use Rattle.emission_laws.specs.Holes.{fill}
 use Rattle.emitted_sizes.specs.Extent.{IsOf, Begins}
 use Rattle.kept_expressions.specs.Spans.{IsSpan}

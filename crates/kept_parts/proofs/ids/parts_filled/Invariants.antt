@@ -2,7 +2,7 @@ use Rattle.std.proofs.Common.{◌≡◌, List, map, drop}
 use Rattle.std.specs.Prelude.{option_map}
 use Rattle.arm_expr.specs.Tree.{Tree, text, trees, more}
 use Rattle.arm_expr.specs.View.{tree_of}
-use Rattle.bicep_emission.specs.Emitted.{Frame}
+use Rattle.emitted_parts.specs.Emitted.{Frame}
 use Rattle.emission_laws.specs.Holes.{fill}
 use Rattle.emitted_parts.proofs.BuiltLemmas.{onto}
 use Rattle.kept_expressions.specs.Kept.{AreKeptHoles}

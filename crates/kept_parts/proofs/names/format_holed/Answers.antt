@@ -1,6 +1,6 @@
 use Rattle.std.proofs.Common.{codes, refl, subst}
 use Rattle.arm_expr.specs.Tree.{text, call}
-use Rattle.bicep_emission.specs.Emitted.{two}
+use Rattle.emitted_parts.specs.Emitted.{two}
 use Rattle.emission_laws.specs.Holes.{fill, index_hole}
 use Rattle.emitted_sizes.specs.Extent.{IsOf}
 use Rattle.kept_expressions.specs.Probes.{deep, wide, probe}

@@ -1,7 +1,7 @@
 use Rattle.std.proofs.Common.{pos, codes, refl, ap, sym, ◌∙◌}
 use Rattle.arm_expr.specs.Tree.{text, int, call}
 use Rattle.arm_expr.proofs.ViewLemmas.{tree_of-Int}
-use Rattle.bicep_emission.specs.Emitted.{two}
+use Rattle.emitted_parts.specs.Emitted.{two}
 use Rattle.emission_laws.specs.Holes.{index_hole}
 use Rattle.kept_expressions.specs.Limits.{is_within}
 use Rattle.kept_parts.proofs.names.indexed.Goals as goal

@@ -1,6 +1,6 @@
 use Rattle.std.proofs.Common.{pos, codes, refl}
 use Rattle.arm_expr.specs.Tree.{text, int, call}
-use Rattle.bicep_emission.specs.Emitted.{two}
+use Rattle.emitted_parts.specs.Emitted.{two}
 use Rattle.emitted_declarations.specs.Declared.{split_name}
 use Rattle.kept_parts.proofs.pieces.piece_extent.Goals as goal
 

@@ -1,5 +1,5 @@
 use Rattle.std.proofs.Common.{length, ap, sym, ◌∙◌}
-use Rattle.bicep_meaning.specs.Files.{type_of}
+use Rattle.bicep_emission.specs.Files.{type_of}
 use Rattle.measured_expressions.proofs.fields.field_of.Goals as goal
 
 pub returns-in-Properties : goal.returns-in-Properties

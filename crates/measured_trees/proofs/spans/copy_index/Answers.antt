@@ -1,7 +1,7 @@
 use Rattle.std.proofs.Common.{codes, option_map, refl, sym, subst}
 use Rattle.arm_expr.specs.Tree.{text}
 use Rattle.emitted_sizes.specs.Extent.{IsOf}
-use Rattle.emitted_trees.specs.EmittedTrees.{copy_index}
+use Rattle.tree_building.specs.EmittedTrees.{copy_index}
 use Rattle.measured_trees.proofs.spans.copy_index.Goals as goal
 
 pub returns-in-Some : goal.returns-in-Some

@@ -1,7 +1,7 @@
 use Rattle.std.proofs.Common.{◌∷◌, ◌++◌, [], option_map, ap, sym, subst, ◌∙◌}
 use Rattle.foundation.proofs.Options.{if_ok}
-use Rattle.bicep_emission.specs.Emitted.{element}
-use Rattle.emitted_trees.specs.EmittedTrees.{copy_index}
+use Rattle.tree_building.specs.Emitted.{element}
+use Rattle.tree_building.specs.EmittedTrees.{copy_index}
 use Rattle.measured_expressions.specs.Spans.{AreSpans}
 use Rattle.measured_trees.proofs.spans.inside.Goals as goal
 

@@ -7,9 +7,9 @@ use Rattle.bicep_resolved.specs.Source as s
 use Rattle.bicep_resolved.specs.View.{source_of, property_of, value_of, sources, properties}
 use Rattle.bicep_resolved.proofs.ViewLemmas.{source_of-Literal, source_of-Object, source_of-Array, source_of-Prefix}
 use Rattle.bicep_resolved.proofs.ViewLemmas.{value_of-Each, loop_of-is}
-use Rattle.bicep_emission.specs.Emitted.{element}
-use Rattle.emitted_trees.specs.EmittedTrees.{has_copy, signed, literal_or, copy_index, count_of}
-use Rattle.emitted_trees.specs.Templates as tree
+use Rattle.tree_building.specs.Emitted.{element}
+use Rattle.tree_building.specs.EmittedTrees.{has_copy, signed, literal_or, copy_index, count_of}
+use Rattle.tree_building.specs.Templates as tree
 use Rattle.measured_expressions.specs.Spans.{AreSpans}
 use Rattle.tree_building.specs.Sight as spec
 use Rattle.measured_trees.specs.Extremes.{tree_extremes, value_extremes, items_extremes, members_extremes}

@@ -1,6 +1,6 @@
 use Rattle.std.proofs.Common.{List, map, drop}
 use Rattle.bicep_resolved.specs.View.{source_of, property_of, sources, properties}
-use Rattle.bicep_emission.specs.Emitted.{Frame}
+use Rattle.tree_building.specs.Emitted.{Frame}
 use Rattle.measured_expressions.specs.Spans.{AreSpans}
 use Rattle.tree_building.specs.Sight as spec
 use Rattle.measured_trees.specs.Extremes.{items_extremes, members_extremes}

@@ -1,5 +1,5 @@
 use Rattle.plan_tasks.specs.Start.{task_of, IsTaskOf}
-use Rattle.plan_needs.proofs.ScopeLemmas.{each_at}
+use Rattle.plan_elements.proofs.ScopeLemmas.{each_at}
 use Rattle.plan_assembly.specs.Plans.{task_in, IsTaskIn}
 use Rattle.plan_assembly.proofs.ListLemmas.{more, done, each_more}
 use Rattle.plan_assembly.proofs.listing.push_tasks.Goals as goal

@@ -1,6 +1,6 @@
 use Rattle.std.proofs.Common.{sym, ap, ◌∙◌, chars, Some}
 use Rattle.std.specs.Prelude.{option_map}
-use Rattle.plan_cells.specs.Sites.{deployment_key}
+use Rattle.plan_sight.specs.Sites.{deployment_key}
 use Rattle.plan_names.proofs.around.key_listed.Goals as goal
 
 pub returns-in_ok-key-in-Some : goal.returns-in_ok-key-in-Some

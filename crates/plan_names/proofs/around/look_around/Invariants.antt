@@ -1,6 +1,6 @@
 use Rattle.std.proofs.Common.{◌≡◌, ◌<◌, length}
-use Rattle.plan_cells.specs.Scopes.{visible}
-use Rattle.plan_cells.specs.Sites.{all_but_first, deployment_key}
+use Rattle.plan_sight.specs.Scopes.{visible}
+use Rattle.plan_sight.specs.Sites.{all_but_first, deployment_key}
 use Rattle.plan_table.specs.Whole.{whole_of}
 use Rattle.plan_table.specs.Found.{scope_at}
 use Rattle.plan_sight.specs.Ready.{told_in}

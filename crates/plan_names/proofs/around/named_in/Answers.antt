@@ -2,8 +2,8 @@ use Rattle.std.proofs.Common.{sym, ap, ◌∙◌, map}
 use Rattle.std.proofs.lemmas.Result.{IfOk-weaker}
 use Rattle.arm_value.specs.View.{json}
 use Rattle.deploy_cells.specs.Listing.{instances_of}
-use Rattle.plan_cells.specs.Sites.{first_name, concat}
-use Rattle.plan_listing.proofs.HitLemmas.{items_there, items_nowhere}
+use Rattle.plan_sight.specs.Sites.{first_name, concat}
+use Rattle.plan_nested.proofs.HitLemmas.{items_there, items_nowhere}
 use Rattle.plan_names.specs.Named.{is_spelled}
 use Rattle.plan_names.proofs.around.named_in.Goals as goal
 use Rattle.arm_ids.specs.Members.{deployment_type}

@@ -1,5 +1,5 @@
 use Rattle.std.proofs.Common.{ap, length}
-use Rattle.plan_cells.specs.Sites.{all_spelled}
+use Rattle.plan_sight.specs.Sites.{all_spelled}
 use Rattle.plan_table.specs.Found.{scope_at}
 use Rattle.plan_sight.specs.Ready.{told_in}
 use Rattle.plan_names.specs.Named.{gathered}

@@ -1,7 +1,7 @@
 use Rattle.std.proofs.Common.{◌≡◌, ◌-◌, Some}
 use Rattle.std.specs.Prelude.{slice_get}
-use Rattle.plan_cells.specs.Resources as cells
-use Rattle.plan_cells.specs.Sites.{instances_spelled}
+use Rattle.plan_sight.specs.Resources as cells
+use Rattle.plan_sight.specs.Sites.{instances_spelled}
 use Rattle.plan_table.specs.Found.{scope_at}
 use Rattle.plan_sight.specs.Ready.{told_in}
 use Rattle.plan_names.specs.Named.{gathered}

@@ -1,7 +1,7 @@
 use Rattle.std.proofs.Common.{◌++◌, []}
 use Rattle.tag_needs.specs.Tags.{tags_in}
 use Rattle.plan_cells.specs.Tasks.{delete}
-use Rattle.plan_codes.specs.TaskCodes.{task_asks}
+use Rattle.name_tags.specs.TaskCodes.{task_asks}
 use Rattle.plan_table.specs.Whole.{whole_of, scopes_of}
 use Rattle.plan_needs.specs.Numbers.{number_in}
 use Rattle.plan_needs.specs.Lists.{asks_of_deletes}

@@ -1,6 +1,6 @@
 use Rattle.std.proofs.Common.{ap, subst, ◌∙◌}
 use Rattle.reading.specs.Reading.{pure}
-use Rattle.plan_cells.specs.Sites.{truth_of_found}
+use Rattle.plan_sight.specs.Sites.{truth_of_found}
 use Rattle.plan_sight.specs.Ready.{told_in}
 use Rattle.plan_nested.specs.Sighted.{IsThere, found_of}
 use Rattle.plan_nested.proofs.OutputLemmas.{seen_inside}

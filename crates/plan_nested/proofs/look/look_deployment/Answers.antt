@@ -1,6 +1,6 @@
 use Rattle.reading.specs.Reading.{pure}
 use Rattle.arm_env.specs.Look.{a_truth}
-use Rattle.plan_cells.specs.Sites.{truth_of_found}
+use Rattle.plan_sight.specs.Sites.{truth_of_found}
 use Rattle.plan_nested.proofs.OutputLemmas.{shows_as, found_goes, found_stops}
 use Rattle.plan_nested.proofs.look.look_deployment.Goals as goal
 

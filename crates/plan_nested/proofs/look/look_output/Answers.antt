@@ -1,7 +1,7 @@
 use Rattle.arm_value.specs.Look.{fold}
 use Rattle.arm_value.specs.View.{json}
 use Rattle.arm_env.specs.Look.{a_value}
-use Rattle.plan_cells.specs.Sites.{output_at}
+use Rattle.plan_sight.specs.Sites.{output_at}
 use Rattle.plan_table.specs.Whole.{whole_of}
 use Rattle.plan_nested.proofs.OutputLemmas.{shows_as, found_goes, found_stops}
 use Rattle.plan_nested.proofs.look.look_output.Goals as goal

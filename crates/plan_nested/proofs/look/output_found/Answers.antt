@@ -2,7 +2,7 @@ use Rattle.std.proofs.Common.{sym, ap, subst, ◌∙◌}
 use Rattle.arm_value.specs.Look.{fold}
 use Rattle.arm_value.specs.View.{json}
 use Rattle.arm_env.specs.Look.{a_value}
-use Rattle.plan_cells.specs.Sites.{output_at}
+use Rattle.plan_sight.specs.Sites.{output_at}
 use Rattle.plan_table.specs.Whole.{whole_of}
 use Rattle.plan_sight.specs.Ready.{told_in}
 use Rattle.plan_sight.specs.Seen.{Shows}

@@ -1,7 +1,7 @@
 use Rattle.std.proofs.Common.{subst}
 use Rattle.arm_value.specs.View.{json}
 use Rattle.arm_env.specs.Look.{a_value}
-use Rattle.plan_cells.specs.Sites.{value_of}
+use Rattle.plan_sight.specs.Sites.{value_of}
 use Rattle.plan_sight.specs.Ready.{told_in}
 use Rattle.plan_sight.specs.Seen.{Shows}
 use Rattle.plan_sight.proofs.LookLemmas.{found_some, found_none}

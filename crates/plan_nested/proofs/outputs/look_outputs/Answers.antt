@@ -1,7 +1,7 @@
 use Rattle.std.proofs.Common.{map}
 use Rattle.arm_env.specs.Look.{a_list}
 use Rattle.arm_env.specs.Sight.{declared_of}
-use Rattle.plan_cells.specs.Sites.{outputs_at}
+use Rattle.plan_sight.specs.Sites.{outputs_at}
 use Rattle.plan_table.specs.Whole.{whole_of}
 use Rattle.plan_nested.proofs.OutputLemmas.{shows_as, found_goes, found_stops}
 use Rattle.plan_nested.proofs.outputs.look_outputs.Goals as goal

@@ -1,7 +1,7 @@
 use Rattle.std.proofs.Common.{sym, ap, subst, ◌∙◌, map}
 use Rattle.arm_env.specs.Look.{a_list}
 use Rattle.arm_env.specs.Sight.{declared_of}
-use Rattle.plan_cells.specs.Sites.{outputs_at}
+use Rattle.plan_sight.specs.Sites.{outputs_at}
 use Rattle.plan_table.specs.Whole.{whole_of}
 use Rattle.plan_sight.specs.Ready.{told_in}
 use Rattle.plan_sight.specs.Seen.{Shows}

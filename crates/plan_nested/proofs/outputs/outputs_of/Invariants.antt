@@ -1,6 +1,6 @@
 use Rattle.std.proofs.Common.{◌≡◌, map, drop, Some}
 use Rattle.arm_env.specs.Sight.{declared_of}
-use Rattle.plan_cells.specs.Sites.{offered_outputs, outputs_in}
+use Rattle.plan_sight.specs.Sites.{offered_outputs, outputs_in}
 use Rattle.plan_table.specs.Found.{scope_at}
 use Rattle.plan_sight.specs.Ready.{told_in}
 use Rattle.plan_nested.proofs.OutputLemmas.{listed_rest}

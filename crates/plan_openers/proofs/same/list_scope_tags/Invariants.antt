@@ -1,7 +1,7 @@
 use Rattle.std.proofs.Common.{◌≡◌, ◌++◌, map, drop}
 use Rattle.tag_needs.specs.Tags.{tags_in}
 use Rattle.plan_table.specs.Whole.{whole_of, scopes_of}
-use Rattle.plan_tasks.specs.Start.{start_of}
+use Rattle.plan_refusals.specs.Start.{start_of}
 use Rattle.plan_openers.specs.SameNested.{scope_tags}
 use Rattle.plan_openers.proofs.same.list_scope_tags.Given as goal
 

@@ -1,6 +1,6 @@
 use Rattle.std.proofs.Common.{sym, ap, ◌∙◌, Some}
 use Rattle.arm_value.specs.View.{json}
-use Rattle.plan_cells.specs.Scopes.{with_deployment}
+use Rattle.plan_sight.specs.Scopes.{with_deployment}
 use Rattle.plan_places.proofs.NameLemmas.{no_place}
 use Rattle.plan_places.proofs.place.place_named.Goals as goal
 

@@ -1,6 +1,6 @@
 use Rattle.arm_value.specs.Look.{fold}
 use Rattle.arm_value.specs.View.{json}
-use Rattle.arm_env.specs.Look.{a_value}
+use Rattle.plan_table.specs.Look.{a_value}
 use Rattle.plan_sight.proofs.LookLemmas.{owner_within, found_some, found_none, parameter_shown, parameter_hidden}
 use Rattle.plan_sight.proofs.look.look_parameter.Goals as goal
 

@@ -1,6 +1,6 @@
 use Rattle.arm_value.specs.Look.{fold}
 use Rattle.arm_value.specs.View.{json}
-use Rattle.arm_env.specs.Look.{a_value}
+use Rattle.plan_table.specs.Look.{a_value}
 use Rattle.plan_sight.proofs.LookLemmas.{owner_within, found_some, found_none, variable_shown, variable_hidden}
 use Rattle.plan_sight.proofs.look.look_variable.Goals as goal
 

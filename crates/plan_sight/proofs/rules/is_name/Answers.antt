@@ -1,7 +1,7 @@
 use Rattle.std.proofs.Common.{sym, ap, ◌∙◌}
 use Rattle.std.specs.Prelude.{is_some}
 use Rattle.arm_value.specs.View.{json}
-use Rattle.arm_eval.specs.Titles.{key_at}
+use Rattle.plan_cells.specs.Titles.{key_at}
 use Rattle.plan_sight.proofs.RuleLemmas.{kind_here}
 use Rattle.plan_sight.proofs.rules.is_name.Goals as goal
 

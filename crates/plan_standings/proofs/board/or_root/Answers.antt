@@ -8,7 +8,7 @@ slash : chars (codes "/") ≡ codes "/"
 unfolding chars
 slash = refl
 
-pub returns-then-is_blank : goal.returns-then-is_blank
-returns-then-is_blank c =
+pub returns-then-is_empty : goal.returns-then-is_empty
+returns-then-is_empty c =
     subst (λ (w : List ℕ). IfOk c.of.result (λ t. t ≡ w))
-    (slash ∙ sym (blank_root c.args.text (sym c.is_blank.ensures ∙ c.if-is_blank.true))) c.of.ensures
+    (slash ∙ sym (blank_root c.args.text (sym c.is_empty.ensures ∙ c.if-is_empty.true))) c.of.ensures

@@ -1,7 +1,7 @@
 use Rattle.std.proofs.Common.{sym, ap, subst, Option, None}
 use Rattle.arm_env.specs.Look.{Fact, a_key}
 use Rattle.arm_value.specs.Json.{Json}
-use Rattle.plan_cells.specs.Sites.{named_by_texts}
+use Rattle.plan_sight.specs.Sites.{named_by_texts}
 use Rattle.plan_table.specs.Found.{scope_at}
 use Rattle.plan_table.specs.Whole.{whole_of}
 use Rattle.plan_sight.specs.Ready.{told_in}

@@ -1,5 +1,5 @@
 use Rattle.std.proofs.Common.{◌≡◌, ◌++◌, drop, map}
-use Rattle.plan_cells.specs.Sites.{symbols_in}
+use Rattle.plan_sight.specs.Sites.{symbols_in}
 use Rattle.plan_table.specs.Listed.{listed_of}
 use Rattle.plan_telling.specs.Symbols.{symbolic}
 use Rattle.plan_telling.proofs.symbols.symbols_of.Given as goal

@@ -1,5 +1,5 @@
 use Rattle.std.proofs.Common.{sym, ap, ◌∙◌, map}
-use Rattle.plan_cells.specs.Sites.{symbols_in}
+use Rattle.plan_sight.specs.Sites.{symbols_in}
 use Rattle.plan_table.specs.Listed.{listed_of}
 use Rattle.plan_sight.proofs.LookLemmas.{scope_is}
 use Rattle.plan_telling.specs.Symbols.{symbolic, symbols_at}

@@ -1,5 +1,5 @@
 use Rattle.arm_value.specs.View.{json}
-use Rattle.plan_cells.specs.Sites.{surroundings}
+use Rattle.plan_sight.specs.Sites.{surroundings}
 use Rattle.plan_telling.specs.Sources.{meaning_of, site_in}
 use Rattle.plan_telling.proofs.TellLemmas.{value_told}
 use Rattle.plan_telling.proofs.telling.told_plainly.Goals as goal

@@ -4,7 +4,7 @@ use Rattle.arm_eval.specs.Titles as titles
 use Rattle.arm_eval.specs.Titles.{titled}
 use Rattle.arm_eval.specs.Words.{listed_in}
 use Rattle.reading.specs.Reading.{through}
-use Rattle.plan_cells.specs.Sites.{surroundings}
+use Rattle.plan_sight.specs.Sites.{surroundings}
 use Rattle.plan_sight.specs.Ready.{told_in}
 use Rattle.plan_sight.specs.Seen.{Yields}
 use Rattle.plan_sights.specs.Seats.{seat_of}

@@ -1,4 +1,5 @@
-use Rattle.std.proofs.Common.{◌≡◌, ◌⊎◌, inl, inr, true, Some, sym, ◌∙◌, subst}
+use Rattle.std.proofs.Common.{◌≡◌, ◌⊎◌, inl, inr, true, sym, ◌∙◌, subst}
+use Rattle.std.proofs.lemmas.Option.{same_Some}
 use Rattle.deploy_cells.specs.Cells.{World}
 use Rattle.plan_cells.specs.Plan.{IsListed, IsPlan}
 use Rattle.plan_cells.specs.Tasks.{Task}
@@ -13,9 +14,6 @@ use Rattle.program_histories.specs.Starts.{planned}
 use Rattle.program_histories.proofs.ReadLemmas.{reads_are_needs}
 use Rattle.program_histories.proofs.StartLemmas.{started_by, done_first}
 use Rattle.program_histories.proofs.laws.needs_come_first.Goals as goal
-
-same_task : (a b : Task) → Some a ≡ Some b → a ≡ b
-same_task a b e = cc
 
 pub returns : goal.returns
 returns c = λ z d u bound mode held k t ns dep symbols is_planned are p w sat so e i may starts j x y a b first second f
@@ -32,7 +30,7 @@ returns c = λ z d u bound mode held k t ns dep symbols is_planned are p w sat s
     let world = (c.desired_states_are_the_same.ensures.forth z d u bound held dep w sat).1.is_world in
     let s = started_by plan p e i may starts in
     let known = s.may.known in
-    let same : s.started ≡ a = same_task s.started a (sym s.may.is_task ∙ first) in
+    let same : s.started ≡ a = same_Some s.started a (sym s.may.is_task ∙ first) in
     let ready : IsReadyWith plan known p i a s.body =
     subst (λ (q : Task). IsReadyWith plan known p i q s.body) same
     ((c.ready_tasks.ensures plan known p i s.started s.body).0 s.may.is_ready) in

@@ -1,5 +1,4 @@
 use Rattle.std.proofs.Common.{List, sym, subst}
-use Rattle.template_parts.specs.declared.mode.Form.TheVariants.{One}
 use Rattle.template_tree.specs.View.{template_tree}
 use Rattle.bicep_program.specs.Program.{files_of}
 use Rattle.resolved_program.specs.View.{files_view}
@@ -12,15 +11,15 @@ use Rattle.program_laws.proofs.ProgramLemmas.{files_are}
 use Rattle.program_laws.proofs.laws.emitted_programs_are_deployed.Goals as goal
 
 pub returns : goal.returns
-returns c = λ p k t d bound held h emission binding holds.
+returns c = λ z p k t d bound held h emission binding holds.
     let ps = files_of p in
     let rs = files_view k.resolved in
     let are : AreFilesOf rs d.files =
     subst (λ (fs : List SourceFile). AreFilesOf rs fs) (sym h.files)
-    (files_are One (c.source_files_are_of_texts.ensures.file One) (trees_of ps) rs
+    (files_are z (c.source_files_are_of_texts.ensures.file z) (trees_of ps) rs
     (sizes_same ps rs h.checked.resolved)) in
     record {
-      emitted = subst (λ (fs : List SourceFile). IsEmitted One fs (template_tree t)) (sym h.files) emission.emitted;
+      emitted = subst (λ (fs : List SourceFile). IsEmitted z fs (template_tree t)) (sym h.files) emission.emitted;
       sound =
           c.read_and_checked_programs_are_sound.ensures h.loaded.0 ps h.loaded.1.1.read rs h.checked.resolved h.none d
           are h.place;

@@ -1,5 +1,4 @@
 use Rattle.std.proofs.Common.{List, sym, subst}
-use Rattle.template_parts.specs.declared.mode.Form.TheVariants.{One}
 use Rattle.bicep_program.specs.Program.{files_of}
 use Rattle.resolved_program.specs.View.{files_view}
 use Rattle.bicep_meaning.specs.Files.{SourceFile}
@@ -10,10 +9,10 @@ use Rattle.program_laws.proofs.ProgramLemmas.{files_are}
 use Rattle.program_laws.proofs.laws.emitted_programs_have_symbols.Goals as goal
 
 pub returns : goal.returns
-returns c = λ p k d h.
+returns c = λ z p k d h.
     let ps = files_of p in
     let rs = files_view k.resolved in
     c.symbols_of_checked_programs_differ.ensures h.loaded.0 ps h.loaded.1.1.read rs h.checked.resolved h.none d
     (subst (λ (fs : List SourceFile). AreFilesOf rs fs) (sym h.files)
-    (files_are One (c.source_files_are_of_texts.ensures.file One) (trees_of ps) rs
+    (files_are z (c.source_files_are_of_texts.ensures.file z) (trees_of ps) rs
     (sizes_same ps rs h.checked.resolved)))

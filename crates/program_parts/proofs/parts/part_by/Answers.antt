@@ -27,8 +27,8 @@ file_parts-requires-clause-loops c =
 pub returns-in-Some-clause-part : goal.returns-in-Some-clause-part
 returns-in-Some-clause-part c =
     is_part c.args.sources.now c.args.files.now c.requires.read.read c.args.number c.args.source.now
-    c.in-Some.file.now (record { text = c.requires.read.text; file = c.in-Some.ensures }) c.file_parts.result
-    c.file_parts.ensures.parts
+    c.in-Some.file.now (record { text = c.requires.read.text; file = c.in-Some.ensures }) c.args.form
+    c.file_parts.result c.file_parts.ensures.parts
 
 pub returns-in-Some-clause-fault : goal.returns-in-Some-clause-fault
 returns-in-Some-clause-fault c =

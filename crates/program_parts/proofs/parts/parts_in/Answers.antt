@@ -8,7 +8,7 @@ pub loop-order-init : goal.loop-order-init
 loop-order-init c = record {
   most = omega arith;
   count = ap length c.requires.empty;
-  each = subst (AreParts c.args.sources.now c.args.files.now) (sym c.requires.empty) tt;
+  each = subst (AreParts c.args.form c.args.sources.now c.args.files.now) (sym c.requires.empty) tt;
 }
 
 pub loop-order-preserved : goal.loop-order-preserved

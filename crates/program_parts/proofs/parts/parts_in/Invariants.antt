@@ -5,4 +5,4 @@ use Rattle.program_parts.proofs.parts.parts_in.Given as goal
 
 -- the parts of the files before
 abbrev pub invariant-loop-order : goal.invariant-loop-order
-invariant-loop-order l = SoFar (AreParts l.sources l.files) l.all.items l.order-index (length l.orders)
+invariant-loop-order l = SoFar (AreParts l.form l.sources l.files) l.all.items l.order-index (length l.orders)

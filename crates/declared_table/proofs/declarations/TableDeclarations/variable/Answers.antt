@@ -1,5 +1,5 @@
-use Rattle.bicep_emission.specs.Emitted.{no_value}
-use Rattle.emitted_parts.specs.Built.{Is}
+use Rattle.emitted_expressions.specs.Emitted.{no_value}
+use Rattle.emitted_expressions.specs.Built.{Is}
 use Rattle.declared_table.specs.Seen.{whole_in, is_known}
 use Rattle.declared_table.proofs.PartLemmas.{part_there, part_absent}
 use Rattle.declared_table.proofs.declarations.TableDeclarations.variable.Goals as goal

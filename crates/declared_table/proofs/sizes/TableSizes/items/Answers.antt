@@ -1,4 +1,4 @@
-use Rattle.bicep_emission.specs.Emitted.{no_value}
+use Rattle.emitted_expressions.specs.Emitted.{no_value}
 use Rattle.emitted_sizes.specs.Extent.{IsOf}
 use Rattle.declared_table.specs.Seen.{whole_in, is_known}
 use Rattle.declared_table.proofs.PartLemmas.{part_there, part_absent}

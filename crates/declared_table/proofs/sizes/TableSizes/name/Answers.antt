@@ -1,6 +1,6 @@
 use Rattle.std.proofs.Common.{◌∷◌, []}
-use Rattle.bicep_emission.specs.Emitted.{no_value}
-use Rattle.emission_laws.specs.Holes.{fill, holes, nearest}
+use Rattle.emitted_expressions.specs.Emitted.{no_value}
+use Rattle.ordered_emissions.specs.Holes.{fill, holes, nearest}
 use Rattle.emitted_sizes.specs.Extent.{IsOf}
 use Rattle.declared_table.specs.Seen.{whole_in, is_known}
 use Rattle.declared_table.proofs.PartLemmas.{part_there, part_absent}

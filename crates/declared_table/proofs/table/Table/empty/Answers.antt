@@ -1,7 +1,7 @@
 use Rattle.std.proofs.Common.{[], List, Option, ℕ, map, ap, sym, subst, rules}
 use Rattle.bicep_symbols.specs.Entries.{symbol_of}
-use Rattle.bicep_declared.specs.View.{declared_tree}
-use Rattle.emitted_declarations.specs.Declared.{whole}
+use Rattle.declared_types.specs.View.{declared_tree}
+use Rattle.kept_parts.specs.Declared.{whole}
 use Rattle.declared_table.specs.Seen.{file_of, files_of}
 use Rattle.declared_table.specs.Entries.{AreEntries}
 use Rattle.declared_table.specs.declared.entry.Entry.{Entry}

@@ -1,6 +1,6 @@
 use Rattle.std.proofs.Common.{◌∷◌, [], sym, subst}
-use Rattle.emission_laws.specs.Holes.{holes}
-use Rattle.bicep_meaning.specs.Files.{type_of}
+use Rattle.ordered_emissions.specs.Holes.{holes}
+use Rattle.emitted_expressions.specs.Files.{type_of}
 use Rattle.kept_parts.specs.Kept.{AreKeptHoles}
 use Rattle.declared_table.specs.Seen.{file_in, whole_in}
 use Rattle.declared_table.proofs.RunLemmas.{id_measured, no_id_measured}

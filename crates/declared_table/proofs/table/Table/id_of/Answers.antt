@@ -1,7 +1,7 @@
 use Rattle.std.proofs.Common.{◌∷◌, [], map, sym, subst}
-use Rattle.emission_laws.specs.Holes.{fill, holes, nearest}
-use Rattle.emitted_declarations.specs.Declared.{id_of_parts}
-use Rattle.emitted_parts.specs.Built.{Is}
+use Rattle.ordered_emissions.specs.Holes.{fill, holes, nearest}
+use Rattle.kept_parts.specs.Declared.{id_of_parts}
+use Rattle.emitted_expressions.specs.Built.{Is}
 use Rattle.emitted_expressions.specs.Sight.{frames_of}
 use Rattle.kept_parts.specs.Kept.{AreKeptHoles}
 use Rattle.declared_table.specs.Seen.{file_in, whole_in}

@@ -1,6 +1,6 @@
 use Rattle.std.proofs.Common.{sym, subst}
 use Rattle.std.proofs.lemmas.Str.{chars-nil}
-use Rattle.emitted_parts.specs.Built.{IsText}
+use Rattle.emitted_expressions.specs.Built.{IsText}
 use Rattle.declared_table.proofs.table.Table.kind_of.Goals as goal
 
 pub returns-in-Some : goal.returns-in-Some

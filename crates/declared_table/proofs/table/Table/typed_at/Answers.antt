@@ -1,5 +1,5 @@
 use Rattle.std.proofs.Common.{◌≡◌, [], subst}
-use Rattle.bicep_meaning.specs.Files.{type_of, typed}
+use Rattle.emitted_expressions.specs.Files.{type_of, typed}
 use Rattle.declared_types.specs.Types.{typed_of}
 use Rattle.declared_table.specs.Seen.{Shape, file_of, file_in}
 use Rattle.declared_table.proofs.TypeLemmas.{type_there, type_absent}

@@ -2,7 +2,7 @@ use Rattle.std.proofs.Common.{◌≡◌, ◌∙◌, ◌++◌, ◌≤◌, ℕ, []
 use Rattle.std.proofs.Common.{Global}
 use Rattle.std.specs.Option.{option_to_list}
 use Rattle.std.specs.Prelude.{filter}
-use Rattle.std.proofs.lemmas.List.{length-map, length-set}
+use Rattle.std.proofs.lemmas.List.{length-map, length-set, get_or_default}
 use Rattle.std.proofs.lemmas.List.Elements.{same_from_all_zip}
 use Rattle.depend_graph.specs.Shape.{Shape, times}
 use Rattle.depend_graph.specs.Kept.{IsKept}
@@ -10,7 +10,7 @@ use Rattle.depend_graph.specs.Sets.{items_of_each}
 use Rattle.std.proofs.Math.ListN.{set}
 use Rattle.depend_graph.specs.Circles.{can_start, HasCome, InOrder}
 use Rattle.depend_graph.proofs.Ordering.{ordered_begun, ordered_next}
-use Rattle.depend_graph.proofs.Lists.{get_map, get_any}
+use Rattle.depend_graph.proofs.Lists.{get_map}
 use Rattle.depend_graph.proofs.Keeping.{written_back}
 use Rattle.depend_graph.proofs.Peeling.{Lists, lists_more, begun, passed, top, marked_next, counts_down}
 use Rattle.depend_graph.proofs.Peeling.{dependents_are_nodes, less_to_do}
@@ -61,7 +61,7 @@ loop-node-2-preserved c =
       has_come =
           passed c.args.self.now c.loop-node-2.done.items c.loop-node-2.unmet.items c.loop-node-2.ready.items
           c.pop.new.self.items c.in-Some.node c.loop-node-2.invariant.has_come popped
-          (get_any c.loop-node-2.done.items c.in-Some.node false c.index.result.now
+          (get_or_default c.loop-node-2.done.items c.in-Some.node false c.index.result.now
           (omega (arith, c.loop-node-2.invariant.has_come.done_size, here.0)) ∙ sym c.index.ensures
           ∙ c.if-not-index.false);
       in_order = c.loop-node-2.invariant.in_order;
@@ -119,7 +119,7 @@ count_down-requires c = λ u.
     let kept = subst (λ (s : Shape). IsKept s.needs dependents s.done c.self.inside.unmet.items) c.self.view_is
     c.self.invariant in
     let free : get_or c.loop-node-2.done.items c.in-Some.node false ≡ false =
-    get_any c.loop-node-2.done.items c.in-Some.node false c.index.result.now
+    get_or_default c.loop-node-2.done.items c.in-Some.node false c.index.result.now
     (omega (arith, c.loop-node-2.invariant.has_come.done_size, here.0)) ∙ sym c.index.ensures ∙ c.if-not-index.true in
     let listed = get_map (λ (v : Vec ℕ Global). v.items) c.self.inside.dependents.items c.in-Some.node
     c.index-then-not-index.result.now []
@@ -174,7 +174,7 @@ loop-node-2-smaller-in-Continue-branch-5 c =
     let kept = subst (λ (s : Shape). IsKept s.needs dependents s.done c.self.inside.unmet.items) c.self.view_is
     c.self.invariant in
     let free : get_or done node false ≡ false =
-    get_any done node false c.index.result.now (omega (arith, c.loop-node-2.invariant.has_come.done_size, here.0))
+    get_or_default done node false c.index.result.now (omega (arith, c.loop-node-2.invariant.has_come.done_size, here.0))
     ∙ sym c.index.ensures ∙ c.if-not-index.true in
     let listed =
     get_map (λ (v : Vec ℕ Global). v.items) c.self.inside.dependents.items node
@@ -207,7 +207,7 @@ loop-node-2-preserved-in-Continue-branch-5 c =
     let kept = subst (λ (s : Shape). IsKept s.needs dependents s.done c.self.inside.unmet.items) c.self.view_is
     c.self.invariant in
     let free : get_or done node false ≡ false =
-    get_any done node false c.index.result.now (omega (arith, c.loop-node-2.invariant.has_come.done_size, here.0))
+    get_or_default done node false c.index.result.now (omega (arith, c.loop-node-2.invariant.has_come.done_size, here.0))
     ∙ sym c.index.ensures ∙ c.if-not-index.true in
     let listed =
     get_map (λ (v : Vec ℕ Global). v.items) c.self.inside.dependents.items node c.index-then-not-index.result.now

@@ -1,9 +1,10 @@
 use Rattle.std.proofs.Common.{◌∙◌, ◌∷◌, [], ◌||◌, length, arith, refl, ap, length-append, length-set, sym}
+use Rattle.foundation.proofs.TruthValues.{or_turned}
 use Rattle.dealer_trait.specs.Steps.{answered}
 use Rattle.driver_fakes.specs.Stages.{stage_of, has_refusal, is_refused}
 use Rattle.driver_fakes.specs.declared.stage.Stage.TheVariants.{Done}
 use Rattle.driver_fakes.proofs.StageLemmas.{ending, stages_after, answer_sets, count_closed, done_after, open_not_done}
-use Rattle.driver_fakes.proofs.StageLemmas.{has_refusal-push, or_comm}
+use Rattle.driver_fakes.proofs.StageLemmas.{has_refusal-push}
 use Rattle.driver_fakes.proofs.scripted_dealer.ScriptedDealerDealer.answer.Goals as goal
 
 pub push_step-requires : goal.push_step-requires
@@ -63,7 +64,7 @@ pub invariant_of-self-clause-refused_is : goal.invariant_of-self-clause-refused_
 invariant_of-self-clause-refused_is c =
     let d = c.args.self.now in
     c.has_refused-self.ensures ∙ ap (λ b. is_refused c.args.answer || b) d.refused_is
-    ∙ or_comm (is_refused c.args.answer) (has_refusal d.steps.items)
+    ∙ or_turned (is_refused c.args.answer) (has_refusal d.steps.items)
     ∙ sym (ap has_refusal c.push_step.ensures.steps
     ∙ has_refusal-push d.steps.items (answered c.args.task c.args.answer))
 

@@ -1,6 +1,6 @@
 use Rattle.std.proofs.Common.{refl, arith}
 use Rattle.std.proofs.lemmas.List.{length-map}
-use Rattle.deploy_cells.specs.Cells.{deployments}
+use Rattle.plan_filling.specs.Cells.{deployments}
 use Rattle.plan_table.specs.Opened.{opened_of}
 use Rattle.plan_table.specs.Found.{scope_at}
 use Rattle.plan_table.proofs.FoundLemmas.{line_there, no_deployments}

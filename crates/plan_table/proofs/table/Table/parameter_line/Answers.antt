@@ -1,7 +1,7 @@
 use Rattle.std.proofs.Common.{ℕ, refl, ◌∙◌, sym, arith}
 use Rattle.std.proofs.lemmas.List.{length-map}
 use Rattle.arm_value.specs.Look.{fold}
-use Rattle.deploy_cells.specs.Cells.{step, offered, count, parameter}
+use Rattle.plan_filling.specs.Cells.{step, offered, count, parameter}
 use Rattle.plan_table.specs.Opened.{opened_of}
 use Rattle.plan_table.specs.Lines.{IsNumber}
 use Rattle.plan_table.specs.Found.{scope_at, HasCell, IsLineOf, state_at, Counts, IsTrueLine}

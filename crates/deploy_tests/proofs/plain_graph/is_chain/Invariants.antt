@@ -1,6 +1,0 @@
-use Rattle.std.proofs.Common.{◌≡◌, drop}
-use Rattle.deploy_tests.specs.Edges.{is_chain}
-use Rattle.deploy_tests.proofs.plain_graph.is_chain.Given as goal
-
-abbrev pub invariant-loop-i : goal.invariant-loop-i
-invariant-loop-i l = is_chain l.edges l.done l.nodes l.end ≡ is_chain l.edges l.done (drop l.i l.nodes) l.end

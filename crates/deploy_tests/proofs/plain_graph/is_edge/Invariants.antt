@@ -1,6 +1,0 @@
-use Rattle.std.proofs.Common.{◌≡◌, drop}
-use Rattle.deploy_tests.specs.Edges.{is_edge}
-use Rattle.deploy_tests.proofs.plain_graph.is_edge.Given as goal
-
-abbrev pub invariant-loop-edge : goal.invariant-loop-edge
-invariant-loop-edge l = is_edge l.edges l.node l.need ≡ is_edge (drop l.edge-index l.edges) l.node l.need

@@ -1,0 +1,5 @@
+pub mod LengthLemmas
+mod SizeLemmas
+mod PutLemmas
+mod TreeLemmas
+pub mod NestedLemmas

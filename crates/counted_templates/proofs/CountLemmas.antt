@@ -22,12 +22,12 @@ use Rattle.bicep_meaning.specs.Instances.{is_parameter, put_by, variable_by}
 use Rattle.source_worlds.specs.Numbers.{passing, is_put, is_resource, name_of, inserted, by_name, in_template}
 use Rattle.file_counts.specs.Counts.{count, beyond, first_beyond, is_parameter_at, is_entry_by, is_entry_at}
 use Rattle.file_counts.specs.Counts as counts
-use Rattle.emitted_templates.specs.Built.{Templates, template_of, AreBuilt}
-use Rattle.emitted_templates.specs.Found.{one_if, declared_before}
-use Rattle.emitted_templates.specs.Lists.{parameter_at, entry_at, parameter_count, variable_count}
-use Rattle.emitted_templates.specs.Seen.{Shape, file_in}
-use Rattle.emitted_templates.specs.Templates.{IsTemplateOf}
-use Rattle.emitted_templates.proofs.ListedLemmas.{childless_by, existing_by}
+use Rattle.existing_templates.specs.Built.{Templates, template_of, AreBuilt}
+use Rattle.existing_templates.specs.Found.{one_if, declared_before}
+use Rattle.existing_templates.specs.Lists.{parameter_at, entry_at, parameter_count, variable_count}
+use Rattle.existing_templates.specs.Seen.{Shape, file_in}
+use Rattle.existing_templates.specs.Templates.{IsTemplateOf}
+use Rattle.existing_templates.proofs.ListedLemmas.{childless_by, existing_by}
 use Rattle.counted_templates.specs.Counted.{put_count, HasFewParts}
 
 -- ---- what declares something is counted by a test

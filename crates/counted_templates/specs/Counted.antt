@@ -7,10 +7,10 @@ use Rattle.template_tree.specs.View.{template_tree}
 use Rattle.template_tree.specs.declared.resource.Template.{Template}
 use Rattle.plan_cells.specs.Resources.{Listed, header_in, resources_in}
 use Rattle.file_counts.specs.Counts.{first_beyond}
-use Rattle.emitted_templates.specs.Built.{Templates}
-use Rattle.emitted_templates.specs.Found.{one_if}
-use Rattle.emitted_templates.specs.Seen.{Shape, file_in}
-use Rattle.emitted_templates.specs.Templates.{IsTemplateOf}
+use Rattle.existing_templates.specs.Built.{Templates}
+use Rattle.existing_templates.specs.Found.{one_if}
+use Rattle.existing_templates.specs.Seen.{Shape, file_in}
+use Rattle.existing_templates.specs.Templates.{IsTemplateOf}
 
 -- how many of these resources do not exist already
 abbrev pub put_count : List Listed → ℕ

@@ -6,4 +6,9 @@
 
 pub mod laws;
 
+pub use existing_templates::laws::templates_have_existing_resources;
+pub use existing_templates::{
+    Measure, Table, files_within_the_limits_fit, measured_file, template, templates_have_metadata,
+    templates_have_the_parts_of_the_file,
+};
 pub use file_counts::first_beyond;

@@ -4,6 +4,7 @@ ghost use Rattle.deploy_cli.specs.Clauses as spec;
 
 use crate::calls::{Listing, Shown, say_calls, text_of};
 use crate::checks::{compare, letting_go};
+use crate::rows::file_of;
 use arm_edges::{MemFile, MemLink, MemSink, MemTree};
 use arm_value::{Bytes, Text};
 use command_words::USAGE;
@@ -29,22 +30,15 @@ pub fn apart(alloc: Global, text: &str) -> Result<Vec<String>, Fail> {
     Ok(words)
 }
 
-fn file_of(alloc: Global, text: &str) -> Result<MemFile, AllocError> {
-    Ok(MemFile {
-        name: String::from_str(alloc, "main.bicep")?,
-        bytes: Bytes::from_vec(text.as_bytes().to_vec(alloc)?),
-    })
-}
-
 /// A tree whose file `main.bicep` has this text; the calls of those numbers fail.
 pub fn tree_of(alloc: Global, main: &str, fails: &[u64]) -> Result<MemTree, Fail> {
     let mut files = Vec::new(alloc);
-    files.push(file_of(alloc, main)?)?;
+    files.push(file_of(alloc, "main.bicep", main.as_bytes())?)?;
     Ok(MemTree::new(alloc, files, fails.to_vec(alloc)?))
 }
 
-// A disk without room, on which no call is made.
-fn no_disk(alloc: Global) -> Result<MemDisk, Fail> {
+/// A disk without room, on which no call is made.
+pub fn no_disk(alloc: Global) -> Result<MemDisk, Fail> {
     let contents = Contents {
         a: Vec::new(alloc),
         b: Vec::new(alloc),

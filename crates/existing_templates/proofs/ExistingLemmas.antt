@@ -20,16 +20,16 @@ use Rattle.source_worlds.specs.Numbers.{in_template, is_put, name_of}
 use Rattle.emitted_resources.specs.Heads.{whole_name}
 use Rattle.emitted_resources.specs.Limits.{HeadIsWithin}
 use Rattle.emitted_resources.proofs.ResourceLemmas.{name_within, loop_is}
-use Rattle.emitted_templates.specs.Built.{Templates, template_of, declared_by, body_in, IsBuiltFor, IsExistingOf}
-use Rattle.emitted_templates.specs.Files.{IsLoop}
-use Rattle.emitted_templates.specs.Fits.{IsReady}
-use Rattle.emitted_templates.specs.Seen.{Shape, file_in, files_in, whole_in}
-use Rattle.emitted_templates.specs.Templates.{IsTemplateOf}
-use Rattle.emitted_templates.specs.Values.{AreBoth}
-use Rattle.emitted_templates.specs.Within.{IsWithinBy, IsWithin}
-use Rattle.emitted_templates.proofs.EachLemmas.{each_at, passing_each}
-use Rattle.emitted_templates.proofs.ListedLemmas.{IsAt, at_place}
-use Rattle.emitted_templates.proofs.NameLemmas.{named}
+use Rattle.file_limits.specs.Built.{Templates, template_of, declared_by, body_in, IsBuiltFor, IsExistingOf}
+use Rattle.file_limits.specs.Files.{IsLoop}
+use Rattle.file_limits.specs.Fits.{IsReady}
+use Rattle.file_limits.specs.Seen.{Shape, file_in, files_in, whole_in}
+use Rattle.file_limits.specs.Templates.{IsTemplateOf}
+use Rattle.file_limits.specs.Values.{AreBoth}
+use Rattle.file_limits.specs.Within.{IsWithinBy, IsWithin}
+use Rattle.file_limits.proofs.EachLemmas.{each_at, passing_each}
+use Rattle.file_limits.proofs.ListedLemmas.{IsAt, at_place}
+use Rattle.file_limits.proofs.NameLemmas.{named}
 use Rattle.existing_templates.specs.Existing.{IsExisting, HasExisting}
 
 module _ (s : Shape) (ready : IsReady s) (n at : ℕ) (q : Quoted) (b : BodyTree)

@@ -13,13 +13,13 @@ use Rattle.bicep_meaning.specs.Files.{SourceFile, declaration, symbol_name}
 use Rattle.bicep_meaning.specs.Instances.{resource_kind}
 use Rattle.emitted_declarations.specs.Declared.{whole}
 use Rattle.source_worlds.specs.Numbers.{in_template}
-use Rattle.emitted_templates.specs.Built.{Templates}
-use Rattle.emitted_templates.specs.Files.{IsLoop, frames_around}
-use Rattle.emitted_templates.specs.Fits.{IsReady}
-use Rattle.emitted_templates.specs.Seen.{Shape, file_in, files_in}
-use Rattle.emitted_templates.specs.Templates.{IsTemplateOf}
-use Rattle.emitted_templates.specs.Values.{AreBoth, IsTree, plain_or_expression}
-use Rattle.emitted_templates.specs.Within.{IsWithin}
+use Rattle.file_limits.specs.Built.{Templates}
+use Rattle.file_limits.specs.Files.{IsLoop, frames_around}
+use Rattle.file_limits.specs.Fits.{IsReady}
+use Rattle.file_limits.specs.Seen.{Shape, file_in, files_in}
+use Rattle.file_limits.specs.Templates.{IsTemplateOf}
+use Rattle.file_limits.specs.Values.{AreBoth, IsTree, plain_or_expression}
+use Rattle.file_limits.specs.Within.{IsWithin}
 
 -- the existing resource of a symbol that has this body: it has the type, the version, the name and the loop of its
 -- declaration, the name of its symbol, and nothing else

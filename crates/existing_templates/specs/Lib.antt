@@ -1,1 +1,16 @@
 pub mod Existing
+pub use Rattle.file_limits.specs.Laws
+pub use Rattle.file_limits.specs.Built
+pub use Rattle.file_limits.specs.Extremes
+pub use Rattle.file_limits.specs.Files
+pub use Rattle.file_limits.specs.Fits
+pub use Rattle.file_limits.specs.Found
+pub use Rattle.file_limits.specs.Limited
+pub use Rattle.file_limits.specs.Lists
+pub use Rattle.file_limits.specs.Metadata
+pub use Rattle.file_limits.specs.Modules
+pub use Rattle.file_limits.specs.Parts
+pub use Rattle.file_limits.specs.Seen
+pub use Rattle.file_limits.specs.Templates
+pub use Rattle.file_limits.specs.Values
+pub use Rattle.file_limits.specs.Within

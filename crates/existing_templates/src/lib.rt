@@ -4,3 +4,9 @@
 #![tactic(auto)]
 
 pub mod laws;
+
+pub use file_limits::laws::files_within_the_limits_fit;
+pub use file_limits::{
+    Measure, Table, measured_file, template, templates_have_metadata,
+    templates_have_the_parts_of_the_file,
+};

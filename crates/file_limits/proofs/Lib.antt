@@ -5,3 +5,5 @@ mod PrintLemmas
 mod HeadLemmas
 mod FitLemmas
 pub use Rattle.emitted_templates.proofs.ListedLemmas
+pub use Rattle.emitted_templates.proofs.EachLemmas
+pub use Rattle.emitted_templates.proofs.NameLemmas

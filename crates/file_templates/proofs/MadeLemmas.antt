@@ -9,10 +9,10 @@ use Rattle.template_tree.specs.declared.resource.Template.{Template}
 use Rattle.bicep_tree.specs.Tree.{FileTree}
 use Rattle.resolved_program.specs.declared.resolved.ResolvedFile.{ResolvedFile}
 use Rattle.agreeing_files.specs.Agreeing.{outputs_of}
-use Rattle.counted_templates.specs.Counted.{TemplatesHaveFewParts}
-use Rattle.counted_templates.specs.Counts.{first_beyond}
+use Rattle.source_templates.specs.Counted.{TemplatesHaveFewParts}
+use Rattle.source_templates.specs.Counts.{first_beyond}
 use Rattle.source_templates.specs.Seen.{Shape, file_in, files_in, files_of}
-use Rattle.kept_templates.specs.Kept.{TemplatesKeepTheRules}
+use Rattle.source_templates.specs.Kept.{TemplatesKeepTheRules}
 use Rattle.source_templates.specs.Built.{Templates}
 use Rattle.source_templates.specs.Fits.{IsReady}
 use Rattle.source_templates.specs.Lists.{SymbolsDiffer}

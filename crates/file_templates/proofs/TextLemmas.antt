@@ -34,12 +34,11 @@ use Rattle.source_templates.specs.Fits.{IsReady, AreMentioned}
 use Rattle.foundation.proofs.Comparisons.{le_true}
 use Rattle.template_tree.specs.declared.resource.Template.{Template}
 use Rattle.template_written.specs.Keeps.{KeepsBatches}
-use Rattle.kept_templates.specs.Laws.{CheckedFilesArePlaced}
-use Rattle.kept_templates.specs.Kept.{AreBatchesSmall}
+use Rattle.source_templates.specs.Kept.{AreBatchesSmall, CheckedFilesArePlaced}
 use Rattle.measured_trees.specs.Limits.{IsBeyond}
 use Rattle.file_metadata.specs.Files.{IsMetadataOf}
 use Rattle.file_metadata.specs.declared.files.FileMetadata.{FileMetadata}
-use Rattle.counted_templates.specs.Counts.{first_beyond}
+use Rattle.source_templates.specs.Counts.{first_beyond}
 use Rattle.source_templates.specs.Laws.{FilesWithinLimitsFit}
 use Rattle.source_templates.specs.Limited.{AllIsPrintable}
 use Rattle.file_tables.specs.Orders as tables

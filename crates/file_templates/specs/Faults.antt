@@ -8,7 +8,7 @@ use Rattle.symbol_decorators.specs.Limits.{IsFault}
 use Rattle.symbol_decorators.specs.declared.fault.BatchFault.{BatchFault}
 use Rattle.symbol_decorators.specs.declared.fault.BatchFault.TheVariants as batch
 use Rattle.source_templates.specs.Seen.{Shape, file_in}
-use Rattle.counted_templates.specs.Counts.{first_beyond}
+use Rattle.source_templates.specs.Counts.{first_beyond}
 use Rattle.file_templates.specs.Texts.{IsTabled}
 use Rattle.file_templates.specs.declared.fault.EmitFault.{EmitFault}
 use Rattle.file_templates.specs.declared.fault.EmitFault.TheVariants as fault

@@ -23,13 +23,13 @@ use Rattle.source_templates.specs.Within.{IsWithin}
 use Rattle.source_templates.specs.Templates.{CanBeListed}
 use Rattle.source_templates.specs.Existing.{HasExisting}
 use Rattle.source_templates.specs.Metadata.{HasMetadata}
-use Rattle.counted_templates.specs.Counted.{HasFewParts}
-use Rattle.counted_templates.specs.Counts.{first_beyond}
+use Rattle.source_templates.specs.Counted.{HasFewParts}
+use Rattle.source_templates.specs.Counts.{first_beyond}
 use Rattle.file_metadata.specs.Files.{IsMetadataOf, output_metadata, symbol_metadata}
 use Rattle.file_metadata.specs.declared.files.FileMetadata.{FileMetadata}
 use Rattle.template_written.specs.Keeps.{Keeps}
-use Rattle.kept_templates.specs.Placed.{IsPlaced}
-use Rattle.kept_templates.specs.Kept.{AllKept, AreBatchesSmall}
+use Rattle.source_templates.specs.Placed.{IsPlaced}
+use Rattle.source_templates.specs.Kept.{AllKept, AreBatchesSmall}
 use Rattle.source_templates.specs.Texts.{IsOfText}
 use Rattle.source_templates.specs.Kinds.{HasKinds}
 use Rattle.file_templates.specs.Parts.{ArePartsFor}

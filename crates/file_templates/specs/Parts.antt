@@ -19,7 +19,7 @@ use Rattle.measured_trees.specs.declared.measure.Measure.{Measure}
 use Rattle.source_templates.specs.Seen.{Shape, file_in}
 use Rattle.source_templates.specs.Lists.{AreRules, rule_at}
 use Rattle.source_templates.specs.Fits.{AreMentioned}
-use Rattle.counted_templates.specs.Counts.{first_beyond}
+use Rattle.source_templates.specs.Counts.{first_beyond}
 use Rattle.source_templates.specs.Extremes.{file_extremes}
 use Rattle.file_metadata.specs.Files.{IsMetadataOf}
 use Rattle.file_metadata.specs.declared.files.FileMetadata.{FileMetadata}

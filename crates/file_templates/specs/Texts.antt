@@ -10,10 +10,10 @@ use Rattle.file_tables.specs.Files.{IsFileOf}
 use Rattle.symbol_decorators.specs.Batches.{HasBatches, batches_of}
 use Rattle.symbol_decorators.specs.Limits.{IsSmall}
 use Rattle.source_templates.specs.Seen.{Shape, file_of, file_in, files_of}
-use Rattle.counted_templates.specs.Mark.{Mark}
+use Rattle.source_templates.specs.Mark.{Mark}
 use Rattle.file_tables.specs.Tables.{IsTableOf}
 use Rattle.file_tables.specs.declared.order.FileOrder.{FileOrder}
-use Rattle.kept_templates.specs.Placed.{IsPlaced}
+use Rattle.source_templates.specs.Placed.{IsPlaced}
 use Rattle.source_templates.specs.Kinds.{HasKinds, NamesDiffer}
 
 -- the tree of a text

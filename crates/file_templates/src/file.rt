@@ -5,12 +5,8 @@ use crate::fault::{EmitFault, refuse};
 use arm_value::OutOfMemory;
 use bicep_dependencies::dependencies;
 use bicep_program::SourceFile;
-use counted_templates::first_beyond;
-use counted_templates::laws::templates_have_few_parts;
 use file_metadata::{FileMetadata, metadata_of_file};
 use file_tables::{FileOrder, file_order, file_table};
-use kept_templates::checked_files_are_placed;
-use kept_templates::laws::templates_keep_the_rules;
 use parameter_rules::parameters;
 use resolved_program::ResolvedFile;
 use source_templates::laws::{
@@ -18,9 +14,9 @@ use source_templates::laws::{
     templates_have_the_existing_resources_of_texts, templates_have_the_metadata_of_texts,
 };
 use source_templates::{
-    Measure, Table, checked_files_have_kinds, checked_names_differ, measured_file,
-    nested_templates_are_given, parameters_are_there, template,
-    templates_have_the_parts_of_the_file,
+    Measure, Table, checked_files_are_placed, checked_files_have_kinds, checked_names_differ,
+    first_beyond, measured_file, nested_templates_are_given, parameters_are_there, template,
+    templates_have_few_parts, templates_have_the_parts_of_the_file, templates_keep_the_rules,
 };
 use std::alloc::Global;
 use std::collections::BTreeSet;

@@ -41,14 +41,14 @@ use Rattle.emitted_modules.specs.Resources.{HasMembers}
 use Rattle.emitted_modules.specs.Arguments.{argument_name, argument_value, arguments_in}
 use Rattle.emitted_modules.specs.Modules.{IsDeployment}
 use Rattle.emitted_modules.proofs.ArgumentLemmas.{argument_in_is}
-use Rattle.emitted_templates.specs.Fits.{IsReady}
-use Rattle.emitted_templates.specs.Lists.{variable_name, SymbolsDiffer}
-use Rattle.emitted_templates.specs.Built.{Templates, template_of, symbol_in, IsResourceOf, IsExistingOf, IsModuleOf}
-use Rattle.emitted_templates.specs.Built.{IsBuiltFor, AreBuilt}
-use Rattle.emitted_templates.proofs.EachLemmas.{EachIs, passing_each}
-use Rattle.emitted_templates.specs.Seen.{Shape, file_in, files_in, whole_in}
-use Rattle.emitted_templates.specs.Values.{AreBoth, IsContent}
-use Rattle.emitted_templates.specs.Templates.{IsTemplateOf}
+use Rattle.counted_templates.specs.Fits.{IsReady}
+use Rattle.counted_templates.specs.Lists.{variable_name, SymbolsDiffer}
+use Rattle.counted_templates.specs.Built.{Templates, template_of, symbol_in, IsResourceOf, IsExistingOf, IsModuleOf}
+use Rattle.counted_templates.specs.Built.{IsBuiltFor, AreBuilt}
+use Rattle.counted_templates.proofs.EachLemmas.{EachIs, passing_each}
+use Rattle.counted_templates.specs.Seen.{Shape, file_in, files_in, whole_in}
+use Rattle.counted_templates.specs.Values.{AreBoth, IsContent}
+use Rattle.counted_templates.specs.Templates.{IsTemplateOf}
 use Rattle.kept_templates.specs.Kept.{AreBatchesSmall, AllKept}
 use Rattle.kept_templates.proofs.NameLemmas.{copy, none_loops}
 use Rattle.kept_templates.proofs.VariableLemmas.{variables_kept}

@@ -18,10 +18,10 @@ use Rattle.source_worlds.proofs.ListLemmas.{NotIn, AllDiffer, passing_differ}
 use Rattle.named_parts.specs.Found.{found}
 use Rattle.named_parts.specs.Order.{AreInOrder, inserted}
 use Rattle.named_parts.proofs.OrderLemmas.{in_order}
-use Rattle.emitted_templates.specs.Found.{Differ}
-use Rattle.emitted_templates.specs.Lists.{symbol_text}
-use Rattle.emitted_templates.proofs.EachLemmas.{EachIs, passing_each, by_name_each}
-use Rattle.emitted_templates.proofs.NameLemmas.{named}
+use Rattle.counted_templates.specs.Found.{Differ}
+use Rattle.counted_templates.specs.Lists.{symbol_text}
+use Rattle.counted_templates.proofs.EachLemmas.{EachIs, passing_each, by_name_each}
+use Rattle.counted_templates.proofs.NameLemmas.{named}
 
 module _ (f : SourceFile) where
   same_by : (n m : ℕ) (ms : List ℕ) → worlds.inserted f n ms ≡ inserted (name_of f) n ms

@@ -9,7 +9,7 @@ use Rattle.template_written.specs.Keeps.{AreInOrder, NoneLoops, LoopsLast, Keeps
 use Rattle.template_written.specs.Keeps as keeps
 use Rattle.template_written.specs.Parts.{plain_before, plain_variables}
 use Rattle.named_parts.specs.Found.{found}
-use Rattle.emitted_templates.specs.Lists.{is_loop, AllLoop, AreDivided, variable_name}
+use Rattle.counted_templates.specs.Lists.{is_loop, AllLoop, AreDivided, variable_name}
 use Rattle.kept_templates.proofs.NameLemmas.{copy, first_is_other}
 
 plain_key : (x : List ℕ) (c : Content) (ms : List Member) → is_loop c ≡ false

@@ -8,11 +8,12 @@ use Rattle.template_tree.specs.declared.resource.Template.{Template}
 use Rattle.template_written.specs.Keeps.{Keeps, KeepsBatches}
 use Rattle.bicep_meaning.specs.Files.{SourceFile}
 use Rattle.placed_files.specs.Placed.{IsPlaced}
-use Rattle.emitted_templates.specs.Built.{Templates, template_of}
-use Rattle.emitted_templates.specs.Fits.{IsReady}
-use Rattle.emitted_templates.specs.Lists.{SymbolsDiffer}
-use Rattle.emitted_templates.specs.Seen.{Shape, file_in}
-use Rattle.emitted_templates.specs.Templates.{IsTemplateOf}
+use Rattle.counted_templates.specs.Built.{Templates, template_of}
+use Rattle.counted_templates.specs.Fits.{IsReady}
+use Rattle.counted_templates.specs.Lists.{SymbolsDiffer}
+use Rattle.counted_templates.specs.Seen.{Shape, file_in}
+use Rattle.counted_templates.specs.Templates.{IsTemplateOf}
+pub use Rattle.placed_files.specs.Laws.{CheckedFilesArePlaced}
 
 -- a batch of a loop has at most 800 instances
 abbrev pub AreBatchesSmall : SourceFile → Type 0

@@ -7,4 +7,10 @@
 
 pub mod laws;
 
+pub use counted_templates::laws::templates_have_few_parts;
+pub use counted_templates::{
+    Measure, Table, files_within_the_limits_fit, first_beyond, measured_file, template,
+    templates_have_existing_resources, templates_have_metadata,
+    templates_have_the_parts_of_the_file,
+};
 pub use placed_files::laws::checked_files_are_placed;

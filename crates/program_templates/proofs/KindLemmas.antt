@@ -21,7 +21,7 @@ use Rattle.bicep_meaning.specs.Files.{SourceFile}
 use Rattle.bicep_meaning.specs.Instances.{module_of, is_parameter}
 use Rattle.parameter_rules.specs.Rules.{type_of}
 use Rattle.sound_values.proofs.FoundLemmas.{of_mapped}
-use Rattle.file_limits.specs.Modules.{is_module_by}
+use Rattle.kept_templates.specs.Modules.{is_module_by}
 use Rattle.program_templates.specs.Kinds.{HasKinds}
 
 abbrev is_modules : Sort → Bool

@@ -21,8 +21,8 @@ use Rattle.bicep_types.specs.declared.fault.CheckFault.{CheckFault}
 use Rattle.bicep_types.specs.declared.fault.CheckFault.TheVariants as fault
 use Rattle.sound_values.proofs.FoundLemmas.{of_mapped, first_none, second_none}
 use Rattle.symbol_names.proofs.NameLemmas.{names_differ}
-use Rattle.file_limits.specs.Found.{Differ}
-use Rattle.file_limits.specs.Lists as listed
+use Rattle.kept_templates.specs.Found.{Differ}
+use Rattle.kept_templates.specs.Lists as listed
 
 no_place : (o : Option ℕ) → ((at : ℕ) → o ≡ Some at → ⊥) → o ≡ None
 no_place None h = refl

@@ -10,10 +10,10 @@ use Rattle.bicep_declared.specs.Declarations.{DeclaredTree}
 use Rattle.bicep_declared.specs.Declarations as d
 use Rattle.bicep_meaning.specs.Files.{declaration}
 use Rattle.source_worlds.specs.Numbers.{is_put, if_put, in_template, symbol_of}
-use Rattle.file_limits.specs.Seen.{Shape, file_in}
-use Rattle.file_limits.specs.Values.{AreBoth}
-use Rattle.file_limits.specs.Built.{Templates, template_of, AreBuilt, IsBuiltFor, body_in}
-use Rattle.file_limits.proofs.ListedLemmas.{IsAt, at_place}
+use Rattle.kept_templates.specs.Seen.{Shape, file_in}
+use Rattle.kept_templates.specs.Values.{AreBoth}
+use Rattle.kept_templates.specs.Built.{Templates, template_of, AreBuilt, IsBuiltFor, body_in}
+use Rattle.kept_templates.proofs.ListedLemmas.{IsAt, at_place}
 
 module _ (z : Form) (s : Shape) where
   -- by the declaration of the number, and by what is given for it

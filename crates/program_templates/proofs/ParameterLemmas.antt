@@ -11,8 +11,8 @@ use Rattle.bicep_meaning.specs.Instances.{is_parameter}
 use Rattle.symbol_decorators.specs.Decorators.{decorators_of}
 use Rattle.parameter_rules.specs.Files.{IsTyped, IsParameterAt}
 use Rattle.parameter_rules.specs.Rules.{type_of, or_no}
-use Rattle.file_limits.specs.Seen.{Shape, file_in}
-use Rattle.file_limits.specs.Lists.{AreRules, rule_at}
+use Rattle.kept_templates.specs.Seen.{Shape, file_in}
+use Rattle.kept_templates.specs.Lists.{AreRules, rule_at}
 use Rattle.program_templates.specs.Kinds.{HasKinds}
 
 -- there is a parameter exactly where there is a type

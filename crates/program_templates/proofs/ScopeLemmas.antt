@@ -13,9 +13,9 @@ use Rattle.bicep_meaning.specs.Files.{SourceFile, declaration}
 use Rattle.bicep_meaning.specs.Instances.{Put, put_by, put_of, module_file, file_at}
 use Rattle.cell_renaming.specs.Renaming.{with_both, from_position, resource_by}
 use Rattle.source_worlds.specs.Numbers.{is_put, if_put, in_template, symbol_of, numbering}
-use Rattle.file_limits.specs.Files.{IsFile, IsResource, IsBody, IsEmitted, file_of_scope}
-use Rattle.file_limits.specs.Values.{AreBoth}
-use Rattle.file_limits.specs.Modules.{is_module_by}
+use Rattle.kept_templates.specs.Files.{IsFile, IsResource, IsBody, IsEmitted, file_of_scope}
+use Rattle.kept_templates.specs.Values.{AreBoth}
+use Rattle.kept_templates.specs.Modules.{is_module_by}
 use Rattle.program_templates.specs.Kinds.{HasKinds, file_number}
 use Rattle.program_templates.specs.Whole.{IsModuleAt, IsWhole, whole}
 

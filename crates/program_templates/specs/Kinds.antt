@@ -3,9 +3,9 @@ use Rattle.std.specs.Prelude.{◌≡◌, ℕ, Option, is_some, option_and_then}
 use Rattle.bicep_meaning.specs.Files.{SourceFile, declaration, symbol_kind}
 use Rattle.bicep_meaning.specs.Instances.{module_of, is_parameter}
 use Rattle.parameter_rules.specs.Rules.{type_of}
-use Rattle.file_limits.specs.Modules.{is_module_by}
-use Rattle.file_limits.specs.Found.{Differ}
-use Rattle.file_limits.specs.Lists.{symbol_text, output_text}
+use Rattle.kept_templates.specs.Modules.{is_module_by}
+use Rattle.kept_templates.specs.Found.{Differ}
+use Rattle.kept_templates.specs.Lists.{symbol_text, output_text}
 
 -- the number of the file of a module, by the kind of its symbol
 abbrev pub file_number : SourceFile → ℕ → Option ℕ

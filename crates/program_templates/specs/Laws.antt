@@ -11,12 +11,12 @@ use Rattle.bicep_types.specs.Faults.{HasFault}
 use Rattle.bicep_types.specs.declared.fault.CheckFault.{CheckFault}
 use Rattle.bicep_meaning.specs.Files.{SourceFile}
 use Rattle.source_worlds.specs.Numbers.{in_template, symbol_of}
-use Rattle.file_limits.specs.Files.{IsEmitted}
-use Rattle.file_limits.specs.Built.{Templates, template_of, AreBuilt}
-use Rattle.file_limits.specs.Seen.{Shape, file_in}
+use Rattle.kept_templates.specs.Files.{IsEmitted}
+use Rattle.kept_templates.specs.Built.{Templates, template_of, AreBuilt}
+use Rattle.kept_templates.specs.Seen.{Shape, file_in}
 use Rattle.parameter_rules.specs.Files.{IsParameterAt}
-use Rattle.file_limits.specs.Lists.{AreRules, rule_at}
-pub use Rattle.file_limits.specs.Laws.{FilesWithinLimitsFit, TemplatesHaveMetadata, TemplatesHaveParts}
+use Rattle.kept_templates.specs.Lists.{AreRules, rule_at}
+pub use Rattle.kept_templates.specs.Laws.{FilesWithinLimitsFit, TemplatesHaveMetadata, TemplatesHaveParts}
 use Rattle.program_templates.specs.Kinds.{HasKinds, NamesDiffer}
 use Rattle.program_templates.specs.Whole.{IsWhole}
 

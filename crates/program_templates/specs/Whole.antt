@@ -5,7 +5,7 @@ use Rattle.template_tree.specs.Tree.{TemplateTree}
 use Rattle.plan_cells.specs.Resources.{Nested, nested_at}
 use Rattle.bicep_meaning.specs.Files.{SourceFile}
 use Rattle.source_worlds.specs.Numbers.{symbol_of}
-use Rattle.file_limits.specs.Files.{IsFile}
+use Rattle.kept_templates.specs.Files.{IsFile}
 use Rattle.program_templates.specs.Kinds.{HasKinds, file_number}
 
 -- the template is that of the file of a number, but for those of its modules

@@ -12,7 +12,7 @@ use Rattle.bicep_meaning.specs.Files.{SourceFile, Typed, type_of}
 use Rattle.emitted_declarations.specs.Declared.{Emission, whole}
 use Rattle.emitted_trees.specs.EmittedTrees.{count_of}
 use Rattle.alike_files.proofs.NumberLemmas.{with_rest, in_template_same}
-use Rattle.existing_templates.specs.Existing.{HasExisting, IsExisting}
+use Rattle.program_templates.specs.Existing.{HasExisting, IsExisting}
 use Rattle.program_templates.specs.Files.{IsLoop, frames_around}
 use Rattle.program_templates.specs.Values.{IsExpression, IsTree, plain_or_expression}
 use Rattle.source_templates.proofs.PartLemmas.{both}

@@ -11,7 +11,7 @@ use Rattle.resolved_program.specs.View.{file_view}
 use Rattle.bicep_meaning.specs.Files.{SourceFile}
 use Rattle.source_worlds.specs.Numbers.{symbol_of}
 use Rattle.agreeing_files.specs.Agreeing.{outputs_of}
-use Rattle.existing_templates.specs.Existing.{HasExisting}
+use Rattle.program_templates.specs.Existing.{HasExisting}
 use Rattle.source_files.specs.Seen.{Shape, file_in, files_in}
 use Rattle.file_metadata.specs.Files.{IsMetadataOf, symbol_metadata, output_metadata}
 use Rattle.file_metadata.specs.declared.files.FileMetadata.{FileMetadata}

@@ -1,6 +1,6 @@
 pub mod Texts
 pub mod Laws
-pub use Rattle.existing_templates.specs.Existing
+pub use Rattle.program_templates.specs.Existing
 pub use Rattle.program_templates.specs.Built
 pub use Rattle.program_templates.specs.Extremes
 pub use Rattle.program_templates.specs.Files
@@ -15,3 +15,8 @@ pub use Rattle.program_templates.specs.Whole
 pub use Rattle.program_templates.specs.Within
 pub use Rattle.source_files.specs.Sources
 pub use Rattle.program_templates.specs.Limited
+pub use Rattle.program_templates.specs.Counted
+pub use Rattle.program_templates.specs.Counts
+pub use Rattle.program_templates.specs.Kept
+pub use Rattle.program_templates.specs.Mark
+pub use Rattle.program_templates.specs.Placed

@@ -7,9 +7,8 @@ use agreeing_files::laws::{agreeing_files_become_the_same, types_are_the_same};
 use alike_files::laws::{
     alike_files_have_the_same_rest, defaults_become_the_same, files_are_their_parts,
 };
-use existing_templates::laws::templates_have_existing_resources;
 use parameter_rules::laws::parameters_have_the_rules;
-use program_templates::templates_have_metadata;
+use program_templates::{templates_have_existing_resources, templates_have_metadata};
 use source_files::laws::{source_files_are_of_texts, tables_are_of_source_files};
 
 /// A template that has the parts of the file of a table, with the rules that the decorators of a text give to

@@ -10,7 +10,8 @@ pub use program_templates::laws::{
     parameters_are_there, whole_templates_are_emitted,
 };
 pub use program_templates::{
-    Measure, Table, files_within_the_limits_fit, measured_file, template,
-    templates_have_the_parts_of_the_file,
+    Measure, Table, checked_files_are_placed, files_within_the_limits_fit, first_beyond,
+    measured_file, template, templates_have_few_parts, templates_have_the_parts_of_the_file,
+    templates_keep_the_rules,
 };
 pub use source_files::laws::outputs_are_of_the_program;

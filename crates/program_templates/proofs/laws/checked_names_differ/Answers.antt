@@ -1,7 +1,7 @@
 use Rattle.std.proofs.Common.{ℕ, List, sym, ap, ◌∙◌, subst}
 use Rattle.bicep_symbols.specs.Repeated.{repeated_symbol}
-use Rattle.file_limits.specs.Found.{Differ}
-use Rattle.file_limits.specs.Lists.{output_text}
+use Rattle.kept_templates.specs.Found.{Differ}
+use Rattle.kept_templates.specs.Lists.{output_text}
 use Rattle.program_templates.proofs.NameLemmas.{outputs_differ}
 use Rattle.program_templates.proofs.laws.checked_names_differ.Goals as goal
 

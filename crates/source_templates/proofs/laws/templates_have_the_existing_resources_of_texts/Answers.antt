@@ -6,7 +6,7 @@ use Rattle.agreeing_files.specs.Agreeing.{Agree}
 use Rattle.source_files.specs.Seen.{file_in, files_in}
 use Rattle.alike_files.specs.Alike.{AreAlike}
 use Rattle.alike_files.proofs.NumberLemmas.{with_rest}
-use Rattle.existing_templates.specs.Existing.{HasExisting}
+use Rattle.program_templates.specs.Existing.{HasExisting}
 use Rattle.source_files.specs.Sources.{source_file}
 use Rattle.source_templates.proofs.ExistingLemmas.{existing_same}
 use Rattle.source_templates.proofs.PartLemmas.{is_second}

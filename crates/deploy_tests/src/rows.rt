@@ -2,10 +2,11 @@
 
 ghost use Rattle.deploy_cli.specs.Clauses as spec;
 
+use crate::checks::{compare, letting_go};
+use crate::first_path::{apart, no_disk, said};
 use arm_edges::{MemFile, MemLink, MemSink, MemTree};
 use arm_value::Bytes;
 use deploy_cli::run;
-use mem_disk::{Contents, MemDisk, Room};
 use provider_trait::Catalog;
 use std::alloc::{AllocError, Global};
 use std::sync::Wait;
@@ -16,21 +17,8 @@ use worker_crew::Seat;
 const GROUP: &str =
     "/subscriptions/00000000-0000-0000-0000-000000000000/resourceGroups/g/providers/";
 
-// The answer; the part is dropped.
-fn letting_go<T: Drop, R>(answer: R, _part: T) -> R {
-    answer
-}
-
-// The words of a text, which spaces separate.
-fn apart(alloc: Global, text: &str) -> Result<Vec<String>, AllocError> {
-    let mut words = Vec::new(alloc);
-    for word in text.split(' ') {
-        words.push(String::from_str(alloc, word)?)?;
-    }
-    Ok(words)
-}
-
-fn file_of(alloc: Global, name: &str, bytes: &[u8]) -> Result<MemFile, AllocError> {
+/// The file of that name.
+pub fn file_of(alloc: Global, name: &str, bytes: &[u8]) -> Result<MemFile, AllocError> {
     Ok(MemFile {
         name: String::from_str(alloc, name)?,
         bytes: Bytes::from_vec(Vec::from_slice(alloc, bytes)?),
@@ -54,16 +42,6 @@ fn folder(alloc: Global, text: &str, fails: &[u64]) -> Result<MemTree, AllocErro
         files.push(file_of(alloc, name, text.as_bytes())?)?;
     }
     Ok(MemTree::new(alloc, files, fails.to_vec(alloc)?))
-}
-
-// A disk without room, on which no call is made.
-fn no_disk(alloc: Global) -> Result<MemDisk, AllocError> {
-    let contents = Contents {
-        a: Vec::new(alloc),
-        b: Vec::new(alloc),
-    };
-    let room = Room { bytes: 0, calls: 0 };
-    MemDisk::new(alloc, &contents, Vec::new(alloc), Vec::new(alloc), room)
 }
 
 // Four seats over the catalogue.
@@ -108,16 +86,6 @@ fn status_of<R: Threads + Wait + Sync>(
     let mut crew = crew_of(alloc)?;
     let status = status_over(rt, alloc, words, tree, &mut crew, out);
     letting_go(status, crew)
-}
-
-// What is printed as a text.
-fn text_of(bytes: &[u8]) -> &str {
-    str::from_utf8(bytes).unwrap_or("no text")
-}
-
-fn said(alloc: Global, status: Result<u8, Fail>, printed: &[u8]) -> Result<String, Fail> {
-    let (status, printed) = (status?, text_of(printed));
-    Ok(format!(in alloc; "{status} {printed}")?)
 }
 
 // The status of these words over that tree, and what is printed.
@@ -198,13 +166,6 @@ fn add_signs(text: &mut String, part: &str) -> Result<(), AllocError> {
         add_sign(text, c)?;
     }
     Ok(())
-}
-
-fn compare(asked: &str, found: &str, wanted: &str) -> Result<(), Fail> {
-    if found == wanted {
-        return Ok(());
-    }
-    Err(Fail::new(format_args!("{asked} -> {wanted} but {found}")))
 }
 
 /// Compares what is printed of these words over these files with what is wanted, with the status before it. A `§` is in

@@ -10,7 +10,7 @@ use Rattle.plan_cells.specs.Known.{Table}
 use Rattle.plan_cells.specs.Meaning.{meaning}
 use Rattle.plan_cells.specs.Start.{at_point}
 use Rattle.plan_cells.specs.Tasks.{Task, enter, leave, put, delete}
-use Rattle.deploy_histories.specs.Planned.{Planned, course}
+use Rattle.deploy_histories.specs.Planned.{Planned, basis}
 use Rattle.deploy_histories.specs.Events.{Progress}
 use Rattle.deploy_histories.specs.Legal.{MayStart}
 use Rattle.deploy_histories.specs.Points.{point, IsKnownThen}
@@ -30,7 +30,7 @@ still p q g r o e =
 module _ (x : Planned) (p : Progress) (s t : Table) (k : IsKnownThen x p s) (l : IsKnownThen x p t) where
   are_one : AreOne s t
   are_one c o u i j =
-      one_known (meaning x.deployment) (at_point (course x) (point x p.status)) c o u (k c o i) (l c u j)
+      one_known (meaning x.deployment) (at_point (basis x) (point x p.status)) c o u (k c o i) (l c u j)
 
   both_values : (r : Reads (Option Json)) (o u : Option Json) → told s r ≡ value o → told t r ≡ value u → o ≡ u
   both_values r o u i j =

@@ -19,7 +19,7 @@ use Rattle.plan_cells.specs.Tasks.{Task, enter, leave, put, delete}
 use Rattle.plan_cells.specs.Reads.{is_given_by}
 use Rattle.plan_cells.specs.Children.{Has}
 use Rattle.plan_cells.proofs.KnownLemmas.{has_known, one_entry}
-use Rattle.deploy_histories.specs.Planned.{Planned, course, first_task}
+use Rattle.deploy_histories.specs.Planned.{Planned, basis, first_task}
 use Rattle.deploy_histories.specs.Events.{Status, is_waiting, is_begun, is_done, Progress, done_status}
 use Rattle.deploy_histories.specs.Points.{IsKnownThen, IsTableOf, point}
 use Rattle.deploy_histories.specs.Values.{Part, a_body, TaskValue, task_values, body_reading, reads_from, value_or_null}
@@ -31,7 +31,7 @@ use Rattle.deploy_histories.specs.Readiness.{IsAtFault}
 
 pub same_table : (x : Planned) (p : Progress) (s t : Table) → IsTableOf x p s → IsTableOf x p t → s ≡ t
 same_table x p s t i j =
-    λ k. λ c. one_entry (meaning x.deployment) (at_point (course x) (point x p.status)) s t i j c k
+    λ k. λ c. one_entry (meaning x.deployment) (at_point (basis x) (point x p.status)) s t i j c k
 
 -- ---- the first task that passes a test
 
@@ -432,10 +432,10 @@ module _ (x : Planned) (q t : Table) (grows : Grows q t) (p : Progress) (u : ℕ
 module _ (x : Planned) (p : Progress) (s t : Table) (known_then : IsKnownThen x p s) (all : IsTableOf x p t) where
   stays_by : (c : Cell) (e : Known Json) → s c ≡ e → Stays e (t c)
   stays_by c (known v) e =
-      has_known (meaning x.deployment) (at_point (course x) (point x p.status)) t all c (Some v)
+      has_known (meaning x.deployment) (at_point (basis x) (point x p.status)) t all c (Some v)
       (known_then c (Some v) e)
   stays_by c absent e =
-      has_known (meaning x.deployment) (at_point (course x) (point x p.status)) t all c None (known_then c None e)
+      has_known (meaning x.deployment) (at_point (basis x) (point x p.status)) t all c None (known_then c None e)
   stays_by c missing e = tt
 
   pub table_grows : Grows s t

@@ -9,7 +9,7 @@ use Rattle.plan_cells.specs.Meaning.{meaning}
 use Rattle.plan_cells.specs.Start as start
 use Rattle.plan_cells.specs.Start.{is_there, if_seen, output_access, at_point}
 use Rattle.plan_cells.proofs.KnownLemmas.{has_known}
-use Rattle.deploy_histories.specs.Planned.{Planned, IsPlanned, course}
+use Rattle.deploy_histories.specs.Planned.{Planned, IsPlanned, basis}
 use Rattle.deploy_histories.specs.Events.{Status}
 use Rattle.deploy_histories.specs.Points.{point}
 
@@ -33,14 +33,14 @@ nothing (state k) o e = cc
 
 module _ (x : Planned) (planned : IsPlanned x) (f : ℕ → Status) where
   output_seen : (q : Position) (c : Cell) (o : Option Json) → x.known c ≡ entry_of o
-      → output_access (course x) (point x f) q c ≡ by_others
+      → output_access (basis x) (point x f) q c ≡ by_others
   output_seen [] c o e = refl
   output_seen (s ∷ q) c o e =
       ap (λ (b : Bool). if_seen (b || (point x f).is_left (s ∷ q))) (ap is_there e ∙ entry_there o)
 
   -- what was told at the start can be told at each point
   pub seen_now : (c : Cell) (o : Option Json) → start.start c ≡ by_others → x.known c ≡ entry_of o
-      → at_point (course x) (point x f) c ≡ by_others
+      → at_point (basis x) (point x f) c ≡ by_others
   seen_now (parameter q y) o b e = refl
   seen_now (variable q y) o b e = refl
   seen_now (offered q y) o b e = output_seen q (offered q y) o e
@@ -52,7 +52,7 @@ module _ (x : Planned) (planned : IsPlanned x) (f : ℕ → Status) where
   seen_now (state k) o b e = absurd (hidden_not b)
 
   pub from_start : (c : Cell) (o : Option Json) → IsKnown (meaning x.deployment) start.start c o
-      → IsKnown (meaning x.deployment) (at_point (course x) (point x f)) c o
+      → IsKnown (meaning x.deployment) (at_point (basis x) (point x f)) c o
   from_start c o (is_outright _ _ e) = absurd (nothing c o e)
   from_start c o (is_told _ _ t b h e) =
       is_told c o t

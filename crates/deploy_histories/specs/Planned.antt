@@ -12,7 +12,7 @@ use Rattle.deploy_cells.specs.Same.{same_position}
 use Rattle.plan_cells.specs.Known.{Table}
 use Rattle.plan_cells.specs.Meaning.{Deployment, meaning}
 use Rattle.plan_cells.specs.Desired.{kinds}
-use Rattle.plan_cells.specs.Start.{IsStart, start_world, Course}
+use Rattle.plan_cells.specs.Start.{IsStart, start_world, Basis}
 use Rattle.plan_cells.specs.Tasks.{Task, leave, work}
 use Rattle.plan_cells.specs.Reads.{is_given_by}
 
@@ -71,5 +71,5 @@ module _ (x : Planned) where
   leaver p = first_task (λ n t. is_leave_of p t) x.tasks
 
   -- what does not change while it is deployed
-  abbrev pub course : Course
-  course = record { start = x.known; keys = x.keys; held = x.held }
+  abbrev pub basis : Basis
+  basis = record { start = x.known; keys = x.keys; held = x.held }

@@ -5,7 +5,7 @@ use Rattle.deploy_cells.specs.Cells.{Cell}
 use Rattle.plan_cells.specs.Known.{Table, IsKnown, entry_of}
 use Rattle.plan_cells.specs.Meaning.{meaning}
 use Rattle.plan_cells.specs.Start.{Point, at_point, IsTableAt}
-use Rattle.deploy_histories.specs.Planned.{Planned, putter, leaver, course}
+use Rattle.deploy_histories.specs.Planned.{Planned, putter, leaver, basis}
 use Rattle.deploy_histories.specs.Events.{Status, Progress, done_status, state_in}
 
 abbrev pub is_done_at : (ℕ → Status) → Option ℕ → Bool
@@ -22,8 +22,8 @@ point x f = record {
 -- what is in the table is known, and there may be more
 abbrev pub IsKnownThen : Planned → Progress → Table → Type 0
 IsKnownThen x p t = (c : Cell) (o : Option Json) → t c ≡ entry_of o
-    → IsKnown (meaning x.deployment) (at_point (course x) (point x p.status)) c o
+    → IsKnown (meaning x.deployment) (at_point (basis x) (point x p.status)) c o
 
 -- the table of all that is known
 abbrev pub IsTableOf : Planned → Progress → Table → Type 0
-IsTableOf x p t = IsTableAt x.deployment (course x) (point x p.status) t
+IsTableOf x p t = IsTableAt x.deployment (basis x) (point x p.status) t

@@ -24,7 +24,7 @@ use Rattle.deploy_histories.specs.Tasks.{Task}
 use Rattle.deploy_histories.specs.Reads.{key_in, is_state_at}
 use Rattle.deploy_histories.proofs.KnownLemmas.{so_in_worlds, told_so}
 use Rattle.deploy_histories.proofs.PointLemmas.{true_at_point}
-use Rattle.deploy_histories.specs.Planned.{Planned, IsPlanned, puts_at, putter, course}
+use Rattle.deploy_histories.specs.Planned.{Planned, IsPlanned, puts_at, putter, basis}
 use Rattle.deploy_histories.specs.Events.{Event, enter, begin, answer, back, leave, crash, Status, is_waiting, is_begun, is_done, Progress, changed, after_answer, closed, after, after_all, at_opening, progress, state_in}
 use Rattle.deploy_histories.specs.Points.{point, IsKnownThen}
 use Rattle.deploy_histories.specs.Values.{a_body, body_reading, value_or_null}
@@ -96,7 +96,7 @@ pub stored_same : (i j : Json) → Stored i ≡ Stored j → i ≡ j
 stored_same i j e = cc
 
 module _ (x : Planned) (planned : IsPlanned x) (w : World) (sat : Satisfies x.deployment x.held w) where
-  pub on_the_way : (f : ℕ → Status) → StoredIsSo x w f → IsOnTheWay x.deployment (course x) (point x f) w
+  pub on_the_way : (f : ℕ → Status) → StoredIsSo x w f → IsOnTheWay x.deployment (basis x) (point x f) w
   on_the_way f so = record { keys = keys_listed x planned w sat.is_world; stored = so }
 
   holds_at : (c : Cell) (k : Known Json) → ((o : Option Json) → k ≡ entry_of o → w c ≡ o) → Holds (w c) k
@@ -107,8 +107,8 @@ module _ (x : Planned) (planned : IsPlanned x) (w : World) (sat : Satisfies x.de
   pub known_so : (p : Progress) (t : Table) → IsKnownThen x p t → StoredIsSo x w p.status → Completes t w
   known_so p t i so c =
       holds_at c (t c) (λ o e.
-      so_in_worlds (meaning x.deployment) (at_point (course x) (point x p.status)) w sat.is_world
-      (true_at_point x.deployment (course x) (point x p.status) w sat (on_the_way p.status so)) c o (i c o e))
+      so_in_worlds (meaning x.deployment) (at_point (basis x) (point x p.status)) w sat.is_world
+      (true_at_point x.deployment (basis x) (point x p.status) w sat (on_the_way p.status so)) c o (i c o e))
 
   pub earlier_so : (f g : ℕ → Status) → StaysDone f g → StoredIsSo x w g → StoredIsSo x w f
   earlier_so f g more so k j e = so k j ((points_later f g more x).stored k j e)

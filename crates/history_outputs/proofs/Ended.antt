@@ -12,7 +12,7 @@ use Rattle.plan_cells.specs.Known.{Moment, Table, entry_of, entry_told, IsKnown,
 use Rattle.plan_cells.specs.Known.{entry_by, IsTable}
 use Rattle.plan_cells.specs.Meaning.{meaning}
 use Rattle.plan_cells.specs.Start.{at_point}
-use Rattle.deploy_histories.specs.Planned.{Planned, IsPlanned, course}
+use Rattle.deploy_histories.specs.Planned.{Planned, IsPlanned, basis}
 use Rattle.deploy_histories.specs.Events.{Event, at_opening, progress}
 use Rattle.deploy_histories.specs.Points.{point, IsTableOf}
 use Rattle.deploy_histories.specs.Legal.{IsLegal, HasSucceeded}
@@ -74,7 +74,7 @@ module _ (x : Planned) (planned : IsPlanned x) (h : List Event) (legal : IsLegal
 
   pub table_there : (t : Table) × IsTableOf x (progress h) t
   table_there =
-      a_table (meaning x.deployment) (at_point (course x) (point x (progress h).status))
+      a_table (meaning x.deployment) (at_point (basis x) (point x (progress h).status))
       (λ c. ((value_here c).0, (value_here c).1.is_known))
 
   -- what is known is so in each desired state to which the answers belong, and so are the outputs

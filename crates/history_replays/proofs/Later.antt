@@ -11,8 +11,8 @@ use Rattle.deploy_cells.specs.Same.{same_id}
 use Rattle.plan_cells.specs.Known.{Access, outright, by_others, hidden, Moment, Table, IsKnown, is_outright, is_told}
 use Rattle.plan_cells.specs.Meaning.{meaning}
 use Rattle.plan_cells.specs.Desired.{held_state}
-use Rattle.plan_cells.specs.Start.{Point, Course, where_stored, is_there, if_seen, output_access, at_point, IsLater}
-use Rattle.history_laws.specs.Planned.{Planned, course}
+use Rattle.plan_cells.specs.Start.{Point, Basis, where_stored, is_there, if_seen, output_access, at_point, IsLater}
+use Rattle.history_laws.specs.Planned.{Planned, basis}
 use Rattle.history_laws.specs.Events.{Progress}
 use Rattle.history_laws.specs.Points.{point, IsKnownThen}
 use Rattle.history_laws.specs.Past.{StaysDone}
@@ -30,7 +30,7 @@ known_more m n l h c o (is_outright _ _ e) = is_outright c o (subst (λ (a : Acc
 known_more m n l h c o (is_told _ _ p b g e) =
     is_told c o p (subst (λ (a : Access). Allows a (l c)) b (h c)) (λ d u f. known_more m n l h d u (g d u f)) e
 
-module _ (c : Course) (p q : Point) (later : IsLater p q) where
+module _ (c : Basis) (p q : Point) (later : IsLater p q) where
   stored_more : (o u : Option Json) → ((j : Json) → o ≡ Some j → u ≡ Some j) → Allows (where_stored o) (where_stored u)
   stored_more None u h = tt
   stored_more (Some j) u h = ap where_stored (h j refl)
@@ -65,5 +65,5 @@ module _ (c : Course) (p q : Point) (later : IsLater p q) where
 pub known_later : (x : Planned) (p q : Progress) (t : Table) → StaysDone p.status q.status → IsKnownThen x p t
     → IsKnownThen x q t
 known_later x p q t more i c o e =
-    known_more (meaning x.deployment) (at_point (course x) (point x p.status)) (at_point (course x) (point x q.status))
-    (more_at (course x) (point x p.status) (point x q.status) (points_later p.status q.status more x)) c o (i c o e)
+    known_more (meaning x.deployment) (at_point (basis x) (point x p.status)) (at_point (basis x) (point x q.status))
+    (more_at (basis x) (point x p.status) (point x q.status) (points_later p.status q.status more x)) c o (i c o e)

@@ -27,7 +27,7 @@ use Rattle.plan_cells.specs.Known.{is_told}
 use Rattle.plan_cells.specs.Start as start
 use Rattle.plan_cells.specs.Start.{start_world, at_point}
 use Rattle.plan_cells.specs.Tasks.{Task, template_tasks, put_keys, deletes_in, work_of, Work, work}
-use Rattle.deploy_histories.specs.Planned.{Planned, IsPlanned, is_asked_first, course}
+use Rattle.deploy_histories.specs.Planned.{Planned, IsPlanned, is_asked_first, basis}
 use Rattle.deploy_histories.specs.Events.{Status}
 use Rattle.deploy_histories.specs.Points.{point}
 use Rattle.deploy_histories.proofs.StartLemmas.{from_start}
@@ -41,7 +41,7 @@ value_entry None = refl
 module _ (x : Planned) (planned : IsPlanned x) (f : ℕ → Status) where
   -- what is known at the start is known at the end
   pub sound_start : (c : Cell) (o : Option Json) → x.known c ≡ entry_of o
-      → IsKnown (meaning x.deployment) (at_point (course x) (point x f)) c o
+      → IsKnown (meaning x.deployment) (at_point (basis x) (point x f)) c o
   sound_start c o e = from_start x planned f c o (planned.is_start.is_known c o e)
 
 -- ---- the tasks by what is known at the start

@@ -31,7 +31,7 @@ use Rattle.plan_cells.specs.Tasks as task
 use Rattle.plan_cells.specs.Tasks.{Task}
 use Rattle.plan_cells.specs.Reads.{key_in}
 use Rattle.plan_cells.proofs.KnownLemmas.{told_so}
-use Rattle.deploy_histories.specs.Planned.{Planned, IsPlanned, is_asked_first, course}
+use Rattle.deploy_histories.specs.Planned.{Planned, IsPlanned, is_asked_first, basis}
 use Rattle.deploy_histories.specs.Events.{Event, enter, begin, answer, back, leave, crash, Status, is_waiting}
 use Rattle.deploy_histories.specs.Events.{is_begun}
 use Rattle.deploy_histories.specs.Events.{is_done, Progress, after_answer, after, after_all, at_opening, progress}
@@ -139,7 +139,7 @@ module _ (may : MayAnswer) (x : Planned) (planned : IsPlanned x) (h : List Event
   w : World
   w = the_world may x planned p kept ended.all_done (lists_known x planned)
 
-  knows : (c : Cell) (o : Option Json) → IsKnown (meaning d) (at_point (course x) (point x p.status)) c o → w c ≡ o
+  knows : (c : Cell) (o : Option Json) → IsKnown (meaning d) (at_point (basis x) (point x p.status)) c o → w c ≡ o
   unfolding w
   knows c o k = known_so may x planned p kept ended.all_done (lists_known x planned) c o k
 

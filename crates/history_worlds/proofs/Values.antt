@@ -39,7 +39,7 @@ use Rattle.plan_cells.proofs.KnownLemmas.{told_so, same_entry}
 use Rattle.plan_cells.proofs.ListLemmas.{has_left, has_right, has_map}
 use Rattle.deploy_histories.specs.Planned.{Planned, IsPlanned, IsAnswered, is_asked_first, is_leave_of, puts_at}
 use Rattle.deploy_histories.specs.Planned.{putter}
-use Rattle.deploy_histories.specs.Planned.{leaver, course}
+use Rattle.deploy_histories.specs.Planned.{leaver, basis}
 use Rattle.deploy_histories.specs.Events.{Progress, is_done}
 use Rattle.deploy_histories.specs.Points.{point, is_done_at}
 use Rattle.deploy_histories.specs.Values.{where_offered, entry_value, leave_value, outputs_of}
@@ -121,7 +121,7 @@ module _ (may : MayAnswer) (x : Planned) (planned : IsPlanned x) (p : Progress) 
   w = start_world x.known
 
   abbrev Knows : Cell → Option Json → Type 0
-  Knows c o = IsKnown (meaning d) (at_point (course x) (point x p.status)) c o
+  Knows c o = IsKnown (meaning d) (at_point (basis x) (point x p.status)) c o
 
   abbrev Sound : Table → Type 0
   Sound t = (c : Cell) (o : Option Json) → t c ≡ entry_of o → Knows c o
@@ -142,7 +142,7 @@ module _ (may : MayAnswer) (x : Planned) (planned : IsPlanned x) (p : Progress) 
       → z ≡ value o → value_in u r ≡ Some o
   so_value u r z o s e = subst (λ (y : Told Cell (Option Json)). IsSo u r y) e s
 
-  by_table : (c : Cell) → at_point (course x) (point x p.status) c ≡ by_others → (t : Table) → Sound t
+  by_table : (c : Cell) → at_point (basis x) (point x p.status) c ≡ by_others → (t : Table) → Sound t
       → (o : Option Json) → told t (meaning d c) ≡ value o → HasValue c o
   by_table c n t s o e = record {
     is_known = is_told c o t n (λ f u i. s f u i) (ap entry_told e);
@@ -178,7 +178,7 @@ module _ (may : MayAnswer) (x : Planned) (planned : IsPlanned x) (p : Progress) 
   joined_grows : (s t : Table) → Sound s → Sound t → Grows t (joined s t)
   joined_grows s t a b c =
       stays_picked (s c) (t c) (λ o u e f.
-      one_known (meaning d) (at_point (course x) (point x p.status)) c o u (a c o e) (b c u f))
+      one_known (meaning d) (at_point (basis x) (point x p.status)) c o u (a c o e) (b c u f))
 
   still_by : (t : Table) (r : Reads (Option Json)) (z : Told Cell (Option Json)) (o : Option Json) → IsToldStill t r z
       → z ≡ value o → told t r ≡ value o
@@ -209,7 +209,7 @@ module _ (may : MayAnswer) (x : Planned) (planned : IsPlanned x) (p : Progress) 
       guarded_told t c (plain d c) ∙ ap (λ (o : Option Cell). told_by t c o (told t (plain d c))) up
 
   -- its parent does not admit it
-  not_there_by : (c e : Cell) → parent c ≡ Some e → at_point (course x) (point x p.status) c ≡ by_others
+  not_there_by : (c e : Cell) → parent c ≡ Some e → at_point (basis x) (point x p.status) c ≡ by_others
       → (b : Option Json) → Knows e b → admits c b ≡ false → HasValue c None
   not_there_by c e up n b k a =
       by_table c n (one_entry e b) (one_sound e b k) None
@@ -217,7 +217,7 @@ module _ (may : MayAnswer) (x : Planned) (planned : IsPlanned x) (p : Progress) 
       ∙ ap (λ (z : Bool). told_where z (told (one_entry e b) (plain d c))) a)
 
   -- its parent admits it, and its own reading is told
-  there_by : (c e : Cell) → parent c ≡ Some e → at_point (course x) (point x p.status) c ≡ by_others
+  there_by : (c e : Cell) → parent c ≡ Some e → at_point (basis x) (point x p.status) c ≡ by_others
       → (b : Option Json) → Knows e b → admits c b ≡ true → (t : Table) → Sound t → (o : Option Json)
       → told t (plain d c) ≡ value o → HasValue c o
   there_by c e up n b k a t s o h =
@@ -306,7 +306,7 @@ module _ (may : MayAnswer) (x : Planned) (planned : IsPlanned x) (p : Progress) 
 
   -- a cell of a scope that is there, by what was told when the scope was entered or left
   told_then : (q : Position) (c : Cell) → parent c ≡ opener q → ((o : Option Json) → admits c o ≡ is_true o)
-      → opened x planned q ≡ true → at_point (course x) (point x p.status) c ≡ by_others → (t : Table) → Sound t
+      → opened x planned q ≡ true → at_point (basis x) (point x p.status) c ≡ by_others → (t : Table) → Sound t
       → (o : Option Json) → told t (plain d c) ≡ value o → HasValue c o
   told_then [] c up same a n t s o e = by_table c n t s o (told_top c up t ∙ e)
   told_then (r ∷ q) c up same a n t s o e =
@@ -314,7 +314,7 @@ module _ (may : MayAnswer) (x : Planned) (planned : IsPlanned x) (p : Progress) 
 
   entry_value_of : (q : Position) (t : TemplateTree) (c : Cell) → template_at d.template q ≡ Some t
       → parent c ≡ opener q → ((o : Option Json) → admits c o ≡ is_true o)
-      → at_point (course x) (point x p.status) c ≡ by_others → start.start c ≡ by_others → Has c (entry_cells d q)
+      → at_point (basis x) (point x p.status) c ≡ by_others → start.start c ≡ by_others → Has c (entry_cells d q)
       → Valued c
   entry_value_of q t c at up same n b listed = by_open (opened x planned q) refl
     where
@@ -437,7 +437,7 @@ module _ (may : MayAnswer) (x : Planned) (planned : IsPlanned x) (p : Progress) 
 
   -- an output of a scope that was left can be seen
   seen_left : (q : Position) (c : Cell) → Has (leave q) x.tasks
-      → start.output_access (course x) (point x p.status) q c ≡ by_others
+      → start.output_access (basis x) (point x p.status) q c ≡ by_others
   seen_left [] c h = refl
   seen_left (s ∷ q) c h =
       ap if_seen (or_right (is_there (x.known c)) (is_done_at p.status (leaver x (s ∷ q)))
@@ -505,7 +505,7 @@ module _ (may : MayAnswer) (x : Planned) (planned : IsPlanned x) (p : Progress) 
 
   -- ---- states
 
-  state_so : (k : ResourceId) (o : Option Json) → at_point (course x) (point x p.status) (state k) ≡ outright o
+  state_so : (k : ResourceId) (o : Option Json) → at_point (basis x) (point x p.status) (state k) ≡ outright o
       → HasValue (state k) o
   unfolding meaning plain value_in
   state_so k o e = record {
@@ -585,7 +585,7 @@ module _ (may : MayAnswer) (x : Planned) (planned : IsPlanned x) (p : Progress) 
   pub known_so : (c : Cell) (o : Option Json) → Knows c o → the_world c ≡ o
   unfolding the_world
   known_so c o k =
-      one_known (meaning d) (at_point (course x) (point x p.status)) c (valued c).0 o (valued c).1.is_known k
+      one_known (meaning d) (at_point (basis x) (point x p.status)) c (valued c).0 o (valued c).1.is_known k
 
   pub is_world : (c : Cell) → value_in the_world (meaning d c) ≡ Some (the_world c)
   unfolding the_world

@@ -14,7 +14,7 @@ use Rattle.plan_cells.specs.Known.{Access, outright, by_others, hidden, Moment, 
 use Rattle.plan_cells.specs.Known.{is_told, IsTable, IsTrueIn}
 use Rattle.plan_cells.specs.Meaning.{Deployment, meaning}
 use Rattle.plan_cells.specs.Desired.{kinds, held_state, Satisfies}
-use Rattle.plan_cells.specs.Start.{Point, Course, where_stored, is_there, if_seen, output_access, at_point}
+use Rattle.plan_cells.specs.Start.{Point, Basis, where_stored, is_there, if_seen, output_access, at_point}
 use Rattle.plan_cells.specs.Start.{IsTableAt, IsLater, IsOnTheWay}
 use Rattle.plan_cells.proofs.KnownLemmas.{has_known}
 
@@ -42,7 +42,7 @@ module _ (m : Meaning) (n l : Moment) (wide : (c : Cell) → Widens (n c) (l c))
     pub grows : Grows q r
     grows c = stays c (q c) refl
 
-module _ (c : Course) (p q : Point) (later : IsLater p q) where
+module _ (c : Basis) (p q : Point) (later : IsLater p q) where
   stored_later : (o u : Option Json) → ((j : Json) → o ≡ Some j → u ≡ Some j)
       → Widens (where_stored o) (where_stored u)
   stored_later None u h = tt
@@ -75,11 +75,11 @@ module _ (c : Course) (p q : Point) (later : IsLater p q) where
   widens (deployments r) = refl
   widens (state k) = state_later k (list_any (same_id k) c.keys)
 
-pub later_point : (d : Deployment) (c : Course) (p q : Point) → IsLater p q → (s t : Table) → IsTableAt d c p s
+pub later_point : (d : Deployment) (c : Basis) (p q : Point) → IsLater p q → (s t : Table) → IsTableAt d c p s
     → IsTableAt d c q t → Grows s t
 later_point d c p q l s t u v = grows (meaning d) (at_point c p) (at_point c q) (widens c p q l) s t u v
 
-module _ (d : Deployment) (c : Course) (p : Point) (w : World) (h : Satisfies d c.held w)
+module _ (d : Deployment) (c : Basis) (p : Point) (w : World) (h : Satisfies d c.held w)
     (way : IsOnTheWay d c p w) where
   same_outright : (o u : Option Json) → outright o ≡ outright u → o ≡ u
   same_outright o u e = cc

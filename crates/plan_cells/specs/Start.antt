@@ -38,8 +38,9 @@ pub record Point : Type 0 where
   pub stored : ResourceId → Option Json
   pub is_left : Position → Bool
 
--- what does not change from point to point: what is known at the start, the keys at which tasks put, and what is held
-pub record Course : Type 0 where
+-- the basis of a deployment does not change from point to point: what is known at the start, the keys at which tasks
+-- put, and what is held
+pub record Basis : Type 0 where
   pub start : Table
   pub keys : List ResourceId
   pub held : List HeldResource
@@ -58,23 +59,23 @@ if_seen true = by_others
 if_seen false = hidden
 
 -- an output of a scope inside can be seen where it is known at the start, and once its scope was left
-abbrev pub output_access : Course → Point → Position → Cell → Access
+abbrev pub output_access : Basis → Point → Position → Cell → Access
 output_access c p [] x = by_others
 output_access c p (s ∷ q) x = if_seen (is_there (c.start x) || p.is_left (s ∷ q))
 
 -- the state at a key at which a task puts is known once it was stored, every other is the one that is held
-abbrev pub state_access : Course → Point → ResourceId → Access
+abbrev pub state_access : Basis → Point → ResourceId → Access
 state_access c p k =
     if list_any (same_id k) c.keys then where_stored (p.stored k) else outright (held_state c.held k)
 
-abbrev pub at_point : Course → Point → Moment
+abbrev pub at_point : Basis → Point → Moment
 at_point c p (state k) = state_access c p k
 at_point c p (offered q x) = output_access c p q (offered q x)
 at_point c p (output q x) = output_access c p q (output q x)
 at_point c p _ = by_others
 
 -- the table of what is known at a point
-abbrev pub IsTableAt : Deployment → Course → Point → Table → Type 0
+abbrev pub IsTableAt : Deployment → Basis → Point → Table → Type 0
 IsTableAt d c p q = IsTable (meaning d) (at_point c p) q
 
 -- at the later point all is known that was known
@@ -82,7 +83,7 @@ pub record IsLater (p q : Point) : Type 0 where
   pub stored : (k : ResourceId) (j : Json) → p.stored k ≡ Some j → q.stored k ≡ Some j
   pub left : (r : Position) → p.is_left r ≡ true → q.is_left r ≡ true
 
--- the keys of the course are those at which something is put, and the states that were stored are those of the world
-pub record IsOnTheWay (d : Deployment) (c : Course) (p : Point) (w : World) : Type 0 where
+-- the keys of the basis are those at which something is put, and the states that were stored are those of the world
+pub record IsOnTheWay (d : Deployment) (c : Basis) (p : Point) (w : World) : Type 0 where
   pub keys : (k : ResourceId) → IsPutAt d.place (kinds d) w k → list_any (same_id k) c.keys ≡ true
   pub stored : (k : ResourceId) (j : Json) → p.stored k ≡ Some j → w (state k) ≡ Some j

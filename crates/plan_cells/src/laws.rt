@@ -16,7 +16,7 @@ ghost use Rattle.plan_cells.specs.Meaning.{Deployment, raw};
 ghost use Rattle.plan_cells.specs.Children.{Has, AreApart, NamesDiffer, roots, children};
 ghost use Rattle.plan_cells.specs.Desired.{Satisfies, HasParts, is_state};
 ghost use Rattle.plan_cells.specs.Known.{Moment, Table, IsKnown, IsTable, IsTrueIn};
-ghost use Rattle.plan_cells.specs.Start.{IsStart, IsSo, Point, Course, at_point, IsTableAt, IsLater, IsOnTheWay};
+ghost use Rattle.plan_cells.specs.Start.{IsStart, IsSo, Point, Basis, at_point, IsTableAt, IsLater, IsOnTheWay};
 ghost use Rattle.plan_cells.specs.Tasks.{Task, Work, work};
 ghost use Rattle.plan_cells.specs.TaskOf.{AreTasks};
 ghost use Rattle.plan_cells.specs.Needs.{needs};
@@ -70,13 +70,13 @@ pub fn sites_by_one_reading<A>()
 
 /// What is known at a point of a deployment stays known at each later point.
 pub fn points_go_on()
-    ensures { (d : Deployment) (c : Course) (p q : Point) → IsLater p q → (s t : Table) → IsTableAt d c p s
+    ensures { (d : Deployment) (c : Basis) (p q : Point) → IsLater p q → (s t : Table) → IsTableAt d c p s
         → IsTableAt d c q t → Grows s t }
 {}
 
 /// What is known outright at a point is so in each desired state that has the states which were stored by then.
 pub fn points_are_so()
-    ensures { (d : Deployment) (c : Course) (p : Point) (w : World) → Satisfies d c.held w → IsOnTheWay d c p w
+    ensures { (d : Deployment) (c : Basis) (p : Point) (w : World) → Satisfies d c.held w → IsOnTheWay d c p w
         → IsTrueIn w (at_point c p) }
 {}
 

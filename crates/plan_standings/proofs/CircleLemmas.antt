@@ -22,7 +22,7 @@ use Rattle.std.proofs.lemmas.List.{length-map}
 use Rattle.plan_table.specs.Whole.{whole_of, scopes_of}
 use Rattle.plan_table.specs.Found.{scope_at}
 use Rattle.plan_sight.specs.Ready.{IsReady}
-use Rattle.deploy_histories.specs.Planned.{Planned, course}
+use Rattle.deploy_histories.specs.Planned.{Planned, basis}
 use Rattle.deploy_histories.specs.Events.{Progress}
 use Rattle.deploy_histories.specs.Points.{IsKnownThen, point}
 use Rattle.history_laws.specs.Past.{StaysDone}
@@ -74,14 +74,14 @@ module _ (t : Table) (l : Later) (f : ℕ) (ready : IsReady t) (there : f < leng
 
   -- it is known by others at each point
   cell_by_others : (x : Planned) (q : Progress) (c : Cell) → OwnCell t f ready there c
-      → at_point (course x) (point x q.status) c ≡ by_others
+      → at_point (basis x) (point x q.status) c ≡ by_others
   cell_by_others x q c (own, inl a) =
-      subst (λ (b : Cell). at_point (course x) (point x q.status) b ≡ by_others) a.1.1 refl
+      subst (λ (b : Cell). at_point (basis x) (point x q.status) b ≡ by_others) a.1.1 refl
   cell_by_others x q c (own, inr a) =
-      subst (λ (b : Cell). at_point (course x) (point x q.status) b ≡ by_others) a.1.1 refl
+      subst (λ (b : Cell). at_point (basis x) (point x q.status) b ≡ by_others) a.1.1 refl
 
   pub own_by_others : (x : Planned) (q : Progress) (c : Cell) → Has c (own_of t f)
-      → at_point (course x) (point x q.status) c ≡ by_others
+      → at_point (basis x) (point x q.status) c ≡ by_others
   own_by_others x q c h = cell_by_others x q c (own_cell t f ready there c h)
 
 -- ---- what waits for what is never known
@@ -138,13 +138,13 @@ module _ (x : Planned) (p : Progress) (t : Table) (l : Later) (is : x.deployment
   not_outright o e = cc
 
   pub never : (q : Progress) → StaysDone p.status q.status → (c : Cell) (o : Option Json)
-      → IsKnown (meaning x.deployment) (at_point (course x) (point x q.status)) c o → Has c cells → ⊥
+      → IsKnown (meaning x.deployment) (at_point (basis x) (point x q.status)) c o → Has c cells → ⊥
   never q more c o (is_outright _ _ e) h =
       not_outright o (sym (own_by_others t l f ready there x q c (own c h)) ∙ e)
   never q more c o (is_told _ _ s b all g) h =
       let d = (awaits c h).0 in
       entry_cases (s d) (λ u e. never q more d u (all d u e) (awaits c h).1.0)
       (λ n. waits_still k s
-      (λ a v u i j. one_known (meaning x.deployment) (at_point (course x) (point x q.status)) a v u
+      (λ a v u i j. one_known (meaning x.deployment) (at_point (basis x) (point x q.status)) a v u
       (known_later x p q k more known_then a v i) (all a u j))
       (meaning x.deployment c) o d (told_waits c h) n g)

@@ -28,7 +28,7 @@ use Rattle.plan_table.specs.declared.table.Table.{Table}
 use Rattle.plan_table.specs.Opened.{Opened}
 use Rattle.plan_table.specs.Lines.{cell_of, line_at}
 use Rattle.plan_table.specs.Whole.{whole_of, scopes_of}
-use Rattle.deploy_histories.specs.Planned.{Planned, course}
+use Rattle.deploy_histories.specs.Planned.{Planned, basis}
 use Rattle.deploy_histories.specs.Events.{Progress, done_status}
 use Rattle.deploy_histories.specs.Points.{point}
 use Rattle.point_values.specs.Seen.{IsSeen}
@@ -102,11 +102,11 @@ module _ (x : Planned) (p : Progress) (t : Table) (l m : Later) (s : StateAt) (s
       (states_more l.states.items s (lines_of l.entries.items) c)
 
   known_more : (c : Cell) (o : Option Json) → known_now t m c ≡ entry_of o → Now c
-      → IsKnown (meaning x.deployment) (at_point (course x) (point x p.status)) c o
+      → IsKnown (meaning x.deployment) (at_point (basis x) (point x p.status)) c o
   known_more c o e (inl q) = seen.known_then c o (sym q ∙ e)
   known_more c o e (inr q) =
-      subst (λ (d : Cell). IsKnown (meaning x.deployment) (at_point (course x) (point x p.status)) d o) (sym q.0)
-      (subst (λ (u : Option Json). IsKnown (meaning x.deployment) (at_point (course x) (point x p.status)) (state
+      subst (λ (d : Cell). IsKnown (meaning x.deployment) (at_point (basis x) (point x p.status)) d o) (sym q.0)
+      (subst (λ (u : Option Json). IsKnown (meaning x.deployment) (at_point (basis x) (point x p.status)) (state
       s.key) u)
       (same_entry (option_map json s.state) o (sym q.1 ∙ e))
       (is_outright (state s.key) (option_map json s.state) then_known.is_known))
@@ -187,7 +187,7 @@ module _ (os : List Opened) (c : Cell) (a : Entry) (o : Option Json) (of : IsEnt
 
 -- a parameter or a variable is told by others at each point, and no task gives it
 told_by_others : (x : Planned) (p : Progress) (os : List Opened) (s : Spot) → IsEntrySpot s
-    → at_point (course x) (point x p.status) (cell_of os s) ≡ by_others
+    → at_point (basis x) (point x p.status) (cell_of os s) ≡ by_others
 told_by_others x p os (Parameter f n) i = refl
 told_by_others x p os (Variable f n) i = refl
 told_by_others x p os (Offered f n) i = absurd i
@@ -236,18 +236,18 @@ module _ (x : Planned) (p : Progress) (t : Table) (l m : Later) (j : ℕ) (a : E
       (rows_with (slice_set l.entries.items j a)) (rows_with l.entries.items)
       (lines_more (scopes_of t) c a o of t.lines.items l.entries.items j adds.within h spot))
 
-  known_at : IsKnown (meaning x.deployment) (at_point (course x) (point x p.status)) at o
+  known_at : IsKnown (meaning x.deployment) (at_point (basis x) (point x p.status)) at o
   known_at =
       is_told at o (known_now t l) (told_by_others x p (scopes_of t) (line_at t.lines.items j).spot spot)
       (λ d u e. seen.known_then d u e)
       (subst (λ (d : Deployment). entry_told (told_now t l (meaning d at)) ≡ entry_of o) (sym is) told_is)
 
   known_next : (c : Cell) (u : Option Json) → known_now t m c ≡ entry_of u → Next c
-      → IsKnown (meaning x.deployment) (at_point (course x) (point x p.status)) c u
+      → IsKnown (meaning x.deployment) (at_point (basis x) (point x p.status)) c u
   known_next c u e (inl q) = seen.known_then c u (sym q ∙ e)
   known_next c u e (inr q) =
-      subst (λ (d : Cell). IsKnown (meaning x.deployment) (at_point (course x) (point x p.status)) d u) (sym q.0)
-      (subst (λ (y : Option Json). IsKnown (meaning x.deployment) (at_point (course x) (point x p.status)) at y)
+      subst (λ (d : Cell). IsKnown (meaning x.deployment) (at_point (basis x) (point x p.status)) d u) (sym q.0)
+      (subst (λ (y : Option Json). IsKnown (meaning x.deployment) (at_point (basis x) (point x p.status)) at y)
       (same_entry o u (sym q.1 ∙ e)) known_at)
 
   hides_next : (i : ℕ) (task : Task) (c : Cell) → slice_get x.tasks i ≡ Some task

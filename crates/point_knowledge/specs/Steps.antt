@@ -9,7 +9,7 @@ use Rattle.plan_cells.specs.Known.{outright}
 use Rattle.plan_cells.specs.Start.{start_world, at_point}
 use Rattle.plan_cells.specs.Tasks.{Task}
 use Rattle.plan_cells.specs.Reads.{is_given_by}
-use Rattle.deploy_histories.specs.Planned.{Planned, course}
+use Rattle.deploy_histories.specs.Planned.{Planned, basis}
 use Rattle.deploy_histories.specs.Events.{Progress, IsDone}
 use Rattle.deploy_histories.specs.Points.{point}
 use Rattle.point_rows.specs.declared.later.Entry.{Entry}
@@ -41,6 +41,6 @@ AddsValue j v l m = AddsEntry j (entry.Value v) l m
 
 -- the state is known at the point, and whoever puts it is done
 pub record IsStateThen (x : Planned) (p : Progress) (s : StateAt) : Type 0 where
-  pub is_known : at_point (course x) (point x p.status) (state s.key) ≡ outright (option_map json s.state)
+  pub is_known : at_point (basis x) (point x p.status) (state s.key) ≡ outright (option_map json s.state)
   pub is_stored : (v : ℕ) (task : Task) → slice_get x.tasks v ≡ Some task
       → is_given_by x.deployment (start_world x.known) task (state s.key) ≡ true → IsDone p v

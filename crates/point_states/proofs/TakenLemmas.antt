@@ -30,7 +30,7 @@ use Rattle.plan_table.specs.Whole.{scopes_of}
 use Rattle.plan_numbers.specs.Task as plan
 use Rattle.plan_numbers.specs.declared.numbers.Numbers.{Numbers}
 use Rattle.plan_numbers.specs.Numbers.{put_tags, AreApart}
-use Rattle.deploy_histories.specs.Planned.{Planned, IsPlanned, first_task, puts_at, putter, course}
+use Rattle.deploy_histories.specs.Planned.{Planned, IsPlanned, first_task, puts_at, putter, basis}
 use Rattle.deploy_histories.specs.Events.{Event, is_done, Progress, progress, at_opening, done_status, IsDone}
 use Rattle.deploy_histories.specs.Events.{state_in}
 use Rattle.deploy_histories.specs.Points.{point}
@@ -138,7 +138,7 @@ module _ (x : Planned) (k : ResourceId) where
       -- nothing puts there
       pub held_then : putter x k ≡ None → option_map json s.state ≡ held_state x.held k → IsStateThen x p s
       held_then none e = record {
-        is_known = subst (λ (l : ResourceId). at_point (course x) (point x p.status) (state l)
+        is_known = subst (λ (l : ResourceId). at_point (basis x) (point x p.status) (state l)
             ≡ outright (option_map json s.state)) (sym at)
             (by_key_of (list_any (same_id k) x.keys) refl);
         is_stored = λ v t i g. absurd (true≢false (sym (subst (λ (l : ResourceId). is_given_by x.deployment
@@ -147,7 +147,7 @@ module _ (x : Planned) (k : ResourceId) where
       }
         where
           by_key_of : (b : Bool) → list_any (same_id k) x.keys ≡ b
-              → at_point (course x) (point x p.status) (state k) ≡ outright (option_map json s.state)
+              → at_point (basis x) (point x p.status) (state k) ≡ outright (option_map json s.state)
           by_key_of true f = absurd (key_put f none)
           by_key_of false f =
               ap (λ (b : Bool). if b then where_stored ((point x p.status).stored k)
@@ -160,7 +160,7 @@ module _ (x : Planned) (k : ResourceId) where
       stored_then u j is_putter apart done e =
           let f = first_is (λ n t. puts_at x k t) x.tasks u is_putter in
           record {
-            is_known = subst (λ (l : ResourceId). at_point (course x) (point x p.status) (state l)
+            is_known = subst (λ (l : ResourceId). at_point (basis x) (point x p.status) (state l)
                 ≡ outright (option_map json s.state)) (sym at)
                 (ap (λ (b : Bool). if b then where_stored ((point x p.status).stored k)
                 else outright (held_state x.held k)) (put_key u f.found f.has f.passes)

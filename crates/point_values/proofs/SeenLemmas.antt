@@ -18,7 +18,7 @@ use Rattle.plan_cells.specs.Tasks.{Task}
 use Rattle.plan_cells.specs.Reads.{is_given_by}
 use Rattle.plan_cells.specs.Children.{Has}
 use Rattle.plan_cells.proofs.PointLemmas.{widens}
-use Rattle.history_laws.specs.Planned.{Planned, course}
+use Rattle.history_laws.specs.Planned.{Planned, basis}
 use Rattle.history_laws.specs.Events.{Event, is_waiting, Progress, done_status, IsDone, after_all}
 use Rattle.history_laws.specs.Points.{point}
 use Rattle.history_laws.specs.Values.{Part, TaskValue, task_values, reads_from, needs_by_values, body_of}
@@ -58,9 +58,9 @@ module _ (x : Planned) (p : Progress) (t : Table) (es : List Event) (seen : IsSe
   pub stays_seen : IsSeen x q t
   stays_seen = record {
     known_then = λ c o e.
-        known_later (meaning x.deployment) (at_point (course x) (point x p.status))
-        (at_point (course x) (point x q.status))
-        (widens (course x) (point x p.status) (point x q.status)
+        known_later (meaning x.deployment) (at_point (basis x) (point x p.status))
+        (at_point (basis x) (point x q.status))
+        (widens (basis x) (point x p.status) (point x q.status)
         (points_later p.status q.status (all_stay_done x p es legal) x)) c o (seen.known_then c o e);
     hides = λ v task c is given undone.
         seen.hides v task c is given (undone_before v (done_status (p.status v)) refl undone);

@@ -33,7 +33,7 @@ use Rattle.plan_table.specs.Lines.{cell_of, line_at}
 use Rattle.plan_table.specs.Whole.{whole_of, scopes_of}
 use Rattle.plan_table.specs.Found.{IsLineOf}
 use Rattle.plan_sight.specs.Ready.{IsReady}
-use Rattle.deploy_histories.specs.Planned.{Planned, is_leave_of, leaver, course}
+use Rattle.deploy_histories.specs.Planned.{Planned, is_leave_of, leaver, basis}
 use Rattle.deploy_histories.specs.Events.{Progress, done_status}
 use Rattle.deploy_histories.specs.Points.{is_done_at, point}
 use Rattle.deploy_histories.proofs.ReadinessLemmas.{first_is, none_is}
@@ -112,7 +112,7 @@ module _ (x : Planned) (p : Progress) (q : Position) (left : IsLeft x p q) where
       left.are_done u (f.has ∙ ap Some (leave_of q f.found f.passes))
 
   seen_left : (r : Position) (c : Cell) → r ≡ q
-      → start.output_access (course x) (point x p.status) r c ≡ by_others
+      → start.output_access (basis x) (point x p.status) r c ≡ by_others
   seen_left [] c e = refl
   seen_left (s ∷ r) c e =
       ap if_seen (or_right (is_there (x.known c)) (is_done_at p.status (leaver x (s ∷ r)))
@@ -194,7 +194,7 @@ module _ (t : Table) (f : ℕ) (ready : IsReady t) (x : List ℕ) (j : ℕ) (e :
     module _ (y : Planned) (p : Progress) (is : y.deployment ≡ whole_of t) (left : IsLeft y p q)
         (seen : IsSeen y p (known_now t l)) where
       abbrev Knows : Cell → Option Json → Type 0
-      Knows c o = IsKnown (meaning y.deployment) (at_point (course y) (point y p.status)) c o
+      Knows c o = IsKnown (meaning y.deployment) (at_point (basis y) (point y p.status)) c o
 
       told_condition : (b : Json) → plain_now t l (offered q x) ≡ value (Some b)
           → told_now t l (meaning (whole_of t) (offered q x)) ≡ value (Some b)

@@ -19,7 +19,7 @@ use Rattle.board_history.specs.Start.{start_world, at_point}
 use Rattle.board_history.specs.Tasks.{Task}
 use Rattle.board_history.specs.Reads.{is_given_by}
 use Rattle.board_history.specs.Children.{Has}
-use Rattle.board_history.specs.Planned.{Planned, course}
+use Rattle.board_history.specs.Planned.{Planned, basis}
 use Rattle.board_history.specs.Events.{Progress, IsDone}
 use Rattle.board_history.specs.Points.{IsKnownThen, IsTableOf, point}
 use Rattle.board_history.specs.Values.{TaskValue, task_values, reads_from}
@@ -51,7 +51,7 @@ any_value f a (c ∷ cs) h e = elim h [
 module _ (x : Planned) (p : Progress) (s t : Table) (i : IsKnownThen x p s) (j : IsKnownThen x p t) where
   are_one : AreOne s t
   are_one c o u e f =
-      one_known (meaning x.deployment) (at_point (course x) (point x p.status)) c o u (i c o e) (j c u f)
+      one_known (meaning x.deployment) (at_point (basis x) (point x p.status)) c o u (i c o e) (j c u f)
 
   both : Table
   both = joined s t

@@ -14,7 +14,7 @@ use Rattle.board_history.specs.Tasks.{Task, enter, leave, put, delete}
 use Rattle.board_history.specs.Children.{Has, output_names}
 use Rattle.board_history.specs.Start.{start_world, at_point}
 use Rattle.board_history.specs.Reads.{is_given_by, entry_cells}
-use Rattle.board_history.specs.Planned.{Planned, course}
+use Rattle.board_history.specs.Planned.{Planned, basis}
 use Rattle.board_history.specs.Events.{Progress, done_status, IsDone}
 use Rattle.board_history.specs.Points.{IsKnownThen, point}
 use Rattle.board_history.specs.Values.{TaskValue, task_values}
@@ -37,7 +37,7 @@ pub record WaitsFor (x : Planned) (t : Table) (task giver : Task) : Type 0 where
 abbrev pub IsNeverKnown : Planned → Progress → Cell → Type 0
 IsNeverKnown x p c =
     (q : Progress) (o : Option Json) → StaysDone p.status q.status
-    → IsKnown (meaning x.deployment) (at_point (course x) (point x q.status)) c o → ⊥
+    → IsKnown (meaning x.deployment) (at_point (basis x) (point x q.status)) c o → ⊥
 
 -- it is no value, and waits for nothing that will be known
 abbrev pub IsNone : {A : Type 0} → Planned → Progress → Told Cell A → Type 0
